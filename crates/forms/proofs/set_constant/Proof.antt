@@ -1,0 +1,27 @@
+use borrow.Author.Needs.{needs}
+use Rattle.forms.proofs.set_constant.Statement.{statement}
+use Rattle.forms.proofs.set_constant.Tie as tie
+use Rattle.forms.proofs.set_constant.Reads as reads
+use Rattle.forms.proofs.set_constant.Lts as lts
+use mathlib.Core.Path.{_≡_, refl, sym, ap, _∙_}
+use lib.IntN.{pos}
+use lib.ListN.{set, replicate}
+use mir.Syntax.{w64}
+use mir.ValLaws.{toZ-ofZ}
+use Rattle.forms.specs.Flat.{asForm}
+use Rattle.forms.proofs.Lists.{set-kept}
+use Rattle.forms.proofs.Laws.{zeros-kept}
+
+-- src/lib.rt:98:5
+element-set-from-z : tie.Need-element-set-from-z
+element-set-from-z c = search needs
+
+-- src/lib.rt:92:1
+returns : tie.Need-returns
+unfolding asForm
+returns c =
+    let a = c .before .args in
+    rw (toZ-ofZ w64 (a .z) (c .before .fits .z)) (refl, set-kept (replicate 13 (pos 0)) 0 (a .z) (c .before .pre) zeros-kept)
+
+pub set-constant-spec : {M : Type 1} → statement M
+set-constant-spec = tie.close (tie.spec element-set-from-z returns)

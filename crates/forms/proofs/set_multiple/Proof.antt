@@ -1,0 +1,32 @@
+use borrow.Author.Needs.{needs}
+use Rattle.forms.proofs.set_multiple.Statement.{statement}
+use Rattle.forms.proofs.set_multiple.Tie as tie
+use Rattle.forms.proofs.set_multiple.Reads as reads
+use Rattle.forms.proofs.set_multiple.Lts as lts
+use Rattle.forms.proofs.add_scaled.Reads as add-scaled-reads
+use Rattle.forms.proofs.set_constant.Reads as set-constant-reads
+use mathlib.Core.Path.{_≡_, refl, sym, ap, _∙_}
+use lib.IntN.{ℤ}
+use Rattle.language.specs.Form.{inRange, multipleOf, sumOf, _thenBuild_}
+use Rattle.forms.specs.Flat.{asForm}
+use Rattle.language.proofs.Integers.{range-back}
+use Rattle.forms.proofs.Laws.{multiple-alone}
+
+-- src/lib.rt:118:5
+set-constant-requires : tie.Need-set-constant-requires
+unfolding inRange
+set-constant-requires c κs =
+    refl
+
+-- src/lib.rt:119:5
+add-scaled-requires : tie.Need-add-scaled-requires
+add-scaled-requires c κs = search needs
+
+-- src/lib.rt:112:1
+returns : tie.Need-returns
+returns c =
+    let a = c .before .before .before .before .args in
+    (c .add-scaled .ensures .0 ∙ ap (λ (v : ℤ). multipleOf v (asForm (a .g .now)) thenBuild sumOf (asForm (c .before .before .set-constant .last .0))) (range-back (c .before .before .before .before .pre .0)) ∙ multiple-alone (a .k) (c .before .before .set-constant .last .0) (a .g .now) (c .before .before .before .before .pre .1) (c .before .before .set-constant .ensures .0), c .add-scaled .ensures .1)
+
+pub set-multiple-spec : {M : Type 1} → statement M
+set-multiple-spec = tie.close (tie.spec set-constant-requires add-scaled-requires returns)

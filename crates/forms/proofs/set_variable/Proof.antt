@@ -1,0 +1,36 @@
+use borrow.Author.Needs.{needs}
+use Rattle.forms.proofs.set_variable.Statement.{statement}
+use Rattle.forms.proofs.set_variable.Tie as tie
+use Rattle.forms.proofs.set_variable.Reads as reads
+use Rattle.forms.proofs.set_variable.Lts as lts
+use mathlib.Core.Path.{_≡_, refl, sym, ap, _∙_}
+use lib.IntN.{pos}
+use lib.ListN.{set, replicate}
+use Prim.Native.Nat.{_+_}
+use native.Mathlib.Numerals.{add-one}
+use Rattle.language.specs.Form.{inRange}
+use Rattle.forms.specs.Flat.{asForm}
+use Rattle.forms.proofs.Lists.{set-kept}
+use Rattle.forms.proofs.Laws.{zeros-kept}
+
+-- src/lib.rt:108:7
+add-f : tie.Need-add-f
+add-f c = search needs
+
+-- src/lib.rt:108:5
+mul-f : tie.Need-mul-f
+mul-f c = search needs
+
+-- src/lib.rt:108:5
+element-set-of-f : tie.Need-element-set-of-f
+element-set-of-f c = search needs
+
+-- src/lib.rt:102:1
+returns : tie.Need-returns
+unfolding asForm inRange
+returns c =
+    let a = c .before .args in
+    (rw add-one, set-kept (replicate 13 (pos 0)) (a .v + 1) (pos 1) refl zeros-kept)
+
+pub set-variable-spec : {M : Type 1} → statement M
+set-variable-spec = tie.close (tie.spec add-f mul-f element-set-of-f returns)

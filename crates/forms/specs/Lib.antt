@@ -1,0 +1,4 @@
+pub mod Flat
+pub mod Entry
+pub mod Rows
+pub mod Products

@@ -1,0 +1,265 @@
+// Index forms: thirteen numbers, the constant and then the coefficient of each of twelve variables.
+ghost use mathlib.Core.Path.{_≡_};
+ghost use mathlib.Core.Bool.{true, false};
+ghost use Prim.Native.Nat.{ℕ, _+_, _≤_, _<_};
+ghost use lib.ListN.{length, getD};
+ghost use lib.IntN.{pos};
+ghost use Rattle.language.specs.Form.{built, inRange, constantForm, variableForm, sumOf, differenceOf, multipleOf, _thenBuild_, allZero, closed, showingOf, showing, putIn};
+ghost use Rattle.language.specs.Tree.{Place, product};
+ghost use Rattle.language.specs.Check.{combined};
+ghost use Rattle.forms.specs.Flat.{Kept, asForm, builtOf, showingBy, shownOf};
+ghost use Rattle.forms.specs.Products.{madeOf, productOf, MadeKept};
+ghost use Rattle.forms.specs.Entry.{entryOf};
+ghost use Rattle.forms.specs.Rows.{Rows, loopAt, loopsOf, formsOf};
+
+// A number of a form, or that it is out of range.
+pub enum Num {
+    In(i64),
+    Out,
+}
+
+// What trying to show a form 0 or more gives.
+pub enum Verdict {
+    Shown,
+    NotShown,
+    OutOfRange,
+}
+
+// What multiplying two forms gives: the product, a number out of range, or that both have variables.
+pub enum Product {
+    Made,
+    Outside,
+    NotLinear,
+}
+
+// Whether z is within ±2,000,000,000.
+pub fn in_range(z: i64) -> bool
+    ensures { λ r. ⌜ r ≡ inRange z ⌝ }
+{
+    -2_000_000_000 <= z && z <= 2_000_000_000
+}
+
+// x + k * y, each in range.
+pub fn entry(x: i64, k: i64, y: i64) -> Num
+    requires { ⌜ inRange x ≡ true ⌝ }
+    requires { ⌜ inRange k ≡ true ⌝ }
+    requires { ⌜ inRange y ≡ true ⌝ }
+    ensures { λ r. ⌜ r ≡ entryOf x k y ⌝ }
+{
+    let p = k * y;
+    if in_range(p) {
+        let z = x + p;
+        if in_range(z) {
+            return Num::In(z);
+        }
+        return Num::Out;
+    }
+    Num::Out
+}
+
+// f becomes f plus k times g; false where a number is out of range, and what f holds then is of no use.
+pub fn add_scaled(f: &mut [i64; 13], k: i64, g: &[i64; 13]) -> bool
+    requires { ⌜ Kept (now f) ⌝ }
+    requires { ⌜ inRange k ≡ true ⌝ }
+    requires { ⌜ Kept (now g) ⌝ }
+    ensures { λ r. ⌜ builtOf r (now (f .exit)) ≡ (multipleOf k (asForm (now (g .entry))) thenBuild sumOf (asForm (now (f .entry)))) ⌝ }
+    ensures { λ r. ⌜ (r ≡ true → Kept (now (f .exit))) ⌝ }
+{
+    for i in 0..13 {
+        let x = f[i];
+        let y = g[i];
+        match entry(x, k, y) {
+            Num::In(z) => {
+                f[i] = z;
+            }
+            Num::Out => {
+                return false;
+            }
+        }
+    }
+    true
+}
+
+pub fn add(f: &mut [i64; 13], g: &[i64; 13]) -> bool
+    requires { ⌜ Kept (now f) ⌝ }
+    requires { ⌜ Kept (now g) ⌝ }
+    ensures { λ r. ⌜ builtOf r (now (f .exit)) ≡ sumOf (asForm (now (f .entry))) (asForm (now (g .entry))) ⌝ }
+    ensures { λ r. ⌜ (r ≡ true → Kept (now (f .exit))) ⌝ }
+{
+    add_scaled(f, 1, g)
+}
+
+pub fn subtract(f: &mut [i64; 13], g: &[i64; 13]) -> bool
+    requires { ⌜ Kept (now f) ⌝ }
+    requires { ⌜ Kept (now g) ⌝ }
+    ensures { λ r. ⌜ builtOf r (now (f .exit)) ≡ differenceOf (asForm (now (f .entry))) (asForm (now (g .entry))) ⌝ }
+    ensures { λ r. ⌜ (r ≡ true → Kept (now (f .exit))) ⌝ }
+{
+    add_scaled(f, -1, g)
+}
+
+// f becomes the form of a number.
+pub fn set_constant(f: &mut [i64; 13], z: i64)
+    requires { ⌜ inRange z ≡ true ⌝ }
+    ensures { λ _. ⌜ asForm (now (f .exit)) ≡ constantForm z ⌝ }
+    ensures { λ _. ⌜ Kept (now (f .exit)) ⌝ }
+{
+    *f = [0i64; 13];
+    f[0] = z;
+}
+
+// f becomes the form of a variable.
+pub fn set_variable(f: &mut [i64; 13], v: usize)
+    requires { ⌜ v < 12 ⌝ }
+    ensures { λ _. ⌜ asForm (now (f .exit)) ≡ variableForm v ⌝ }
+    ensures { λ _. ⌜ Kept (now (f .exit)) ⌝ }
+{
+    *f = [0i64; 13];
+    f[v + 1] = 1;
+}
+
+// f becomes k times g.
+pub fn set_multiple(f: &mut [i64; 13], k: i64, g: &[i64; 13]) -> bool
+    requires { ⌜ inRange k ≡ true ⌝ }
+    requires { ⌜ Kept (now g) ⌝ }
+    ensures { λ r. ⌜ builtOf r (now (f .exit)) ≡ multipleOf k (asForm (now (g .entry))) ⌝ }
+    ensures { λ r. ⌜ (r ≡ true → Kept (now (f .exit))) ⌝ }
+{
+    set_constant(f, 0);
+    add_scaled(f, k, g)
+}
+
+// Whether every coefficient is 0.
+pub fn is_constant(f: &[i64; 13]) -> bool
+    requires { ⌜ Kept (now f) ⌝ }
+    ensures { λ r. ⌜ r ≡ allZero (asForm (now (f .entry)) .coefficients) ⌝ }
+{
+    let mut i: usize = 1;
+    while i < 13 {
+        let x = f[i];
+        if x != 0 {
+            return false;
+        }
+        i += 1;
+    }
+    true
+}
+
+// The answer for a product that was built or not.
+fn made(ok: bool) -> Product
+    ensures { λ r. ⌜ r ≡ madeOf ok ⌝ }
+{
+    if ok {
+        return Product::Made;
+    }
+    Product::Outside
+}
+
+// f becomes f times g, of which one must be constant.
+pub fn multiply(f: &mut [i64; 13], g: &[i64; 13]) -> Product
+    requires { ⌜ Kept (now f) ⌝ }
+    requires { ⌜ Kept (now g) ⌝ }
+    ensures { λ r. ⌜ ((p : Place) → productOf p r (now (f .exit)) ≡ combined p product (asForm (now (f .entry))) (asForm (now (g .entry)))) ⌝ }
+    ensures { λ r. ⌜ MadeKept r (now (f .exit)) ⌝ }
+{
+    if is_constant(f) {
+        let k = f[0];
+        return made(set_multiple(f, k, g));
+    }
+    if is_constant(g) {
+        let k = g[0];
+        let h = *f;
+        return made(set_multiple(f, k, &h));
+    }
+    Product::NotLinear
+}
+
+// Whether every number is 0 or more.
+pub fn none_negative(f: &[i64; 13]) -> bool
+    requires { ⌜ Kept (now f) ⌝ }
+    ensures { λ r. ⌜ showingBy r ≡ showingOf (built (asForm (now (f .entry)))) ⌝ }
+{
+    let mut i: usize = 0;
+    while i < 13 {
+        let x = f[i];
+        if x < 0 {
+            return false;
+        }
+        i += 1;
+    }
+    true
+}
+
+// f with its term in the variable v replaced by a bound of the loop n. The loops' low and high forms lie in two slices.
+pub fn substitute(
+    f: &mut [i64; 13],
+    v: usize,
+    lows: &[[i64; 13]],
+    highs: &[[i64; 13]],
+    n: usize,
+) -> bool
+    requires { ⌜ Kept (now f) ⌝ }
+    requires { ⌜ v < 12 ⌝ }
+    requires { ⌜ Rows (now lows) (n + 1) ⌝ }
+    requires { ⌜ Rows (now highs) (n + 1) ⌝ }
+    ensures { λ r. ⌜ builtOf r (now (f .exit)) ≡ closed v (loopAt n (now (lows .entry)) (now (highs .entry))) (asForm (now (f .entry))) (getD (asForm (now (f .entry)) .coefficients) v (pos 0)) ⌝ }
+    ensures { λ r. ⌜ (r ≡ true → Kept (now (f .exit))) ⌝ }
+{
+    let at = v + 1;
+    let k = f[at];
+    if k == 0 {
+        return true;
+    }
+    f[at] = 0;
+    if k < 0 {
+        return add_scaled(f, k, &highs[n]);
+    }
+    add_scaled(f, k, &lows[n])
+}
+
+// Shows f to be 0 or more, under so many family variables and open loops. What f holds afterwards is of no use.
+pub fn show(
+    f: &mut [i64; 13],
+    variables: usize,
+    loops: usize,
+    lows: &[[i64; 13]],
+    highs: &[[i64; 13]],
+) -> Verdict
+    requires { ⌜ Kept (now f) ⌝ }
+    requires { ⌜ variables + loops ≤ 12 ⌝ }
+    requires { ⌜ Rows (now lows) loops ⌝ }
+    requires { ⌜ Rows (now highs) loops ⌝ }
+    ensures { λ r. ⌜ shownOf r ≡ showing variables (loopsOf loops (now (lows .entry)) (now (highs .entry))) (built (asForm (now (f .entry)))) ⌝ }
+{
+    let mut n = loops;
+    while 0 < n {
+        n -= 1;
+        if substitute(f, variables + n, lows, highs, n) {} else {
+            return Verdict::OutOfRange;
+        }
+    }
+    if none_negative(f) {
+        Verdict::Shown
+    } else {
+        Verdict::NotShown
+    }
+}
+
+// f becomes a parameter's size with a call's forms put in for the family's m variables, all together.
+pub fn put_in(f: &mut [i64; 13], size: &[i64; 13], forms: &[[i64; 13]], m: usize) -> bool
+    requires { ⌜ Kept (now size) ⌝ }
+    requires { ⌜ m ≤ 12 ⌝ }
+    requires { ⌜ Rows (now forms) m ⌝ }
+    ensures { λ r. ⌜ builtOf r (now (f .exit)) ≡ putIn (asForm (now (size .entry))) (formsOf m (now (forms .entry))) ⌝ }
+    ensures { λ r. ⌜ (r ≡ true → Kept (now (f .exit))) ⌝ }
+{
+    let z = size[0];
+    set_constant(f, z);
+    for j in 0..m {
+        let k = size[j + 1];
+        if add_scaled(f, k, &forms[j]) {} else {
+            return false;
+        }
+    }
+    true
+}
