@@ -1,3 +1,4 @@
 pub mod Reading
 pub mod Parts
 pub mod Counting
+pub mod Listing

@@ -5,6 +5,7 @@ ghost use lib.ListN.{length, getD};
 ghost use Rattle.language.specs.Read.{twoBytes, fields};
 ghost use Rattle.fields.specs.Header.{fieldsAt, headerOf};
 ghost use Rattle.fields.specs.Count.{counted, span};
+ghost use Rattle.fields.specs.Table.{Listed};
 
 // What stands at a position of a list of fields: a field with its tag and the position past it, nothing, or a header that is
 // cut off or whose content goes past the list's end.
@@ -85,4 +86,29 @@ pub fn skip(p: &[u8], k: usize) -> usize
         i += 1;
     }
     at
+}
+
+// Puts the positions of a program's family fields into a table, in order, as far as it reaches. The answer is how many there are.
+pub fn families(program: &[u8], table: &mut [usize]) -> usize
+    ensures { λ r. ⌜ Listed (now (program .entry)) (now (table .exit)) r ⌝ }
+    ensures { λ r. ⌜ length (now (table .exit)) ≡ length (now (table .entry)) ⌝ }
+{
+    let to = program.len();
+    let mut at: usize = 0;
+    let mut n: usize = 0;
+    loop {
+        let Header::Whole(tag, next) = header_at(program, at, to) else {
+            return n;
+        };
+        if tag != 1 {
+            at = next;
+            continue;
+        }
+        if table.len() <= n {
+            return n;
+        }
+        table[n] = at;
+        n += 1;
+        at = next;
+    }
 }
