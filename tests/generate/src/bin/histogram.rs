@@ -1,0 +1,59 @@
+//! Prints how often each answer occurs among generated cases.
+//!
+//! Use: `histogram [FIRST_SEED [COUNT]]`.
+
+use generate::histogram::Histogram;
+use std::process::ExitCode;
+
+/// Reads one argument as a number, or takes what stands in for it.
+fn number(argument: Option<&String>, otherwise: u64) -> Result<u64, String> {
+    match argument {
+        None => Ok(otherwise),
+        Some(text) => text
+            .parse()
+            .map_err(|_| format!("not a number of 64 bits: {text:?}")),
+    }
+}
+
+/// Prints the table of a range of seeds and says whether it is complete.
+fn print(first: u64, count: u64) -> Result<(), String> {
+    let last = first
+        .checked_add(count)
+        .ok_or("the last seed is past 64 bits")?;
+    let histogram = Histogram::of(first..last);
+    println!("number    check instance      run");
+    for (number, [check, instance, run]) in &histogram.counts {
+        println!("{number:6} {check:8} {instance:8} {run:8}");
+    }
+    println!(
+        "{} cases, {} accepted, {} with records, {} records, {} in the longest list",
+        histogram.cases, histogram.accepted, histogram.listed, histogram.records, histogram.longest,
+    );
+    match histogram.missing() {
+        missing if missing.is_empty() => Ok(()),
+        missing => Err(format!("these numbers did not occur: {missing:?}")),
+    }
+}
+
+/// Reads the arguments and prints.
+fn tell() -> Result<(), String> {
+    let arguments: Vec<String> = std::env::args_os()
+        .skip(1)
+        .map(|argument| argument.to_string_lossy().into_owned())
+        .collect();
+    if arguments.len() > 2 {
+        return Err("use: histogram [FIRST_SEED [COUNT]]".into());
+    }
+    let first = number(arguments.first(), 0)?;
+    print(first, number(arguments.get(1), 20_000)?)
+}
+
+fn main() -> ExitCode {
+    match tell() {
+        Ok(()) => ExitCode::SUCCESS,
+        Err(message) => {
+            eprintln!("histogram: {message}");
+            ExitCode::FAILURE
+        }
+    }
+}

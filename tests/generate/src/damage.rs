@@ -1,0 +1,133 @@
+//! Damage: small changes to a program's tree or to its bytes.
+
+use crate::build::{difference, headers, literal, product, program, reverse, sum, Field};
+use crate::random::Random;
+
+/// All tags that mean something.
+const TAGS: [u8; 24] = [
+    1, 2, 3, 4, 5, 6, 16, 17, 32, 33, 34, 35, 36, 37, 38, 48, 49, 64, 65, 66, 67, 68, 0, 39,
+];
+
+/// Changes the tree in one to three places, so that all lengths stay right.
+pub fn tree(fields: &mut Vec<Field>, random: &mut Random) {
+    for _ in 0..random.between(1, 3) {
+        let nodes: usize = fields.iter().map(nodes).sum();
+        let chosen = random.below(nodes);
+        if let Some(field) = node(fields, chosen) {
+            change(field, random);
+        }
+    }
+    if random.percent(10) {
+        let extra = fields[random.below(fields.len())].clone();
+        fields.insert(random.below(fields.len()), extra);
+    }
+}
+
+/// Changes the bytes in one or two places, so that lengths may be wrong.
+pub fn bytes(fields: &[Field], random: &mut Random) -> Vec<u8> {
+    let mut bytes = program(fields);
+    if random.percent(30) {
+        let header = random.pick(&headers(fields));
+        let by = random.pick(&[1, 255, 2, 254]);
+        bytes[header + 1] = bytes[header + 1].wrapping_add(by);
+    }
+    for _ in 0..random.between(0, 2) {
+        change_byte(&mut bytes, random);
+    }
+    bytes
+}
+
+/// Changes, removes, adds or cuts off bytes.
+fn change_byte(bytes: &mut Vec<u8>, random: &mut Random) {
+    if bytes.is_empty() {
+        return;
+    }
+    let place = random.below(bytes.len());
+    match random.below(6) {
+        0 => bytes[place] = random.byte(),
+        1 => bytes[place] = bytes[place].wrapping_add(random.pick(&[1, 255])),
+        2 => bytes[place] ^= 1 << random.below(8),
+        3 => {
+            bytes.remove(place);
+        }
+        4 => bytes.insert(place, random.byte()),
+        _ => bytes.truncate(place),
+    }
+}
+
+/// The number of fields in a field, itself included.
+fn nodes(field: &Field) -> usize {
+    1 + field.parts.iter().map(nodes).sum::<usize>()
+}
+
+/// The field with a number in reading order.
+fn node(fields: &mut [Field], mut number: usize) -> Option<&mut Field> {
+    for field in fields {
+        let inside = nodes(field);
+        if number == 0 {
+            return Some(field);
+        }
+        if number < inside {
+            return node(&mut field.parts, number - 1);
+        }
+        number -= inside;
+    }
+    None
+}
+
+/// Changes one field.
+fn change(field: &mut Field, random: &mut Random) {
+    let parts = field.parts.len();
+    match random.below(12) {
+        0 => field.tag = random.pick(&TAGS),
+        1 => field.tag = field.tag.wrapping_add(random.pick(&[1, 255])),
+        2..=4 => change_head(&mut field.head, random),
+        5 if parts > 0 => {
+            field.parts.remove(random.below(parts));
+        }
+        6 if parts > 0 => {
+            let twice = field.parts[random.below(parts)].clone();
+            field.parts.insert(random.below(parts + 1), twice);
+        }
+        7 if parts > 1 => field.parts.swap(random.below(parts), random.below(parts)),
+        8 => field.tail.push(random.byte()),
+        9 => field.tail = vec![random.byte(); 1 + random.below(4)],
+        10 => wrap(field, random),
+        _ => change_head(&mut field.head, random),
+    }
+}
+
+/// Changes the numbers at the start of a field.
+fn change_head(head: &mut Vec<u8>, random: &mut Random) {
+    let Some(last) = head.len().checked_sub(1) else {
+        return;
+    };
+    let place = random.below(last + 1);
+    match random.below(8) {
+        0 => head[place] = random.byte(),
+        1 => head[place] = random.pick(&[0, 255, 16, 17]),
+        2 => {
+            head.remove(place);
+        }
+        3 => head.insert(place, random.byte()),
+        _ => head[place] = head[place].wrapping_add(random.pick(&[1, 255])),
+    }
+}
+
+/// Wraps an index or a statement, a few times or too often.
+fn wrap(field: &mut Field, random: &mut Random) {
+    let times = random.pick(&[1, 2, 14, 15, 16, 17]);
+    for _ in 0..times {
+        let inner = field.clone();
+        *field = match inner.tag {
+            32..=38 => reverse(vec![inner]),
+            64..=68 => match random.below(4) {
+                0 => sum(inner, literal(0)),
+                1 => sum(literal(0), inner),
+                2 => difference(inner, literal(0)),
+                _ => product(literal(random.pick(&[1, 1, 1, 2, 60_000])), inner),
+            },
+            _ => return,
+        };
+    }
+}

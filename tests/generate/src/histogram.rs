@@ -1,0 +1,69 @@
+//! Counts of the answers that the reference gives to generated cases.
+
+use crate::case::{case, Case};
+use reference::Outcome;
+use std::collections::BTreeMap;
+use std::ops::Range;
+
+/// All numbers that an input can be turned down with.
+pub fn all_numbers() -> impl Iterator<Item = u32> {
+    (1..=13).chain(20..=27)
+}
+
+/// How often check, instance and run gave each number, and what they wrote.
+#[derive(Default)]
+pub struct Histogram {
+    /// By number: how often check, instance and run gave it.
+    pub counts: BTreeMap<u32, [u64; 3]>,
+    pub cases: u64,
+    pub accepted: u64,
+    /// Accepted programs for which instance or run wrote a record.
+    pub listed: u64,
+    pub records: u64,
+    pub longest: u64,
+}
+
+impl Histogram {
+    /// The histogram of a range of seeds.
+    pub fn of(seeds: Range<u64>) -> Histogram {
+        let mut histogram = Histogram::default();
+        for seed in seeds {
+            histogram.add(&case(seed));
+        }
+        histogram
+    }
+
+    /// Adds one case.
+    fn add(&mut self, case: &Case) {
+        let mut output = vec![0; case.output];
+        let checked = reference::check(&case.program);
+        let unrolled = reference::instance(
+            &case.program,
+            case.family,
+            &case.sizes,
+            case.limit,
+            &mut output,
+        );
+        let ran = reference::run(&case.program, case.limit, &mut output);
+        self.cases += 1;
+        self.accepted += u64::from(checked.number == 0);
+        self.listed += u64::from(unrolled.records + ran.records > 0);
+        self.records += unrolled.records + ran.records;
+        self.longest = self.longest.max(unrolled.records).max(ran.records);
+        self.count([checked, unrolled, ran]);
+    }
+
+    /// Counts the numbers of the three answers.
+    fn count(&mut self, answers: [Outcome; 3]) {
+        for (call, answer) in answers.iter().enumerate() {
+            self.counts.entry(answer.number).or_default()[call] += 1;
+        }
+    }
+
+    /// The numbers that did not occur.
+    pub fn missing(&self) -> Vec<u32> {
+        all_numbers()
+            .filter(|number| !self.counts.contains_key(number))
+            .collect()
+    }
+}

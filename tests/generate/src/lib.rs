@@ -1,0 +1,13 @@
+//! Programs made from a seed: well-typed ones, damaged ones and limit cases.
+
+pub mod build;
+pub mod case;
+pub mod damage;
+pub mod histogram;
+pub mod library;
+pub mod linear;
+pub mod random;
+pub mod targeted;
+pub mod typed;
+
+pub use case::{case, Case};

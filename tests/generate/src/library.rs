@@ -1,0 +1,165 @@
+//! Named programs: the paper's adder, and programs at the limits.
+
+use crate::build::*;
+
+/// The Toffoli gate as fifteen gates on three wires.
+pub fn toffoli() -> Field {
+    let (a, b, c) = (|| whole(0), || whole(1), || whole(2));
+    let body = vec![
+        h(c()),
+        cx(b(), c()),
+        tdg(c()),
+        cx(a(), c()),
+        t(c()),
+        cx(b(), c()),
+        tdg(c()),
+        cx(a(), c()),
+        t(b()),
+        t(c()),
+        h(c()),
+        cx(a(), b()),
+        t(a()),
+        tdg(b()),
+        cx(a(), b()),
+    ];
+    family(0, vec![qbit(), qbit(), qbit()], body)
+}
+
+/// The majority gate of the paper's figure 8; Toffoli is family 0.
+pub fn majority() -> Field {
+    let [a, b, c, result] = [0, 1, 2, 3].map(whole);
+    let body = vec![
+        call(0, vec![], vec![b.clone(), c.clone(), result.clone()]),
+        cx(b.clone(), c.clone()),
+        call(0, vec![], vec![a, c.clone(), result]),
+        cx(b, c),
+    ];
+    family(0, vec![qbit(); 4], body)
+}
+
+/// The paper's adder on n+1 bits, as family 2 behind Toffoli and majority.
+pub fn adder() -> Vec<Field> {
+    let i = || variable(1);
+    let before = || element(3, minus(1, 1));
+    let round = vec![
+        cx(element(0, i()), element(2, i())),
+        cx(element(1, i()), element(2, i())),
+        cx(before(), element(2, i())),
+        call(
+            1,
+            vec![],
+            vec![element(0, i()), element(1, i()), before(), element(3, i())],
+        ),
+    ];
+    let body = vec![
+        cx(at(0, 0), at(2, 0)),
+        cx(at(1, 0), at(2, 0)),
+        call(0, vec![], vec![at(0, 0), at(1, 0), at(3, 0)]),
+        repeat(literal(1), variable(0), round),
+    ];
+    let types = vec![qbits(plus(0, 1)); 4];
+    vec![toffoli(), majority(), family(1, types, body)]
+}
+
+/// The adder and, as family 3, the same adder reversed.
+pub fn reversed_adder() -> Vec<Field> {
+    let mut fields = adder();
+    let same = call(2, vec![variable(0)], [0, 1, 2, 3].map(whole).to_vec());
+    let types = vec![qbits(plus(0, 1)); 4];
+    fields.push(family(1, types, vec![reverse(vec![same])]));
+    fields
+}
+
+/// Two loops over a register, one inside the other, with a gate inside.
+pub fn nested_loops() -> Vec<Field> {
+    let inner = repeat(
+        literal(0),
+        minus(0, 1),
+        vec![h(element(0, variable(2))), t(element(0, variable(1)))],
+    );
+    let outer = repeat(literal(0), minus(0, 1), vec![inner]);
+    vec![family(1, vec![qbits(variable(0))], vec![outer])]
+}
+
+/// A statement wrapped in so many reversals.
+pub fn wrapped(levels: usize, statement: Field) -> Field {
+    (0..levels).fold(statement, |inner, _| reverse(vec![inner]))
+}
+
+/// So many families, each calling the one before from so many levels down.
+pub fn deep_calls(families: usize, levels: usize) -> Vec<Field> {
+    let mut fields = Vec::new();
+    for number in 0..families {
+        let innermost = match number {
+            0 => t(whole(0)),
+            _ => call((number - 1) as u8, vec![], vec![whole(0)]),
+        };
+        let body = vec![wrapped(levels - 1, innermost)];
+        fields.push(family(0, vec![qbit()], body));
+    }
+    fields
+}
+
+/// Deep calls that pass a size and a register down through loops of one round.
+pub fn deep_loops(families: usize, loops: usize) -> Vec<Field> {
+    let mut fields = Vec::new();
+    for number in 0..families {
+        let mut inner = match number {
+            0 => t(at(0, 0)),
+            _ => call((number - 1) as u8, vec![variable(0)], vec![whole(0)]),
+        };
+        for _ in 0..loops {
+            inner = repeat(literal(1), literal(1), vec![inner]);
+        }
+        fields.push(family(1, vec![qbits(plus(0, 1))], vec![inner]));
+    }
+    fields
+}
+
+/// A family with so many statements: gates, with empty reversals between.
+pub fn long_list(statements: usize) -> Field {
+    family(0, vec![qbit()], statement_list(statements))
+}
+
+/// The same statements, reversed.
+pub fn reversed_list(statements: usize) -> Field {
+    let body = vec![reverse(statement_list(statements))];
+    family(0, vec![qbit()], body)
+}
+
+/// Statements of three kinds in turn, short enough for 10,000 of them.
+fn statement_list(statements: usize) -> Vec<Field> {
+    (0..statements)
+        .map(|number| match number % 4 {
+            0 => t(whole(0)),
+            1 => reverse(vec![]),
+            2 => h(whole(0)),
+            _ => reverse(vec![]),
+        })
+        .collect()
+}
+
+/// A large library: as many adders as fit into one program.
+pub fn large_library() -> Vec<Field> {
+    let mut fields = vec![toffoli(), majority()];
+    let adder = adder().swap_remove(2);
+    let mut bytes: usize = fields.iter().map(Field::size).sum();
+    while bytes + adder.size() <= 65_535 && fields.len() < 255 {
+        bytes += adder.size();
+        fields.push(adder.clone());
+    }
+    fields
+}
+
+/// Two loops that take a hundred million steps and write nothing.
+pub fn empty_rounds() -> Vec<Field> {
+    let inner = repeat(literal(1), literal(1998), vec![]);
+    vec![repeat(literal(1), literal(50_000), vec![inner])]
+}
+
+/// The program L of the examples: h on each cell of x:Qbit[n], counted from 1.
+pub fn each_cell() -> Vec<Field> {
+    let round = vec![h(element(0, minus(1, 1)))];
+    let body = vec![repeat(literal(1), variable(0), round)];
+    vec![family(1, vec![qbits(variable(0))], body)]
+}

@@ -1,0 +1,459 @@
+//! Well-typed programs: families, loops over sizes, calls and commands.
+//!
+//! The writer knows the size of each operand and the bounds of each open loop
+//! and tries indexes until one is likely to be shown inside. A few are left
+//! unfit on purpose, so that near misses are among the programs too.
+
+use crate::build::*;
+use crate::linear::{Bounds, Linear, VARIABLES};
+use crate::random::Random;
+
+/// How often an index is tried before the writer gives up.
+const TRIES: usize = 12;
+/// How deep statements are nested by chance.
+const DEPTH: usize = 5;
+
+/// What an operand number names.
+#[derive(Clone)]
+enum Kind {
+    Wire,
+    Wires(Linear),
+    Bits(u16),
+}
+
+/// A wire: an operand's number, and the index of an element.
+type Chosen = (usize, Option<Linear>);
+
+/// Whether two wires differ by number or by a fixed distance.
+fn apart(first: &Chosen, second: &Chosen) -> bool {
+    match (first.1, second.1) {
+        (Some(one), Some(two)) if first.0 == second.0 => {
+            let distance = one.plus(-1, &two);
+            distance.constant != 0 && distance.coefficients == [0; VARIABLES]
+        }
+        _ => first.0 != second.0,
+    }
+}
+
+/// What the statements being written can name.
+struct Scope {
+    sizes: usize,
+    loops: Vec<Bounds>,
+    kinds: Vec<Kind>,
+}
+
+/// A declared family: how many sizes it takes, and its parameters.
+#[derive(Clone)]
+pub struct Signature {
+    pub sizes: usize,
+    parameters: Vec<Option<Linear>>,
+}
+
+/// A program as a tree, with the families that it declares.
+pub struct Written {
+    pub fields: Vec<Field>,
+    pub families: Vec<Signature>,
+}
+
+/// Writes one program.
+pub fn program(random: &mut Random) -> Written {
+    let mut writer = Writer {
+        random,
+        families: Vec::new(),
+    };
+    let fields = writer.top();
+    Written {
+        fields,
+        families: writer.families,
+    }
+}
+
+/// A program being written.
+struct Writer<'r> {
+    random: &'r mut Random,
+    families: Vec<Signature>,
+}
+
+impl Scope {
+    /// How many index variables are in scope.
+    fn variables(&self) -> usize {
+        self.sizes + self.loops.len()
+    }
+
+    /// Whether an expression is likely to be shown 0 or more.
+    fn natural(&self, linear: &Linear) -> bool {
+        linear.natural(self.sizes, &self.loops)
+    }
+
+    /// Whether an index is likely to be shown inside a register.
+    fn inside(&self, index: &Linear, size: &Linear) -> bool {
+        self.natural(index) && self.natural(&size.shift(-1).plus(-1, index))
+    }
+
+    /// The numbers of the operands that are quantum registers.
+    fn registers(&self) -> Vec<usize> {
+        let register = |kind: &Kind| matches!(kind, Kind::Wires(_));
+        (0..self.kinds.len())
+            .filter(|&number| register(&self.kinds[number]))
+            .collect()
+    }
+}
+
+/// Families and commands.
+impl Writer<'_> {
+    /// Writes the fields at the top.
+    fn top(&mut self) -> Vec<Field> {
+        let mut fields = Vec::new();
+        let mut scope = Scope {
+            sizes: 0,
+            loops: Vec::new(),
+            kinds: Vec::new(),
+        };
+        for _ in 0..self.random.between(1, 4) {
+            fields.push(self.family());
+        }
+        for _ in 0..self.random.between(1, 3) {
+            fields.push(self.register(&mut scope));
+        }
+        for _ in 0..self.random.between(1, 6) {
+            fields.push(match self.random.below(12) {
+                0 => self.family(),
+                1 => self.register(&mut scope),
+                2..=4 => self.command(&mut scope),
+                _ => self.statement(&mut scope, 1),
+            });
+        }
+        fields
+    }
+
+    /// Declares a register of a few qubits or bits.
+    fn register(&mut self, scope: &mut Scope) -> Field {
+        let size = self.random.below(7) as u16;
+        if self.random.percent(35) {
+            scope.kinds.push(Kind::Bits(size));
+            creg(size)
+        } else {
+            scope.kinds.push(Kind::Wires(Linear::number(size.into())));
+            qreg(size)
+        }
+    }
+
+    /// Writes a measure, a reset or an if, where there are wires and bits.
+    fn command(&mut self, scope: &mut Scope) -> Field {
+        let (wire, bit) = (self.wire(scope), self.bit(scope));
+        match (self.random.below(3), wire, bit) {
+            (0, Some(wire), Some(bit)) => measure(wire, bit),
+            (1, Some(wire), _) => reset(wire),
+            (_, _, Some(bit)) => {
+                let value = self.random.below(2) as u8;
+                when(value, bit, self.statements(scope, 2))
+            }
+            _ => self.statement(scope, 1),
+        }
+    }
+
+    /// Writes a family over a few sizes.
+    fn family(&mut self) -> Field {
+        let sizes = self.random.pick(&[0, 1, 1, 1, 1, 2, 2, 3, 4]);
+        let count = self.random.pick(&[1, 1, 2, 2, 3, 4, 8]);
+        let parameters: Vec<Option<Linear>> = (0..count)
+            .map(|_| self.random.percent(65).then(|| self.size(sizes)))
+            .collect();
+        let types = parameters.iter().map(|size| match size {
+            None => qbit(),
+            Some(linear) => qbits(linear.render(self.random)),
+        });
+        let types = types.collect();
+        let kinds = parameters.iter().map(|size| match size {
+            None => Kind::Wire,
+            Some(linear) => Kind::Wires(*linear),
+        });
+        let mut scope = Scope {
+            sizes,
+            loops: Vec::new(),
+            kinds: kinds.collect(),
+        };
+        let body = self.statements(&mut scope, 1);
+        self.families.push(Signature { sizes, parameters });
+        family(sizes as u8, types, body)
+    }
+
+    /// The size of a parameter, over the family's variables.
+    fn size(&mut self, sizes: usize) -> Linear {
+        let number = self.random.between(0, 4);
+        if sizes == 0 || self.random.percent(15) {
+            return Linear::number(number + 1);
+        }
+        let first = Linear::variable(self.random.below(sizes));
+        let second = Linear::variable(self.random.below(sizes));
+        match self.random.below(7) {
+            0..=2 => first,
+            3 | 4 => first.shift(number),
+            5 => first.plus(1, &second),
+            _ => first.plus(number, &second).shift(1),
+        }
+    }
+}
+
+/// Statements.
+impl Writer<'_> {
+    /// Writes a short list of statements.
+    fn statements(&mut self, scope: &mut Scope, depth: usize) -> Vec<Field> {
+        let count = match depth {
+            1 => self.random.between(1, 5),
+            2 => self.random.between(1, 3),
+            _ => self.random.between(0, 2),
+        };
+        (0..count).map(|_| self.statement(scope, depth)).collect()
+    }
+
+    /// Writes a statement; one that holds others gets rarer with depth.
+    fn statement(&mut self, scope: &mut Scope, depth: usize) -> Field {
+        if depth > DEPTH || self.random.percent(35 + 8 * depth) {
+            let written = self.simple(scope);
+            return written.unwrap_or_else(|| reverse(vec![]));
+        }
+        if self.random.percent(65) && scope.loops.len() < 8 {
+            self.counted(scope, depth)
+        } else {
+            reverse(self.statements(scope, depth + 1))
+        }
+    }
+
+    /// Writes a gate or a call, where the scope has what it takes.
+    fn simple(&mut self, scope: &Scope) -> Option<Field> {
+        if self.random.percent(40) && !self.families.is_empty() {
+            if let Some(written) = self.call(scope) {
+                return Some(written);
+            }
+        }
+        if self.random.percent(35) {
+            if let Some(written) = self.pair(scope) {
+                return Some(written);
+            }
+        }
+        let gate = self.random.pick(&[h, h, t, tdg]);
+        self.wire(scope).map(gate)
+    }
+
+    /// Writes a loop and its body.
+    fn counted(&mut self, scope: &mut Scope, depth: usize) -> Field {
+        let bounds = self.bounds(scope);
+        let low = bounds.low.render(self.random);
+        let high = bounds.high.render(self.random);
+        scope.loops.push(bounds);
+        let mut body = self.statements(scope, depth + 1);
+        if body.is_empty() {
+            body.extend(self.simple(scope));
+        }
+        scope.loops.pop();
+        repeat(low, high, body)
+    }
+
+    /// The ends of a loop: mostly over the cells of a register.
+    fn bounds(&mut self, scope: &Scope) -> Bounds {
+        let size = self.some_size(scope);
+        let zero = Linear::number(0);
+        let (low, high) = match self.random.below(12) {
+            0..=3 => (zero, size.shift(-1)),
+            4 | 5 => (zero.shift(1), size),
+            6 => (zero, size.shift(-2)),
+            7 => (zero.shift(1), size.shift(-1)),
+            8 => (self.some_variable(scope).shift(1), size.shift(-1)),
+            9 => (zero, self.some_variable(scope)),
+            10 => (zero.shift(-2), zero.shift(self.random.between(-3, 3))),
+            _ => (zero.plus(-1, &size).shift(1), zero),
+        };
+        Bounds { low, high }
+    }
+
+    /// The size of a register in scope, or a small number.
+    fn some_size(&mut self, scope: &Scope) -> Linear {
+        let registers = scope.registers();
+        if registers.is_empty() {
+            return Linear::number(self.random.between(0, 4));
+        }
+        match &scope.kinds[self.random.pick(&registers)] {
+            Kind::Wires(size) => *size,
+            _ => Linear::number(2),
+        }
+    }
+
+    /// An index variable in scope, loop variables first, or a small number.
+    fn some_variable(&mut self, scope: &Scope) -> Linear {
+        let loops = scope.loops.len();
+        if loops > 0 && self.random.percent(85) {
+            Linear::variable(scope.sizes + self.random.below(loops))
+        } else if scope.variables() > 0 {
+            Linear::variable(self.random.below(scope.variables()))
+        } else {
+            Linear::number(self.random.between(0, 3))
+        }
+    }
+}
+
+/// Operands and calls.
+impl Writer<'_> {
+    /// Writes an operand that is one wire, if one is found.
+    fn wire(&mut self, scope: &Scope) -> Option<Field> {
+        let chosen = self.choose(scope)?;
+        Some(self.chosen(chosen))
+    }
+
+    /// Chooses a wire: an operand's number, and an index for an element.
+    fn choose(&mut self, scope: &Scope) -> Option<Chosen> {
+        for _ in 0..TRIES {
+            let number = self.random.below(scope.kinds.len());
+            match scope.kinds.get(number)? {
+                Kind::Wire => return Some((number, None)),
+                Kind::Wires(size) => {
+                    let index = self.index(scope, size);
+                    if scope.inside(&index, size) || self.random.below(2_000) == 0 {
+                        return Some((number, Some(index)));
+                    }
+                }
+                Kind::Bits(_) => {}
+            }
+        }
+        None
+    }
+
+    /// Writes a wire that has been chosen.
+    fn chosen(&mut self, (number, index): Chosen) -> Field {
+        match index {
+            None => whole(number as u8),
+            Some(index) => element(number as u8, index.render(self.random)),
+        }
+    }
+
+    /// Writes a cx on two wires that are mostly different.
+    fn pair(&mut self, scope: &Scope) -> Option<Field> {
+        let first = self.choose(scope)?;
+        let found = (0..TRIES)
+            .filter_map(|_| self.choose(scope))
+            .find(|other| apart(&first, other));
+        let second = match found {
+            Some(second) => second,
+            None if self.random.percent(10) => self.choose(scope)?,
+            None => return None,
+        };
+        Some(cx(self.chosen(first), self.chosen(second)))
+    }
+
+    /// Writes an operand that is one bit, if there is one.
+    fn bit(&mut self, scope: &Scope) -> Option<Field> {
+        let bits = |kind: &Kind| match kind {
+            Kind::Bits(size) => *size,
+            _ => 0,
+        };
+        let numbers: Vec<usize> = (0..scope.kinds.len())
+            .filter(|&number| bits(&scope.kinds[number]) > 0)
+            .collect();
+        if numbers.is_empty() {
+            return None;
+        }
+        let number = self.random.pick(&numbers);
+        let size = usize::from(bits(&scope.kinds[number]));
+        let index = Linear::number(self.random.below(size) as i64);
+        Some(element(number as u8, index.render(self.random)))
+    }
+
+    /// An index that may suit a register of a size.
+    fn index(&mut self, scope: &Scope, size: &Linear) -> Linear {
+        let number = self.random.between(0, 2);
+        let one = self.some_variable(scope);
+        let two = self.some_variable(scope);
+        match self.random.below(12) {
+            0 | 1 => Linear::number(number),
+            2..=5 => one.shift(self.random.between(-1, 1)),
+            6 => size.shift(-1 - number),
+            7 | 8 => size.shift(-1).plus(-1, &one),
+            9 => size.plus(-1, &one),
+            10 => one.plus(self.random.between(-1, 1), &two),
+            _ => Linear::number(0).plus(number, &one),
+        }
+    }
+
+    /// Writes a call of an earlier family, if arguments are found.
+    fn call(&mut self, scope: &Scope) -> Option<Field> {
+        let number = self.random.below(self.families.len());
+        let called = self.families[number].clone();
+        for attempt in 0..TRIES {
+            let forms = self.call_sizes(scope, called.sizes, attempt);
+            if let Some(operands) = self.arguments(scope, &called, &forms) {
+                let sizes = forms.iter().map(|form| form.render(self.random));
+                return Some(call(number as u8, sizes.collect(), operands));
+            }
+        }
+        None
+    }
+
+    /// Sizes for a call, smaller with each attempt.
+    fn call_sizes(&mut self, scope: &Scope, count: usize, attempt: usize) -> Vec<Linear> {
+        (0..count).map(|_| self.call_size(scope, attempt)).collect()
+    }
+
+    /// One size for a call that is likely to be shown 0 or more.
+    fn call_size(&mut self, scope: &Scope, attempt: usize) -> Linear {
+        let less = self.random.below(1 + attempt / 2) as i64;
+        let tried = match self.random.below(5) {
+            0..=2 => self.some_size(scope).shift(-less),
+            3 => self.some_variable(scope).shift(1 - less),
+            _ => Linear::number(self.random.between(0, 3)),
+        };
+        if scope.natural(&tried) {
+            tried
+        } else {
+            Linear::number(0)
+        }
+    }
+
+    /// Arguments for a call with these sizes, mostly on different wires.
+    fn arguments(
+        &mut self,
+        scope: &Scope,
+        called: &Signature,
+        forms: &[Linear],
+    ) -> Option<Vec<Field>> {
+        let mut taken = Vec::new();
+        for parameter in &called.parameters {
+            let chosen = match parameter {
+                None => self.fresh_wire(scope, &taken)?,
+                Some(size) => self.fresh_register(scope, &size.put_in(forms), &taken)?,
+            };
+            taken.push(chosen);
+        }
+        Some(taken.iter().map(|&chosen| self.chosen(chosen)).collect())
+    }
+
+    /// A wire that is no part of what is taken, or else any wire.
+    fn fresh_wire(&mut self, scope: &Scope, taken: &[Chosen]) -> Option<Chosen> {
+        let fresh = |chosen: &Chosen| {
+            let same = |other: &Chosen| other == chosen || *other == (chosen.0, None);
+            !taken.iter().any(same)
+        };
+        (0..TRIES)
+            .filter_map(|_| self.choose(scope))
+            .find(fresh)
+            .or_else(|| self.choose(scope))
+    }
+
+    /// A register that is large enough, if possible one that is not taken.
+    fn fresh_register(
+        &mut self,
+        scope: &Scope,
+        asked: &Linear,
+        taken: &[Chosen],
+    ) -> Option<Chosen> {
+        let large = |number: &usize| match &scope.kinds[*number] {
+            Kind::Wires(have) => scope.natural(&have.plus(-1, asked)),
+            _ => false,
+        };
+        let suitable: Vec<usize> = scope.registers().into_iter().filter(large).collect();
+        let start = self.random.below(suitable.len());
+        let mut turned = suitable.iter().cycle().skip(start).take(suitable.len());
+        let fresh = turned.find(|number| !taken.iter().any(|other| other.0 == **number));
+        let number = *fresh.or(suitable.first())?;
+        Some((number, None))
+    }
+}

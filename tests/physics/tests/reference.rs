@@ -1,0 +1,29 @@
+//! Every check of the examples' lists, with the reference as the unroller.
+
+use physics::{checks, REFERENCE};
+
+macro_rules! with_the_reference {
+    ($($name:ident)*) => {$(
+        #[test]
+        fn $name() {
+            if let Err(message) = checks::$name(&REFERENCE) {
+                panic!("{message}");
+            }
+        }
+    )*};
+}
+
+with_the_reference! {
+    bell_pair_agrees
+    coin_is_put_back
+    teleport_moves_the_state
+    toffoli_is_a_toffoli
+    maj_is_the_majority
+    adder_adds
+    adder_and_back_is_no_change
+    ctrladd_adds_under_control
+    ctrladd_as_printed_adds_two_cells_only
+    there_and_back_is_no_change
+    reversed_lists_are_mirrored
+    lists_of_both_calls_agree
+}

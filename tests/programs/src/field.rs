@@ -1,0 +1,72 @@
+//! Fields as a tree: a tag, the field's own bytes, then the fields inside it.
+
+use crate::token::Spot;
+
+/// The tags of the byte form.
+pub mod tags {
+    pub const FAMILY: u8 = 1;
+    pub const QREG: u8 = 2;
+    pub const CREG: u8 = 3;
+    pub const MEASURE: u8 = 4;
+    pub const RESET: u8 = 5;
+    pub const IF: u8 = 6;
+    pub const QBIT: u8 = 16;
+    pub const QBITS: u8 = 17;
+    pub const H: u8 = 32;
+    pub const T: u8 = 33;
+    pub const TDG: u8 = 34;
+    pub const CX: u8 = 35;
+    pub const CALL: u8 = 36;
+    pub const REVERSE: u8 = 37;
+    pub const FOR: u8 = 38;
+    pub const WHOLE: u8 = 48;
+    pub const ELEMENT: u8 = 49;
+    pub const LITERAL: u8 = 64;
+    pub const VARIABLE: u8 = 65;
+    pub const SUM: u8 = 66;
+    pub const DIFFERENCE: u8 = 67;
+    pub const PRODUCT: u8 = 68;
+}
+
+/// How deep fields may lie in each other here; the checker's own limits are lower.
+pub const DEEPEST: usize = 64;
+
+/// A field of the byte form.
+#[derive(Clone, Debug)]
+pub struct Field {
+    /// The tag; none for bare bytes, which have no header.
+    pub tag: Option<u8>,
+    /// The field's own bytes, before the fields inside it.
+    pub head: Vec<u8>,
+    /// The fields inside it.
+    pub parts: Vec<Field>,
+    /// Where it stands in the text.
+    pub spot: Spot,
+    /// How many fields lie in each other, this one counting 1.
+    pub depth: usize,
+}
+
+impl Field {
+    /// A field with its tag, own bytes and inner fields.
+    pub fn new(tag: u8, head: Vec<u8>, parts: Vec<Field>, spot: Spot) -> Self {
+        let inner = parts.iter().map(|part| part.depth).max().unwrap_or(0);
+        Field {
+            tag: Some(tag),
+            head,
+            parts,
+            spot,
+            depth: inner + 1,
+        }
+    }
+
+    /// Bytes that stand in a list as they are.
+    pub fn bare(bytes: Vec<u8>, spot: Spot) -> Self {
+        Field {
+            tag: None,
+            head: bytes,
+            parts: Vec::new(),
+            spot,
+            depth: 1,
+        }
+    }
+}

@@ -1,0 +1,179 @@
+//! The bytes that each part of the text form stands for.
+
+use programs::assemble;
+
+/// Bytes from hexadecimal.
+fn hex(text: &str) -> Vec<u8> {
+    let pairs = text.split_whitespace();
+    pairs
+        .map(|pair| u8::from_str_radix(pair, 16).unwrap())
+        .collect()
+}
+
+/// Shows that a text assembles to bytes.
+fn gives(text: &str, bytes: &str) {
+    match assemble(text) {
+        Ok(found) => assert_eq!(found.bytes, hex(bytes), "{text}"),
+        Err(error) => panic!("{text}: {error}"),
+    }
+}
+
+#[test]
+fn nothing_is_no_bytes() {
+    gives("", "");
+    gives(" // only a comment", "");
+    gives("// one\n\t// two\r\n", "");
+}
+
+#[test]
+fn registers() {
+    gives("qreg q[5];", "02 02 00 05 00");
+    gives("creg c[65535];", "03 02 00 ff ff");
+    gives("qreg q[0]; creg c[258];", "02 02 00 00 00 03 02 00 02 01");
+}
+
+#[test]
+fn bell() {
+    let bytes = "02 02 00 02 00 20 09 00 31 06 00 00 40 02 00 00 00 \
+        23 12 00 31 06 00 00 40 02 00 00 00 31 06 00 00 40 02 00 01 00";
+    gives("qreg q[2]; h q[0]; cx q[0], q[1];", bytes);
+    gives("qreg q[2]; h(q[0]); cx (q[0], q[1]);", bytes);
+}
+
+#[test]
+fn gates_on_whole_operands() {
+    gives(
+        "gate g(a: Qbit, b: Qbit) { h a; t a; tdg b; cx b, a }",
+        "01 28 00 00 02 10 00 00 10 00 00 \
+         20 04 00 30 01 00 00 21 04 00 30 01 00 00 22 04 00 30 01 00 01 \
+         23 08 00 30 01 00 01 30 01 00 00",
+    );
+}
+
+#[test]
+fn gate_is_a_family_without_variables() {
+    let bytes = "01 05 00 00 01 10 00 00";
+    gives("gate g(a: Qbit) {}", bytes);
+    gives("family() g(a: Qbit) {}", bytes);
+}
+
+#[test]
+fn family_with_sizes() {
+    gives(
+        "family(n, m) f(x: Qbit[n], y: Qbit[m]) {}",
+        "01 10 00 02 02 11 04 00 41 01 00 00 11 04 00 41 01 00 01",
+    );
+}
+
+#[test]
+fn measure_reset_if() {
+    gives(
+        "qreg q[1]; creg c[1]; measure q[0] -> c[0]; reset q[0]; if (c[0] == 1) { h q[0]; }",
+        "02 02 00 01 00 03 02 00 01 00 \
+         04 12 00 31 06 00 00 40 02 00 00 00 31 06 00 01 40 02 00 00 00 \
+         05 09 00 31 06 00 00 40 02 00 00 00 \
+         06 16 00 01 31 06 00 01 40 02 00 00 00 20 09 00 31 06 00 00 40 02 00 00 00",
+    );
+}
+
+#[test]
+fn loops_and_variables() {
+    let bytes = "01 28 00 01 01 11 04 00 41 01 00 00 \
+         26 1c 00 40 02 00 01 00 41 01 00 00 \
+         20 10 00 31 0d 00 00 43 09 00 41 01 00 01 40 02 00 01 00";
+    gives(
+        "family(n) f(x: Qbit[n]) { for i = 1..n { h x[i-1]; } }",
+        bytes,
+    );
+    gives("family(n) f(x:Qbit[n]){for i=1..n do{h(x[i - 1])}}", bytes);
+}
+
+#[test]
+fn loop_variables_are_numbered_from_outside() {
+    gives(
+        "for i = 0..1 { for j = i..i { } } for k = 0..0 { reverse { } }",
+        "26 15 00 40 02 00 00 00 40 02 00 01 00 26 08 00 41 01 00 00 41 01 00 00 \
+         26 0d 00 40 02 00 00 00 40 02 00 00 00 25 00 00",
+    );
+}
+
+#[test]
+fn index_trees() {
+    let size = |index: &str| format!("family(a, b) f(x: Qbit[{index}]) {{}}");
+    let (a, b) = ("41 01 00 00", "41 01 00 01");
+    let head = |length: &str, inner: &str| format!("01 {length} 00 02 01 11 {inner}");
+    gives(
+        &size("a+b"),
+        &head("10", &format!("0b 00 42 08 00 {a} {b}")),
+    );
+    gives(
+        &size("a*b"),
+        &head("10", &format!("0b 00 44 08 00 {a} {b}")),
+    );
+    gives(
+        &size("a-b-a"),
+        &head("17", &format!("12 00 43 0f 00 43 08 00 {a} {b} {a}")),
+    );
+    gives(
+        &size("a-(b-a)"),
+        &head("17", &format!("12 00 43 0f 00 {a} 43 08 00 {b} {a}")),
+    );
+    gives(
+        &size("a+b*a"),
+        &head("17", &format!("12 00 42 0f 00 {a} 44 08 00 {b} {a}")),
+    );
+    gives(
+        &size("(a+b)*a"),
+        &head("17", &format!("12 00 44 0f 00 42 08 00 {a} {b} {a}")),
+    );
+    gives(&size("((a))"), &head("09", &format!("04 00 {a}")));
+}
+
+#[test]
+fn calls() {
+    let families = "gate g(a: Qbit) {} family(n) f(x: Qbit[n]) {} qreg q[2];";
+    let bytes = "01 05 00 00 01 10 00 00 01 09 00 01 01 11 04 00 41 01 00 00 02 02 00 02 00";
+    let with =
+        |call: &str, end: &str| gives(&format!("{families} {call}"), &format!("{bytes} {end}"));
+    with("g(q[1]);", "24 0a 00 00 31 06 00 00 40 02 00 01 00");
+    with("f(2)(q);", "24 0a 00 01 40 02 00 02 00 30 01 00 00");
+    with(
+        "f((1)+1)(q);",
+        "24 12 00 01 42 0a 00 40 02 00 01 00 40 02 00 01 00 30 01 00 00",
+    );
+    with("g()(q);", "24 05 00 00 30 01 00 00");
+}
+
+#[test]
+fn what_the_checker_refuses_can_be_written() {
+    gives("h #7;", "20 04 00 30 01 00 07");
+    gives("h #7[#9];", "20 08 00 31 05 00 07 41 01 00 09");
+    gives("#3(1)(#0);", "24 0a 00 03 40 02 00 01 00 30 01 00 00");
+    gives(
+        "creg c[1]; if (c == 200) {}",
+        "03 02 00 01 00 06 05 00 c8 30 01 00 00",
+    );
+    gives("reverse { qreg q[1]; }", "25 05 00 02 02 00 01 00");
+    gives("gate g() {} g();", "01 02 00 00 00 24 01 00 00");
+    gives(
+        "bytes \"ff 00 0A\"; reverse { bytes \"\" }",
+        "ff 00 0a 25 00 00",
+    );
+}
+
+#[test]
+fn family_names_are_kept() {
+    let found = assemble("gate g(a: Qbit) {} family(n) f(x: Qbit[n]) {}").unwrap();
+    assert_eq!(found.families, ["g", "f"]);
+}
+
+#[test]
+fn fields_know_where_they_stand() {
+    let found = assemble("qreg q[2];\nfor i = 0..1 {\n    h q[i];\n}\n").unwrap();
+    let spot = |place| found.spots.of(place).map(|spot| (spot.line, spot.column));
+    assert_eq!(spot(0), Some((1, 1)));
+    assert_eq!(spot(5), Some((2, 1)));
+    assert_eq!(spot(18), Some((3, 5)));
+    assert_eq!(spot(21), Some((3, 7)));
+    assert_eq!(spot(6), None);
+}

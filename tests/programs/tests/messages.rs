@@ -1,0 +1,197 @@
+//! What is said about texts and bytes that cannot be read, and where.
+
+use programs::{assemble, disassemble};
+
+/// Shows what is said about a text.
+fn says(text: &str, message: &str) {
+    match assemble(text) {
+        Ok(_) => panic!("read: {text:.200}"),
+        Err(error) => assert_eq!(error.to_string(), message, "{text:.200}"),
+    }
+}
+
+/// Shows what is said about bytes.
+fn says_of_bytes(bytes: &[u8], message: &str) {
+    match disassemble(bytes) {
+        Ok(text) => panic!("read: {text:.200}"),
+        Err(error) => assert_eq!(error.to_string(), message),
+    }
+}
+
+#[test]
+fn characters_and_numbers() {
+    says(
+        "qreg q[1];\n  h q[0] @",
+        "2:10: the character '@' has no meaning here",
+    );
+    says("h q[0] / h", "1:8: a comment starts with '//'");
+    says("qreg q[65536];", "1:8: the number 65536 is above 65535");
+    says(
+        "qreg q[99999999999999999999];",
+        "1:8: the number 99999999999999999999 is above 65535",
+    );
+    says("qreg q[3x];", "1:8: '3x' is neither a number nor a name");
+    says("bytes \"20\nh", "1:7: this quoted text is not closed");
+    says(
+        "bytes \"2 0\";",
+        "1:7: '2' is not a byte of two hexadecimal digits",
+    );
+    says(
+        "bytes \"+1\";",
+        "1:7: '+1' is not a byte of two hexadecimal digits",
+    );
+    says(
+        "bytes 20;",
+        "1:7: expected bytes in hexadecimal between quotes, found '20'",
+    );
+}
+
+#[test]
+fn names() {
+    says("h q[0];", "1:3: no register named 'q' here");
+    says(
+        "qreg q[1];\nqreg q[2];",
+        "2:6: the name 'q' is already in use here",
+    );
+    says(
+        "qreg t[1];",
+        "1:6: 't' has a meaning of its own and cannot name a register",
+    );
+    says(
+        "qreg 5[1];",
+        "1:6: expected a name for a register, found '5'",
+    );
+    says(
+        "qreg q[1]; gate g(a: Qbit) { h q[0]; }",
+        "1:32: no parameter named 'q' here",
+    );
+    says(
+        "gate g(a: Qbit) { g(a); }",
+        "1:19: no statement or family named 'g' here",
+    );
+    says("foo(q);", "1:1: no statement or family named 'foo' here");
+    says(
+        "gate g(a: Qbit, a: Qbit) {}",
+        "1:17: the name 'a' is already in use here",
+    );
+    says("for i = 0..i {}", "1:12: no index variable named 'i' here");
+    says(
+        "for i = 0..1 { for i = 0..1 {} }",
+        "1:20: the name 'i' is already in use here",
+    );
+    says(
+        "qreg q[1]; for i = 0..0 { } h q[i];",
+        "1:33: no index variable named 'i' here",
+    );
+}
+
+#[test]
+fn what_is_due() {
+    says("qreg q[1]", "1:10: expected ';', found the end of the text");
+    says("qreg q(1);", "1:7: expected '[', found '('");
+    says(
+        "qreg q[n];",
+        "1:8: expected a number from 0 to 65535, found 'n'",
+    );
+    says(
+        "qreg q[1]; h q[0]",
+        "1:18: expected ';', found the end of the text",
+    );
+    says("qreg q[1]; cx q[0];", "1:19: expected ',', found ';'");
+    says("qreg q[1]; h q[];", "1:16: expected an index, found ']'");
+    says("qreg q[1]; h 3;", "1:14: expected an operand, found '3'");
+    says("reverse h", "1:9: expected '{', found 'h'");
+    says("\nreverse {\n", "2:9: this '{' is not closed");
+    says("}", "1:1: expected a statement, found '}'");
+    says("for i = 1 { }", "1:11: expected '..', found '{'");
+    says("gate g(a Qbit) {}", "1:10: expected ':', found 'Qbit'");
+    says("gate g(a: Bit) {}", "1:11: expected 'Qbit', found 'Bit'");
+    says(
+        "creg c[1]; if (c[0] = 1) {}",
+        "1:21: expected '==', found '='",
+    );
+    says(
+        "creg c[1]; if (c[0] == 256) {}",
+        "1:24: expected a number from 0 to 255, found '256'",
+    );
+    says(
+        "h #256;",
+        "1:4: expected a number from 0 to 255, found '256'",
+    );
+    says(
+        "gate g(a: Qbit) {} g(",
+        "1:22: expected an operand, found the end of the text",
+    );
+    says("gate g(a: Qbit) {} g;", "1:21: expected '(', found ';'");
+}
+
+#[test]
+fn too_deep_or_too_long() {
+    let deep = "reverse {".repeat(20_000);
+    says(&deep, "1:586: blocks or parentheses lie deeper than 64");
+    let open = format!("qreg q[1]; h q[{}", "(".repeat(20_000));
+    says(&open, "1:81: blocks or parentheses lie deeper than 64");
+    let chain = format!("qreg q[1]; h q[0{}];", "+1".repeat(20_000));
+    says(&chain, "1:143: parts lie deeper in each other than 64");
+    let long = format!("qreg q[1]; reverse {{ {} }}", "h q[0]; ".repeat(6000));
+    says(
+        &long,
+        "1:12: this takes 72000 bytes, and a field holds at most 65535",
+    );
+    let many: Vec<_> = (0..256).map(|number| format!("n{number}")).collect();
+    let many = format!("family({}) f(x: Qbit) {{}}", many.join(", "));
+    says(&many, "1:1: more than 255 index variables");
+}
+
+#[test]
+fn long_programs_are_the_checkers_business() {
+    let text = format!("qreg q[1]; {}", "h q[0];".repeat(6000));
+    assert_eq!(assemble(&text).unwrap().bytes.len(), 72_005);
+}
+
+#[test]
+fn bytes_that_do_not_read() {
+    says_of_bytes(&[0x20], "byte 0: fewer than 3 bytes are left for a field");
+    says_of_bytes(
+        &[2, 3, 0, 1, 0],
+        "byte 0: this field reaches past its enclosing end",
+    );
+    says_of_bytes(
+        &[2, 1, 0, 1],
+        "byte 0: this field ends before its own bytes do",
+    );
+    says_of_bytes(
+        &[2, 3, 0, 1, 0, 0],
+        "byte 0: this field has bytes left over",
+    );
+    says_of_bytes(
+        &[7, 0, 0],
+        "byte 0: a declaration or statement is due here, and tag 7 is none",
+    );
+    says_of_bytes(
+        &[0x25, 3, 0, 2, 0, 0],
+        "byte 3: a statement is due here, and tag 2 is none",
+    );
+    says_of_bytes(
+        &[0x20, 0, 0],
+        "byte 0: this field ends where an operand is due",
+    );
+    says_of_bytes(
+        &[0x24, 9, 0, 0, 0x30, 1, 0, 0, 0x41, 1, 0, 0],
+        "byte 0: this call has an index after an operand",
+    );
+    says_of_bytes(
+        &[1, 2, 0, 0, 1],
+        "byte 0: this field ends where a type is due",
+    );
+}
+
+#[test]
+fn bytes_nested_too_deep_for_text() {
+    let mut bytes: Vec<u8> = Vec::new();
+    for _ in 0..1000 {
+        let length = u16::try_from(bytes.len()).unwrap().to_le_bytes();
+        bytes.splice(0..0, [0x25, length[0], length[1]]);
+    }
+    says_of_bytes(&bytes, "byte 192: fields lie deeper than 64");
+}

@@ -1,0 +1,230 @@
+//! The `mqasm` program as people call it: output, messages and exit codes.
+
+use std::fs;
+use std::io::Write;
+use std::path::PathBuf;
+use std::process::{Command, Output, Stdio};
+
+fn examples() -> PathBuf {
+    PathBuf::from(env!("CARGO_MANIFEST_DIR")).join("../../examples")
+}
+
+/// Runs the tool in the folder of the examples with some input.
+fn tool(words: &[&str], input: &[u8]) -> Output {
+    let mut child = Command::new(env!("CARGO_BIN_EXE_mqasm"))
+        .args(words)
+        .current_dir(examples())
+        .stdin(Stdio::piped())
+        .stdout(Stdio::piped())
+        .stderr(Stdio::piped())
+        .spawn()
+        .unwrap();
+    let _ = child.stdin.take().unwrap().write_all(input);
+    let output = child.wait_with_output().unwrap();
+    assert!(!String::from_utf8_lossy(&output.stderr).contains("panicked"));
+    output
+}
+
+/// Shows what the tool writes, says, and exits with.
+fn gives(words: &[&str], input: &str, code: i32, output: &str, message: &str) {
+    let found = tool(words, input.as_bytes());
+    assert_eq!(String::from_utf8_lossy(&found.stdout), output, "{words:?}");
+    assert_eq!(String::from_utf8_lossy(&found.stderr), message, "{words:?}");
+    assert_eq!(found.status.code(), Some(code), "{words:?}");
+}
+
+/// Shows that a command is refused with a message.
+fn refuses(words: &[&str], message: &str) {
+    let said = format!("mqasm: {message}; 'mqasm help' shows the commands\n");
+    gives(words, "", 2, "", &said);
+}
+
+#[test]
+fn help_is_shown() {
+    for word in ["help", "--help", "-h"] {
+        gives(&[word], "", 0, programs::tool::USAGE, "");
+    }
+}
+
+#[test]
+fn assembles_files_and_input() {
+    let bytes = fs::read(examples().join("bell.bytes")).unwrap();
+    assert_eq!(tool(&["assemble", "bell.mq"], b"").stdout, bytes);
+    let text = fs::read(examples().join("bell.mq")).unwrap();
+    assert_eq!(tool(&["assemble", "-"], &text).stdout, bytes);
+}
+
+#[test]
+fn writes_text() {
+    let text = "qreg q0[2];\nh q0[0];\ncx q0[0], q0[1];\n";
+    gives(&["text", "bell.bytes"], "", 0, text, "");
+    let message = "mqasm: standard input: byte 0: fewer than 3 bytes are left for a field\n";
+    gives(&["text", "-"], "h", 1, "", message);
+}
+
+#[test]
+fn checks() {
+    gives(&["check", "bell.mq"], "", 0, "end 0 0 0 0\n", "");
+    gives(&["check", "bell.bytes"], "", 0, "end 0 0 0 0\n", "");
+    gives(
+        &["check", "-"],
+        "qreg q[1]; h q[0];",
+        0,
+        "end 0 0 0 0\n",
+        "",
+    );
+    let message = "mqasm: element-n.mq:4:7: 12: it cannot be shown that this stays in bounds\n";
+    gives(
+        &["check", "element-n.mq"],
+        "",
+        1,
+        "end 12 15 0 0\n",
+        message,
+    );
+    let message = "mqasm: standard input: byte 0: 2: a field does not fit where it stands\n";
+    gives(&["check", "--bytes", "-"], "h", 1, "end 2 0 0 0\n", message);
+}
+
+#[test]
+fn lists_runs() {
+    let listing = "h 0\ncx 0 1\nend 0 0 2 2\n";
+    gives(&["list", "bell.mq"], "", 0, listing, "");
+    gives(&["list", "bell.bytes"], "", 0, listing, "");
+    gives(
+        &["list", "-"],
+        "qreg q[2]; h q[0]; cx q[0], q[1];",
+        0,
+        listing,
+        "",
+    );
+    let message = "mqasm: cx-one-wire.mq:4:1: 25: cx on a single wire\n";
+    gives(
+        &["list", "cx-one-wire.mq"],
+        "",
+        1,
+        "end 25 5 0 1\n",
+        message,
+    );
+}
+
+#[test]
+fn lists_instances() {
+    let listing = "h 0\nh 1\nh 2\nend 0 0 3 7\n";
+    gives(
+        &["list", "loop.mq", "--family", "f", "--sizes", "3"],
+        "",
+        0,
+        listing,
+        "",
+    );
+    gives(
+        &["list", "--sizes", "3", "--family", "0", "loop.mq"],
+        "",
+        0,
+        listing,
+        "",
+    );
+    let words = [
+        "list", "loop.mq", "--family", "f", "--sizes", "3", "--limit", "1",
+    ];
+    let message = "mqasm: loop.mq:5:5: 26: the step limit is used up\n";
+    gives(&words, "", 1, "end 26 12 0 1\n", message);
+}
+
+#[test]
+fn families_and_sizes_that_do_not_fit() {
+    let list = |family: &str, sizes: &str, end: &str, message: &str| {
+        let words = ["list", "loop.mq", "--family", family, "--sizes", sizes];
+        gives(&words, "", 1, end, &format!("mqasm: {message}\n"));
+    };
+    list("g", "3", "", "no family 'g' in loop.mq");
+    list(
+        "1",
+        "3",
+        "end 20 0 0 0\n",
+        "loop.mq: 20: there is no such family",
+    );
+    list(
+        "f",
+        "3,4",
+        "end 21 0 0 0\n",
+        "loop.mq: 21: the sizes do not fit the family",
+    );
+    list(
+        "f",
+        "70000",
+        "end 22 0 0 0\n",
+        "loop.mq: 22: a size is too large",
+    );
+}
+
+#[test]
+fn commands_that_are_none() {
+    refuses(&[], "no command");
+    refuses(&["run"], "no command 'run'");
+    refuses(&["list"], "no file given");
+    refuses(&["assemble"], "no file given");
+    refuses(&["assemble", "--fast"], "no option '--fast' here");
+    refuses(&["list", "a.mq", "b.mq"], "more than one file given");
+    refuses(
+        &["list", "bell.mq", "--fast", "1"],
+        "no option '--fast' here",
+    );
+    refuses(
+        &["check", "bell.mq", "--limit", "1"],
+        "no option '--limit' here",
+    );
+    refuses(&["list", "bell.mq", "--limit"], "--limit needs a value");
+    refuses(
+        &["list", "bell.mq", "--limit", "-1"],
+        "'-1' is not a number that --limit takes",
+    );
+    refuses(
+        &["list", "bell.mq", "--sizes", "3"],
+        "--sizes needs --family",
+    );
+    refuses(
+        &["list", "loop.mq", "--family", "f", "--sizes", "3,x"],
+        "'x' is not a number that --sizes takes",
+    );
+    refuses(
+        &["list", "bell.mq", "--output", "9999999999"],
+        "--output goes up to 1073741824",
+    );
+}
+
+#[test]
+fn files_that_cannot_be_read() {
+    let found = tool(&["list", "missing.mq"], b"");
+    assert_eq!(found.status.code(), Some(1));
+    let said = String::from_utf8_lossy(&found.stderr).into_owned();
+    assert!(
+        said.starts_with("mqasm: cannot read missing.mq: "),
+        "{said}"
+    );
+    let found = tool(&["assemble", "."], b"");
+    assert_eq!(found.status.code(), Some(1));
+    let found = tool(&["assemble", "-"], b"h \xff");
+    assert_eq!(found.stderr, b"mqasm: standard input: no text at byte 2\n");
+    assert_eq!(found.status.code(), Some(1));
+    let message = "mqasm: standard input:1:3: no register named 'q' here\n";
+    gives(&["assemble", "-"], "h q[0];", 1, "", message);
+}
+
+#[test]
+fn a_closed_output_is_no_crash() {
+    let words = [
+        "list", "loop.mq", "--family", "f", "--sizes", "60000", "--output", "1000000",
+    ];
+    let mut child = Command::new(env!("CARGO_BIN_EXE_mqasm"))
+        .args(words)
+        .current_dir(examples())
+        .stdout(Stdio::piped())
+        .stderr(Stdio::piped())
+        .spawn()
+        .unwrap();
+    drop(child.stdout.take());
+    let found = child.wait_with_output().unwrap();
+    assert_eq!(String::from_utf8_lossy(&found.stderr), "");
+    assert_eq!(found.status.code(), Some(1));
+}

@@ -1,0 +1,303 @@
+//! Reading and typing a program: top fields, families and statements.
+
+use crate::bytes::{refuse, Content, Field, Refusal};
+use crate::form::{Bounds, Form};
+use crate::index::{Kind, Scope};
+use crate::tree::{
+    Action, Bit, Call, Family, Gate, Loop, Parameter, Program, Register, Size, Statement, Wire,
+};
+
+/// The most bytes a program may have.
+const PROGRAM_BYTES: usize = 65_535;
+/// The most families, and the most registers.
+const DECLARATIONS: usize = 255;
+/// The most qubits, and the most bits, that registers may have in all.
+const LOCATIONS: u32 = 65_535;
+/// The most loops open at one place.
+const OPEN_LOOPS: usize = 8;
+/// How deep statements may nest.
+const STATEMENT_NESTING: u32 = 16;
+
+/// Reads a program and types it, or says why it is turned down.
+pub fn program(bytes: &[u8]) -> Result<Program, Refusal> {
+    if bytes.len() > PROGRAM_BYTES {
+        return refuse(1, 0);
+    }
+    let mut checker = Checker::default();
+    let mut content = Content::of_program(bytes);
+    while let Some(field) = content.next_field() {
+        checker.top_field(field?)?;
+    }
+    Ok(checker.program)
+}
+
+/// What has been declared so far.
+#[derive(Default)]
+struct Checker {
+    program: Program,
+    /// The kinds of the registers, by number.
+    kinds: Vec<Kind>,
+    qubits: u16,
+    bits: u16,
+}
+
+impl Checker {
+    /// Reads one field that stands at the top.
+    fn top_field(&mut self, mut field: Field) -> Result<(), Refusal> {
+        match field.tag {
+            1 => {
+                let family = self.family(field)?;
+                self.program.families.push(family);
+            }
+            2 | 3 => self.register(field)?,
+            4..=6 => {
+                let action = self.scope().command(&mut field)?;
+                let place = field.place;
+                self.program.top.push(Statement { place, action });
+            }
+            _ => {
+                let statement = self.scope().statement(field, 1)?;
+                self.program.top.push(statement);
+            }
+        }
+        Ok(())
+    }
+
+    /// What a top statement can name.
+    fn scope(&self) -> Scope<'_> {
+        Scope {
+            families: &self.program.families,
+            kinds: &self.kinds,
+            sizes: 0,
+            loops: Vec::new(),
+        }
+    }
+
+    /// Reads a family: its counts, its types and its body.
+    fn family(&self, mut field: Field) -> Result<Family, Refusal> {
+        if self.program.families.len() == DECLARATIONS {
+            return refuse(6, field.place);
+        }
+        let sizes = field.content.byte()?;
+        if sizes > 4 {
+            return refuse(6, field.place);
+        }
+        let count = field.content.byte()?;
+        if !(1..=8).contains(&count) {
+            return refuse(6, field.place);
+        }
+        let mut scope = Scope {
+            families: &self.program.families,
+            kinds: &[],
+            sizes: usize::from(sizes),
+            loops: Vec::new(),
+        };
+        let parameters: Vec<Parameter> = (0..count)
+            .map(|_| scope.parameter(&mut field.content))
+            .collect::<Result<_, _>>()?;
+        let kinds: Vec<Kind> = parameters.iter().map(Parameter::kind).collect();
+        scope.kinds = &kinds;
+        let body = scope.statements(&mut field.content, 1)?;
+        Ok(Family {
+            sizes: usize::from(sizes),
+            parameters,
+            body,
+        })
+    }
+
+    /// Reads a quantum or classical register.
+    fn register(&mut self, mut field: Field) -> Result<(), Refusal> {
+        if self.kinds.len() == DECLARATIONS {
+            return refuse(6, field.place);
+        }
+        let size = field.content.number()?;
+        let used = match field.tag {
+            2 => &mut self.qubits,
+            _ => &mut self.bits,
+        };
+        let first = *used;
+        if u32::from(first) + u32::from(size) > LOCATIONS {
+            return refuse(7, field.place);
+        }
+        field.content.end()?;
+        *used = first + size;
+        let form = Form::constant(i64::from(size));
+        let (kind, register) = match field.tag {
+            2 => (Kind::Wires(form), quantum(first, size)),
+            _ => (Kind::Bits(form), classical(first, size)),
+        };
+        self.kinds.push(kind);
+        self.program.registers.push(register);
+        Ok(())
+    }
+}
+
+/// A register of qubits from a first one on.
+fn quantum(first: u16, size: u16) -> Register {
+    let first = Wire(first);
+    Register::Quantum { first, size }
+}
+
+/// A register of bits from a first one on.
+fn classical(first: u16, size: u16) -> Register {
+    let first = Bit(first);
+    Register::Classical { first, size }
+}
+
+impl Parameter {
+    /// What the parameter's number names in the body.
+    fn kind(&self) -> Kind {
+        match &self.size {
+            None => Kind::Wire,
+            Some(size) => Kind::Wires(size.form.clone()),
+        }
+    }
+}
+
+impl Scope<'_> {
+    /// Reads a parameter's type field.
+    fn parameter(&self, content: &mut Content) -> Result<Parameter, Refusal> {
+        let mut field = content.field()?;
+        let place = field.place;
+        let size = match field.tag {
+            16 => None,
+            17 => {
+                let (index, form) = self.index(&mut field.content)?;
+                Some(Size { index, form })
+            }
+            _ => return refuse(3, place),
+        };
+        field.content.end()?;
+        if let Some(size) = &size {
+            self.show(&size.form, place)?;
+        }
+        Ok(Parameter { place, size })
+    }
+
+    /// Reads statements up to the end of the content.
+    fn statements(&mut self, content: &mut Content, depth: u32) -> Result<Vec<Statement>, Refusal> {
+        let mut list = Vec::new();
+        while let Some(field) = content.next_field() {
+            list.push(self.statement(field?, depth)?);
+        }
+        Ok(list)
+    }
+
+    /// Reads a measure, reset or if, which stand at the top only.
+    fn command(&mut self, field: &mut Field) -> Result<Action, Refusal> {
+        let content = &mut field.content;
+        match field.tag {
+            4 => {
+                let action = Action::Measure(self.wire(content)?, self.bit(content)?);
+                content.end()?;
+                Ok(action)
+            }
+            5 => {
+                let action = Action::Reset(self.wire(content)?);
+                content.end()?;
+                Ok(action)
+            }
+            _ => {
+                let value = content.byte()?;
+                if value > 1 {
+                    return refuse(13, field.place);
+                }
+                let bit = self.bit(content)?;
+                let body = self.statements(content, 2)?;
+                Ok(Action::If(value == 1, bit, body))
+            }
+        }
+    }
+
+    /// Reads a statement that may stand in a body.
+    fn statement(&mut self, mut field: Field, depth: u32) -> Result<Statement, Refusal> {
+        let place = field.place;
+        if !(32..=38).contains(&field.tag) {
+            return refuse(3, place);
+        }
+        if depth > STATEMENT_NESTING {
+            return refuse(5, place);
+        }
+        let content = &mut field.content;
+        let action = match field.tag {
+            32 => self.gate(Gate::H, content)?,
+            33 => self.gate(Gate::T, content)?,
+            34 => self.gate(Gate::Tdg, content)?,
+            35 => self.cx(content)?,
+            36 => self.call(content, place)?,
+            37 => Action::Reverse(self.statements(content, depth + 1)?),
+            _ => self.open_loop(content, place, depth)?,
+        };
+        Ok(Statement { place, action })
+    }
+
+    /// Reads the operand of a gate on one wire.
+    fn gate(&self, gate: Gate, content: &mut Content) -> Result<Action, Refusal> {
+        let wire = self.wire(content)?;
+        content.end()?;
+        Ok(Action::Gate(gate, wire))
+    }
+
+    /// Reads the operands of a cx.
+    fn cx(&self, content: &mut Content) -> Result<Action, Refusal> {
+        let control = self.wire(content)?;
+        let target = self.wire(content)?;
+        content.end()?;
+        Ok(Action::Cx(control, target))
+    }
+
+    /// Reads a call: family, sizes, arguments.
+    fn call(&self, content: &mut Content, place: u32) -> Result<Action, Refusal> {
+        let family = content.byte()?;
+        let Some(called) = self.families.get(usize::from(family)) else {
+            return refuse(8, place);
+        };
+        let mut sizes = Vec::with_capacity(called.sizes);
+        let mut forms = Vec::with_capacity(called.sizes);
+        for _ in 0..called.sizes {
+            let start = content.offset();
+            let (index, form) = self.index(content)?;
+            self.show(&form, start)?;
+            sizes.push(index);
+            forms.push(form);
+        }
+        let arguments = called
+            .parameters
+            .iter()
+            .map(|parameter| self.argument(content, parameter, &forms))
+            .collect::<Result<_, _>>()?;
+        content.end()?;
+        Ok(Action::Call(Box::new(Call {
+            family,
+            sizes,
+            arguments,
+        })))
+    }
+
+    /// Reads a loop: its bounds, then its body with the loop open.
+    fn open_loop(
+        &mut self,
+        content: &mut Content,
+        place: u32,
+        depth: u32,
+    ) -> Result<Action, Refusal> {
+        if self.loops.len() == OPEN_LOOPS {
+            return refuse(6, place);
+        }
+        let (low, low_form) = self.index(content)?;
+        let (high, high_form) = self.index(content)?;
+        let variable = (self.sizes + self.loops.len()) as u8;
+        self.loops.push(Bounds {
+            low: low_form,
+            high: high_form,
+        });
+        let body = self.statements(content, depth + 1)?;
+        self.loops.pop();
+        Ok(Action::For(Box::new(Loop {
+            variable,
+            low,
+            high,
+            body,
+        })))
+    }
+}

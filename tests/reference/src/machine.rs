@@ -1,0 +1,357 @@
+//! The machine: runs a statement list and writes records.
+
+use crate::bytes::{refuse, Refusal};
+use crate::form::{in_range, OutOfRange, VARIABLES};
+use crate::tree::{
+    Action, Argument, Bit, BitOperand, Call, Gate, Index, Loop, Parameter, Program, Register,
+    Statement, Wire, WireOperand,
+};
+use crate::Outcome;
+
+/// The most wires that an instance may lay out.
+const WIRES: i64 = 65_535;
+/// The most parameters that a family may have.
+const PARAMETERS: usize = 8;
+
+/// What an operand stands for.
+#[derive(Clone, Copy)]
+enum Meaning {
+    Wire(Wire),
+    Wires { first: Wire, size: u16 },
+    Bits { first: Bit, size: u16 },
+}
+
+/// The direction in which lists are run.
+#[derive(Clone, Copy, PartialEq, Eq)]
+enum Direction {
+    Forward,
+    Backward,
+}
+
+impl Direction {
+    /// The other direction.
+    fn flipped(self) -> Direction {
+        match self {
+            Direction::Forward => Direction::Backward,
+            Direction::Backward => Direction::Forward,
+        }
+    }
+}
+
+/// The machine's ends carry a number and a place, as refusals do.
+type End = Refusal;
+
+/// The values and meanings with which a run starts.
+pub struct Layout {
+    values: [i64; VARIABLES],
+    meanings: Vec<Meaning>,
+}
+
+impl Layout {
+    /// The registers of a whole run, numbered as declared.
+    pub fn of_registers(registers: &[Register]) -> Layout {
+        let meaning = |register: &Register| match *register {
+            Register::Quantum { first, size } => Meaning::Wires { first, size },
+            Register::Classical { first, size } => Meaning::Bits { first, size },
+        };
+        Layout {
+            values: [0; VARIABLES],
+            meanings: registers.iter().map(meaning).collect(),
+        }
+    }
+
+    /// The parameters of an instance, laid out from wire 0.
+    pub fn of_parameters(parameters: &[Parameter], sizes: &[i64]) -> Result<Layout, End> {
+        let mut values = [0; VARIABLES];
+        values[..sizes.len()].copy_from_slice(sizes);
+        let mut meanings = Vec::with_capacity(parameters.len());
+        let mut used = 0;
+        for parameter in parameters {
+            let first = Wire(used as u16);
+            let size = match &parameter.size {
+                None => 1,
+                Some(size) => evaluate(&size.index, &values, parameter.place)?,
+            };
+            if size < 0 {
+                stuck("a parameter's size is below 0");
+            }
+            used += size;
+            if used > WIRES {
+                return refuse(23, parameter.place);
+            }
+            meanings.push(match parameter.size {
+                None => Meaning::Wire(first),
+                Some(_) => Meaning::Wires {
+                    first,
+                    size: size as u16,
+                },
+            });
+        }
+        Ok(Layout { values, meanings })
+    }
+}
+
+/// The values and meanings of the body that is being run.
+struct Frame<'m> {
+    values: [i64; VARIABLES],
+    meanings: &'m [Meaning],
+}
+
+/// A run under way.
+pub struct Machine<'r> {
+    program: &'r Program,
+    output: &'r mut [u8],
+    limit: u64,
+    records: u64,
+    steps: u64,
+    /// The condition and its bit, already where a record has them.
+    condition: u64,
+}
+
+impl<'r> Machine<'r> {
+    /// A machine before its first step.
+    pub fn new(program: &'r Program, limit: u64, output: &'r mut [u8]) -> Machine<'r> {
+        Machine {
+            program,
+            output,
+            limit,
+            records: 0,
+            steps: 0,
+            condition: 0,
+        }
+    }
+
+    /// Runs a list to its end, or to the first thing that ends it.
+    pub fn run(mut self, list: &[Statement], layout: &Layout) -> Outcome {
+        let mut frame = Frame {
+            values: layout.values,
+            meanings: &layout.meanings,
+        };
+        let ended = self.list(list, &mut frame, Direction::Forward);
+        let (number, place) = match ended {
+            Ok(()) => (0, 0),
+            Err(end) => (end.number, end.place),
+        };
+        Outcome {
+            number,
+            place,
+            records: self.records,
+            steps: self.steps,
+        }
+    }
+
+    /// Runs statement by statement, backward when reversed.
+    fn list(
+        &mut self,
+        list: &[Statement],
+        frame: &mut Frame,
+        direction: Direction,
+    ) -> Result<(), End> {
+        match direction {
+            Direction::Forward => {
+                for statement in list {
+                    self.statement(statement, frame, direction)?;
+                }
+            }
+            Direction::Backward => {
+                for statement in list.iter().rev() {
+                    self.statement(statement, frame, direction)?;
+                }
+            }
+        }
+        Ok(())
+    }
+
+    /// Enters one statement.
+    fn statement(
+        &mut self,
+        statement: &Statement,
+        frame: &mut Frame,
+        direction: Direction,
+    ) -> Result<(), End> {
+        let place = statement.place;
+        self.step(place)?;
+        match &statement.action {
+            Action::Gate(gate, wire) => {
+                let wire = frame.wire(wire, place)?;
+                self.record(place, gate_op(*gate, direction), wire.0, 0)
+            }
+            Action::Cx(control, target) => {
+                let control = frame.wire(control, place)?;
+                let target = frame.wire(target, place)?;
+                if control == target {
+                    return refuse(25, place);
+                }
+                self.record(place, 4, control.0, target.0)
+            }
+            Action::Measure(wire, bit) => {
+                let wire = frame.wire(wire, place)?;
+                let bit = frame.bit(bit, place)?;
+                self.record(place, 5, wire.0, bit.0)
+            }
+            Action::Reset(wire) => {
+                let wire = frame.wire(wire, place)?;
+                self.record(place, 6, wire.0, 0)
+            }
+            Action::If(value, bit, body) => {
+                let bit = frame.bit(bit, place)?;
+                self.condition = condition(*value, bit);
+                self.list(body, frame, direction)?;
+                self.condition = 0;
+                Ok(())
+            }
+            Action::Call(call) => self.call(call, frame, place, direction),
+            Action::Reverse(body) => self.list(body, frame, direction.flipped()),
+            Action::For(looped) => self.rounds(looped, frame, place, direction),
+        }
+    }
+
+    /// Runs the rounds of a loop.
+    fn rounds(
+        &mut self,
+        looped: &Loop,
+        frame: &mut Frame,
+        place: u32,
+        direction: Direction,
+    ) -> Result<(), End> {
+        let low = evaluate(&looped.low, &frame.values, place)?;
+        let high = evaluate(&looped.high, &frame.values, place)?;
+        let variable = usize::from(looped.variable);
+        let mut round = |value: i64| {
+            self.step(place)?;
+            frame.values[variable] = value;
+            self.list(&looped.body, frame, direction)
+        };
+        match direction {
+            Direction::Forward => (low..=high).try_for_each(&mut round),
+            Direction::Backward => (low..=high).rev().try_for_each(&mut round),
+        }
+    }
+
+    /// Evaluates a call's sizes and arguments, and runs the body with them.
+    fn call(
+        &mut self,
+        call: &Call,
+        frame: &Frame,
+        place: u32,
+        direction: Direction,
+    ) -> Result<(), End> {
+        let mut values = [0; VARIABLES];
+        for (value, index) in values.iter_mut().zip(&call.sizes) {
+            *value = evaluate(index, &frame.values, place)?;
+        }
+        let mut meanings = [Meaning::Wire(Wire(0)); PARAMETERS];
+        for (meaning, argument) in meanings.iter_mut().zip(&call.arguments) {
+            *meaning = frame.argument(argument, place)?;
+        }
+        let mut called = Frame {
+            values,
+            meanings: &meanings[..call.arguments.len()],
+        };
+        let body = &self.program.families[usize::from(call.family)].body;
+        self.list(body, &mut called, direction)
+    }
+
+    /// Takes one step.
+    fn step(&mut self, place: u32) -> Result<(), End> {
+        if self.steps == self.limit {
+            return refuse(26, place);
+        }
+        self.steps += 1;
+        Ok(())
+    }
+
+    /// Writes one record.
+    fn record(&mut self, place: u32, op: u8, first: u16, second: u16) -> Result<(), End> {
+        let start = self.records as usize * 8;
+        let Some(slot) = self.output[start..].first_chunk_mut::<8>() else {
+            return refuse(27, place);
+        };
+        let numbers = u64::from(first) << 16 | u64::from(second) << 32;
+        *slot = (u64::from(op) | numbers | self.condition).to_le_bytes();
+        self.records += 1;
+        Ok(())
+    }
+}
+
+impl Frame<'_> {
+    /// The wire that an operand stands for.
+    fn wire(&self, operand: &WireOperand, place: u32) -> Result<Wire, End> {
+        match operand {
+            WireOperand::Whole(number) => match self.meanings[usize::from(*number)] {
+                Meaning::Wire(wire) => Ok(wire),
+                _ => stuck("a whole operand is not one wire"),
+            },
+            WireOperand::Element(number, index) => {
+                let value = evaluate(index, &self.values, place)?;
+                match self.meanings[usize::from(*number)] {
+                    Meaning::Wires { first, size } => Ok(Wire(first.0 + inside(value, size))),
+                    _ => stuck("an element's operand is no quantum register"),
+                }
+            }
+        }
+    }
+
+    /// The bit that an operand stands for.
+    fn bit(&self, operand: &BitOperand, place: u32) -> Result<Bit, End> {
+        let BitOperand(number, index) = operand;
+        let value = evaluate(index, &self.values, place)?;
+        match self.meanings[usize::from(*number)] {
+            Meaning::Bits { first, size } => Ok(Bit(first.0 + inside(value, size))),
+            _ => stuck("an element's operand is no classical register"),
+        }
+    }
+
+    /// What a call hands on.
+    fn argument(&self, argument: &Argument, place: u32) -> Result<Meaning, End> {
+        match argument {
+            Argument::Wire(wire) => Ok(Meaning::Wire(self.wire(wire, place)?)),
+            Argument::Register(number) => Ok(self.meanings[usize::from(*number)]),
+        }
+    }
+}
+
+/// The op byte of a gate, which a backward run turns around.
+fn gate_op(gate: Gate, direction: Direction) -> u8 {
+    match (gate, direction) {
+        (Gate::H, _) => 1,
+        (Gate::T, Direction::Forward) | (Gate::Tdg, Direction::Backward) => 2,
+        (Gate::Tdg, Direction::Forward) | (Gate::T, Direction::Backward) => 3,
+    }
+}
+
+/// A condition as it stands in a record.
+fn condition(value: bool, bit: Bit) -> u64 {
+    let kind = if value { 2 } else { 1 };
+    kind << 8 | u64::from(bit.0) << 48
+}
+
+/// The value of an index, with every node in range.
+fn evaluate(index: &Index, values: &[i64; VARIABLES], place: u32) -> Result<i64, End> {
+    value(index, values).or_else(|OutOfRange| refuse(24, place))
+}
+
+/// The value of an index as a tree, left side first.
+fn value(index: &Index, values: &[i64; VARIABLES]) -> Result<i64, OutOfRange> {
+    match index {
+        Index::Literal(number) => Ok(i64::from(*number)),
+        Index::Variable(number) => in_range(values[usize::from(*number)]),
+        Index::Sum(sides) => in_range(value(&sides[0], values)? + value(&sides[1], values)?),
+        Index::Difference(sides) => in_range(value(&sides[0], values)? - value(&sides[1], values)?),
+        Index::Product(sides) => in_range(value(&sides[0], values)? * value(&sides[1], values)?),
+    }
+}
+
+/// An element's number, which typing shows to lie inside the register.
+fn inside(value: i64, size: u16) -> u16 {
+    match u16::try_from(value) {
+        Ok(number) if number < size => number,
+        _ => stuck("an element lies outside its register"),
+    }
+}
+
+/// An accepted program can never come here: only a fault of this crate could.
+#[cold]
+fn stuck(what: &str) -> ! {
+    unreachable!("the reference accepted a program on which the machine is stuck: {what}")
+}
