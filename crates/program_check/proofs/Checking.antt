@@ -1,0 +1,105 @@
+-- What the fields at the top, one after the other, say of the definitions. Assumes nothing.
+use mathlib.Core.Path.{_≡_, refl, sym, ap, _∙_}
+use mathlib.Core.List.{List, [], _∷_, map}
+use mathlib.Core.Bool.{Bool, true, false}
+use Prim.Native.Nat.{ℕ, _+_, _≤_, _<_}
+use native.Mathlib.Omega.{arith}
+use borrow.Author.Tests.{le-leb, lt-leb}
+use lib.IntN.{ℤ, pos}
+use lib.ListN.{length, getD, replicate, length-replicate, getD-replicate}
+use lib.Seq.{slice, take-length}
+use Rattle.language.specs.Tree.{qreg, creg}
+use Rattle.language.specs.Read.{Field, field, badHeader, fields, choose, readFamily, readRegister, readTop, read}
+use Rattle.language.specs.Check.{Checked, good, refused, _>>=_, _>>_, require, Declared, checkTop, checkTops, check}
+use Rattle.language.specs.Result.{Result, verdict, checkProgram, checkResult}
+use Rattle.fields.specs.Header.{fieldsAt}
+use Rattle.fields.proofs.Reading.{Wholly}
+use Rattle.forms.specs.Flat.{Kept}
+use Rattle.forms.specs.Rows.{Rows}
+use Rattle.forms.proofs.Laws.{zeros-kept}
+use Rattle.checker.specs.Operands.{tabulated}
+use Rattle.program_check.specs.Declaring.{Table, declaredAt, Holds, nothing, stepTold, StepHolds, resultTold}
+use Rattle.program_check.specs.declared.Totals.{Totals}
+use Rattle.program_check.specs.declared.Step.{Step}
+use Rattle.program_check.specs.declared.Step.the-variants.{Going, Stopped}
+use Rattle.program_check.specs.declared.Outcome.the-variants.{Accepted, Turned}
+
+-- ---- a top field by its tag
+
+module _ (d : Declared) (at next tag : ℕ) (p : List ℕ) where
+  abbrev topped : Checked Declared
+  topped = checkTop (readTop (field at tag (slice (at + 3) next p))) d
+
+  pub top-family : tag ≡ 1 → checkTop (readFamily at (slice (at + 3) next p)) d ≡ topped
+  unfolding readTop choose
+  top-family e = sym (ap (λ (t : ℕ). checkTop (readTop (field at t (slice (at + 3) next p))) d) e)
+
+  pub top-qreg : tag ≡ 2 → checkTop (readRegister qreg at (slice (at + 3) next p)) d ≡ topped
+  unfolding readTop choose
+  top-qreg e = sym (ap (λ (t : ℕ). checkTop (readTop (field at t (slice (at + 3) next p))) d) e)
+
+  pub top-creg : tag ≡ 3 → checkTop (readRegister creg at (slice (at + 3) next p)) d ≡ topped
+  unfolding readTop choose
+  top-creg e = sym (ap (λ (t : ℕ). checkTop (readTop (field at t (slice (at + 3) next p))) d) e)
+
+-- ---- the fields from a position on
+
+abbrev pub topsAt : List ℕ → (at to : ℕ) → Declared → Checked Declared
+topsAt p at to d = checkTops (map readTop (fieldsAt p at to)) d
+
+module _ (p : List ℕ) (at to : ℕ) (d : Declared) where
+  pub tops-end : fieldsAt p at to ≡ [] → resultTold Accepted ≡ verdict (topsAt p at to d)
+  unfolding checkTops resultTold verdict
+  tops-end e = sym (ap (λ (fs : List Field). verdict (checkTops (map readTop fs) d)) e)
+
+  pub tops-cut : fieldsAt p at to ≡ (badHeader at ∷ []) → resultTold (Turned 2 at) ≡ verdict (topsAt p at to d)
+  unfolding checkTops checkTop readTop resultTold verdict _>>=_
+  tops-cut e = sym (ap (λ (fs : List Field). verdict (checkTops (map readTop fs) d)) e)
+
+  module _ (tag next : ℕ) (w : Wholly p at to tag next) (s : Step) (arities counts kinds : List ℕ) (sizes : List (List ℤ))
+      (e : stepTold s arities counts kinds sizes ≡ checkTop (readTop (field at tag (slice (at + 3) next p))) d) where
+    tops-next : topsAt p at to d ≡ (stepTold s arities counts kinds sizes >>= topsAt p next to)
+    unfolding checkTops
+    tops-next = ap (λ (fs : List Field). checkTops (map readTop fs) d) (w .first) ∙ ap (λ (c : Checked Declared). c >>= topsAt p next to) (sym e)
+
+    pub tops-stop : (n q : ℕ) → s ≡ Stopped n q → resultTold (Turned n q) ≡ verdict (topsAt p at to d)
+    unfolding resultTold verdict stepTold _>>=_
+    tops-stop n q u = sym (ap verdict (tops-next ∙ ap (λ (x : Step). stepTold x arities counts kinds sizes >>= topsAt p next to) u))
+
+    pub tops-go : (t : Totals) → s ≡ Going t → topsAt p at to d ≡ topsAt p next to (declaredAt t arities counts kinds sizes)
+    unfolding stepTold _>>=_
+    tops-go t u = tops-next ∙ ap (λ (x : Step). stepTold x arities counts kinds sizes >>= topsAt p next to) u
+
+pub step-holds : (s : Step) (t : Totals) (arities counts kinds : List ℕ) (sizes : List (List ℤ)) → s ≡ Going t → StepHolds s arities counts kinds sizes → Holds t arities counts kinds sizes
+step-holds s t arities counts kinds sizes e h = rw e at h
+
+-- ---- the start
+
+pub tops-all : (p arities counts kinds : List ℕ) (sizes : List (List ℤ)) → check (read p) ≡ topsAt p 0 (length p) (declaredAt nothing arities counts kinds sizes)
+unfolding check read fieldsAt tabulated
+tops-all p arities counts kinds sizes = sym (ap (λ (l : List ℕ). checkTops (map readTop (fields 0 l)) (declaredAt nothing arities counts kinds sizes)) (take-length p))
+
+pub zeros-hold : Holds nothing (replicate 255 0) (replicate 255 0) (replicate 2295 0) (replicate 2295 (replicate 13 (pos 0)))
+zeros-hold = record {
+  table = record {
+    kindsLong = length-replicate {A = ℕ} 2295 0;
+    sizesLong = length-replicate 2295 (replicate 13 (pos 0));
+    sizeRows = record { enough = omega (arith, length-replicate 2295 (replicate 13 (pos 0))); each = λ i h. rw (getD-replicate 2295 i (replicate 13 (pos 0)) [] h) zeros-kept };
+  };
+  arityRows = length-replicate {A = ℕ} 255 0;
+  countRows = length-replicate {A = ℕ} 255 0;
+  mostFamilies = omega arith;
+  mostRegisters = omega arith;
+  mostQubits = omega arith;
+  mostBits = omega arith;
+  few = λ k h. absurd (omega arith);
+  some = λ k h. absurd (omega arith);
+}
+
+pub program-long : (p : List ℕ) → 65535 < length p → resultTold (Turned 1 0) ≡ checkResult p
+unfolding checkResult checkProgram verdict resultTold require _>>_
+program-long p h = sym (rw (lt-leb (length p) 65535 h))
+
+pub program-short : (p : List ℕ) → length p ≤ 65535 → verdict (check (read p)) ≡ checkResult p
+unfolding checkResult checkProgram require _>>_
+program-short p h = sym (rw (le-leb (length p) 65535 h))

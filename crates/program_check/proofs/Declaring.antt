@@ -1,0 +1,290 @@
+-- What the tables and the answers of the declaring part say of the definitions. Assumes nothing.
+use mathlib.Core.Path.{_≡_, refl, sym, ap, _∙_}
+use mathlib.Core.List.{List, [], _∷_, _++_, append-assoc}
+use mathlib.Core.Bool.{Bool, true, false, _&&_}
+use Prim.Native.Nat.{ℕ, zero, suc, _+_, _-_, _*_, _≤_, _<_}
+use native.Mathlib.Omega.{arith}
+use native.Mathlib.Nat.{zero-add}
+use native.Mathlib.Numerals.{add-one}
+use lib.Dec.{eqb, leb, ltb}
+use borrow.Author.Tests.{eqb-true, eqb-false, ne-eqb, le-leb, lt-leb, le-ltb, lt-ltb, leb-true, ltb-true}
+use lib.IntN.{ℤ, pos}
+use lib.ListN.{length, getD, drop, set, length-set, replicate, length-replicate, getD-replicate}
+use lib.Seq.{slice, getD-set-same, getD-set-other}
+use types.Run.{OneOf}
+use denote.Enum.Declared.{tagOf}
+use Rattle.language.specs.Tree.{badType, number, missing, family}
+use Rattle.language.specs.Read.{Field, due, fields, readType, typesOf, statementsBy, outerStatement, familyOf, readFamily}
+use Rattle.language.specs.Form.{Form, constantForm}
+use Rattle.language.specs.Check.{Checked, good, refused, _>>=_, _>>_, require, checkNumber, Kind, qubit, quantum, classical, Signature, kindOf, kindsOf, checkStatements, Declared, familyScope, withFamily, withQubits, withBits, checkTop}
+use Rattle.language.specs.Check as C
+use Rattle.fields.specs.Header.{fieldsAt}
+use Rattle.fields.proofs.Reading.{one-byte, slice-none}
+use Rattle.forms.specs.Flat.{Kept, asForm}
+use Rattle.forms.specs.Rows.{Rows, loopsOf}
+use Rattle.forms.proofs.Laws.{fewer, zeros-kept}
+use Rattle.checker.specs.Indexes.{Passed}
+use Rattle.checker.specs.Operands.{kindBy, kindAt, kindsAt, tabulated, scopeWith, told}
+use Rattle.checker.specs.Statements.{signatureAt, Beyond, PastCount}
+use Rattle.checker.specs.Statements.{scopeFull, Declares}
+use Rattle.checker.specs.Operands.{Right}
+use Rattle.checker.specs.Tops.{kept, parameterTold, ParameterPast, numberTold, registerMeant, sizeIn, endIn}
+use Rattle.checker.specs.declared.Scope.{Scope}
+use Rattle.checker.specs.declared.Parameter.{Parameter}
+use Rattle.checker.specs.declared.Parameter.the-variants.{Single, Many, Bad}
+use Rattle.checker.specs.declared.Read.{Read}
+use Rattle.checker.specs.declared.Read.the-variants.{Upto, Refused}
+use Rattle.checker.proofs.Read.{the-type}
+use Rattle.checker.proofs.Operating.{row-more, rows-same, not-first}
+use Rattle.checker.proofs.Stating.{rows-set}
+use Rattle.program_check.specs.Declaring.{Table, Apart, rowTold, rowsTold, firstIn, secondIn, countsMeant, countsTold, bodyMeant, declaredAt, Holds, stepTold, RegisterSet}
+use Rattle.program_check.specs.declared.Totals.{Totals}
+use Rattle.program_check.specs.declared.Step.{Step}
+use Rattle.program_check.specs.declared.Step.the-variants.{Going, Stopped}
+
+-- ---- rows of the table of operands
+
+pub apart-none : (first count : ℕ) (kinds : List ℕ) (sizes : List (List ℤ)) → Table kinds sizes → Apart first count kinds sizes kinds sizes
+apart-none first count kinds sizes t = record { table = t; below = λ j h. refl; above = λ j h. refl }
+
+module _ (row : ℕ) (kinds : List ℕ) (sizes : List (List ℤ)) (t : Table kinds sizes) (h : row < 2295) (b : ℕ) where
+  pub apart-kind : Apart row 1 kinds sizes (set kinds row b) sizes
+  apart-kind = record {
+    table = record { kindsLong = length-set kinds row b ∙ t .kindsLong; sizesLong = t .sizesLong; sizeRows = t .sizeRows };
+    below = λ j k. ap (λ (x : ℕ). kindBy x (asForm (getD sizes j []))) (getD-set-other kinds row j b 0 (λ e. omega arith));
+    above = λ j k. ap (λ (x : ℕ). kindBy x (asForm (getD sizes j []))) (getD-set-other kinds row j b 0 (λ e. omega arith));
+  }
+
+  pub row-kind : kindAt row (set kinds row b) sizes ≡ kindBy b (asForm (getD sizes row []))
+  row-kind = let q = t .kindsLong in ap (λ (x : ℕ). kindBy x (asForm (getD sizes row []))) (getD-set-same kinds row b 0 (omega arith))
+
+  module _ (l : List ℤ) (k : Kept l) where
+    pub apart-both : Apart row 1 kinds sizes (set kinds row b) (set sizes row l)
+    apart-both = record {
+      table = record { kindsLong = length-set kinds row b ∙ t .kindsLong; sizesLong = length-set sizes row l ∙ t .sizesLong; sizeRows = rows-set sizes 2295 row l (t .sizeRows) k };
+      below = λ j q. other j (λ e. omega arith);
+      above = λ j q. other j (λ e. omega arith);
+    }
+      where
+        other : (j : ℕ) → (j ≡ row → ⊥) → kindAt j (set kinds row b) (set sizes row l) ≡ kindAt j kinds sizes
+        other j n = λ i. kindBy (getD-set-other kinds row j b 0 n i) (asForm (getD-set-other sizes row j l [] n i))
+
+    pub row-both : kindAt row (set kinds row b) (set sizes row l) ≡ kindBy b (asForm l)
+    row-both =
+        let q = t .kindsLong in
+        let p = t .sizesLong in
+        λ i. kindBy (getD-set-same kinds row b 0 (omega arith) i) (asForm (getD-set-same sizes row l [] (omega arith) i))
+
+-- one row more
+pub apart-more : (first count j : ℕ) {k₀ : List ℕ} {s₀ : List (List ℤ)} {k₁ : List ℕ} {s₁ : List (List ℤ)} {k₂ : List ℕ} {s₂ : List (List ℤ)}
+    → j < count → Apart first count k₀ s₀ k₁ s₁ → Apart (first + j) 1 k₁ s₁ k₂ s₂ → Apart first count k₀ s₀ k₂ s₂
+apart-more first count j h a b = record {
+  table = b .table;
+  below = λ i q. b .below i (omega arith) ∙ a .below i q;
+  above = λ i q. b .above i (omega arith) ∙ a .above i q;
+}
+
+-- so many rows are the same where no row of theirs changes
+pub rows-below : (first count n i : ℕ) {k₀ : List ℕ} {s₀ : List (List ℤ)} {k₁ : List ℕ} {s₁ : List (List ℤ)}
+    → Apart first count k₀ s₀ k₁ s₁ → i + n ≤ first → kindsAt n i k₁ s₁ ≡ kindsAt n i k₀ s₀
+rows-below first count n i {k₀} {s₀} {k₁} {s₁} a h = rows-same (λ j. kindAt j k₁ s₁) (λ j. kindAt j k₀ s₀) n i (λ j p q. a .below j (omega arith))
+
+pub rows-above : (first count n i : ℕ) {k₀ : List ℕ} {s₀ : List (List ℤ)} {k₁ : List ℕ} {s₁ : List (List ℤ)}
+    → Apart first count k₀ s₀ k₁ s₁ → first + count ≤ i → kindsAt n i k₁ s₁ ≡ kindsAt n i k₀ s₀
+rows-above first count n i {k₀} {s₀} {k₁} {s₁} a h = rows-same (λ j. kindAt j k₁ s₁) (λ j. kindAt j k₀ s₀) n i (λ j p q. a .above j (omega arith))
+
+-- ---- the types of parameters, one after the other
+
+pub row-stops : (r : Read) (count first row : ℕ) (kinds : List ℕ) (sizes : List (List ℤ)) (next : Kind → Checked (List Kind)) → OneOf (1 ∷ []) (tagOf the-type r) → rowsTold r count first kinds sizes ≡ (rowTold r row kinds sizes >>= next)
+unfolding rowsTold rowTold _>>=_
+row-stops (Upto n) count first row kinds sizes next h = not-first h
+row-stops (Refused n p) count first row kinds sizes next h = refl
+
+pub rows-stop : (r : Read) (count first : ℕ) (kinds : List ℕ) (sizes : List (List ℤ)) (next : List Kind → Checked (List Kind)) → OneOf (1 ∷ []) (tagOf the-type r) → rowsTold r count first kinds sizes ≡ (rowsTold r count first kinds sizes >>= next)
+unfolding rowsTold _>>=_
+rows-stop (Upto n) count first kinds sizes next h = not-first h
+rows-stop (Refused n p) count first kinds sizes next h = refl
+
+module _ (s : C.Scope) (place n : ℕ) (p : List ℕ) (at to : ℕ) (r : Read) (row : ℕ) (kinds : List ℕ) (sizes : List (List ℤ)) (e : rowTold r row kinds sizes ≡ kindOf s (due readType (badType 4 place) (fieldsAt p at to))) where
+  abbrev typesHere : Checked (List Kind)
+  typesHere = kindsOf s (typesOf place (suc n) (fieldsAt p at to))
+
+  abbrev typesAfter : Kind → Checked (List Kind)
+  typesAfter k = kindsOf s (typesOf place n (drop 1 (fieldsAt p at to))) >>= λ ks. good (k ∷ ks)
+
+  types-are : typesHere ≡ (rowTold r row kinds sizes >>= typesAfter)
+  unfolding kindsOf typesOf
+  types-are = ap (λ (c : Checked Kind). c >>= typesAfter) (sym e)
+
+  pub types-stop : (count first : ℕ) → OneOf (1 ∷ []) (tagOf the-type r) → rowsTold r count first kinds sizes ≡ typesHere
+  types-stop count first h = row-stops r count first row kinds sizes typesAfter h ∙ sym types-are
+
+  pub types-go : (next : ℕ) → r ≡ Upto next → Passed p at to next → typesHere ≡ (kindsOf s (typesOf place n (fieldsAt p next to)) >>= λ ks. good (kindAt row kinds sizes ∷ ks))
+  unfolding rowTold _>>=_
+  types-go next u v =
+      types-are ∙ ap (λ (x : Read). rowTold x row kinds sizes >>= typesAfter) u
+      ∙ ap (λ (fs : List Field). kindsOf s (typesOf place n fs) >>= λ ks. good (kindAt row kinds sizes ∷ ks)) (v .rest)
+
+-- the kinds so far, and one more
+pub more-kinds : (c : Checked (List Kind)) (first count j : ℕ) {k₀ : List ℕ} {s₀ : List (List ℤ)} {k₁ : List ℕ} {s₁ : List (List ℤ)} → Apart (first + j) 1 k₀ s₀ k₁ s₁
+    → ((c >>= λ ks. good (kindAt (first + j) k₁ s₁ ∷ ks)) >>= λ rest. good (kindsAt j first k₀ s₀ ++ rest)) ≡ (c >>= λ rest. good (kindsAt (j + 1) first k₁ s₁ ++ rest))
+unfolding _>>=_
+more-kinds (refused n p) first count j a = refl
+more-kinds (good ks) first count j {k₀} {s₀} {k₁} {s₁} a =
+    ap good
+    (ap (λ (l : List Kind). l ++ (kindAt (first + j) k₁ s₁ ∷ ks)) (sym (rows-below (first + j) 1 j first a (omega arith)))
+    ∙ sym (append-assoc (kindsAt j first k₁ s₁) (kindAt (first + j) k₁ s₁ ∷ []) ks)
+    ∙ ap (λ (l : List Kind). l ++ ks) (sym (row-more (λ i. kindAt i k₁ s₁) j first)))
+
+pub no-kinds : (c : Checked (List Kind)) (first : ℕ) (kinds : List ℕ) (sizes : List (List ℤ)) → c ≡ (c >>= λ rest. good (kindsAt 0 first kinds sizes ++ rest))
+unfolding _>>=_ tabulated
+no-kinds (good ks) first kinds sizes = refl
+no-kinds (refused n p) first kinds sizes = refl
+
+pub all-kinds : (s : C.Scope) (place : ℕ) (fs : List Field) (ks : List Kind) → (kindsOf s (typesOf place 0 fs) >>= λ rest. good (ks ++ rest)) ≡ good ks
+unfolding kindsOf typesOf _>>=_
+all-kinds s place fs ks = ap good (append-nil ks)
+  where
+    append-nil : (xs : List Kind) → xs ++ [] ≡ xs
+    append-nil [] = refl
+    append-nil (x ∷ xs) = ap (λ (y : List Kind). x ∷ y) (append-nil xs)
+
+-- ---- the numbers of a family
+
+module _ (q families : ℕ) (content : List ℕ) where
+  pub counts-many : 255 ≤ families → refused 6 q ≡ countsMeant q families content
+  unfolding require _>>_
+  counts-many h = sym (rw (le-ltb families 255 h))
+
+  module _ (h : families < 255) where
+    pub counts-none : content ≡ [] → refused 4 q ≡ countsMeant q families content
+    unfolding require _>>_ _>>=_ firstIn checkNumber
+    counts-none e = sym (rw (lt-ltb families 255 h, e))
+
+    module _ (m : ℕ) (more : List ℕ) (e : content ≡ (m ∷ more)) where
+      counts-first : countsMeant q families content ≡ (require 6 q (leb m 4) >> (checkNumber q (secondIn (m ∷ more)) >>= λ p. (require 6 q (leb 1 p && leb p 8) >> good (m, p))))
+      unfolding require _>>_ _>>=_ firstIn checkNumber
+      counts-first = rw (lt-ltb families 255 h, e)
+
+      pub counts-over : 4 < m → refused 6 q ≡ countsMeant q families content
+      unfolding require _>>_
+      counts-over k = sym (counts-first ∙ rw (lt-leb m 4 k))
+
+      module _ (k : m ≤ 4) where
+        pub counts-one : more ≡ [] → refused 4 q ≡ countsMeant q families content
+        unfolding require _>>_ _>>=_ secondIn checkNumber
+        counts-one z = sym (counts-first ∙ rw (le-leb m 4 k, z))
+
+        module _ (p : ℕ) (rest : List ℕ) (z : more ≡ (p ∷ rest)) where
+          counts-both : countsMeant q families content ≡ (require 6 q (leb 1 p && leb p 8) >> good (m, p))
+          unfolding require _>>_ _>>=_ secondIn checkNumber
+          counts-both = counts-first ∙ rw (le-leb m 4 k, z)
+
+          pub counts-zero : p ≡ 0 → refused 6 q ≡ countsMeant q families content
+          unfolding require _>>_
+          counts-zero y = sym (counts-both ∙ rw (lt-leb 1 p (omega arith)))
+
+          pub counts-eight : (p ≡ 0 → ⊥) → 8 < p → refused 6 q ≡ countsMeant q families content
+          unfolding require _>>_
+          counts-eight y x = sym (counts-both ∙ rw (le-leb 1 p (omega arith), lt-leb p 8 x))
+
+          pub counts-good : (p ≡ 0 → ⊥) → p ≤ 8 → good (m, p) ≡ countsMeant q families content
+          unfolding require _>>_
+          counts-good y x = sym (counts-both ∙ rw (le-leb 1 p (omega arith), le-leb p 8 x))
+
+-- ---- scopes
+
+pub eight-rows : Rows (replicate 8 (replicate 13 (pos 0))) 8
+eight-rows = record {
+  enough = omega (arith, length-replicate 8 (replicate 13 (pos 0)));
+  each = λ i h. rw (getD-replicate 8 i (replicate 13 (pos 0)) [] h) zeros-kept;
+}
+
+pub scope-right : (s : Scope) (kinds : List ℕ) (sizes lows highs : List (List ℤ)) → Table kinds sizes → Rows lows 8 → Rows highs 8
+    → s .variables ≤ 4 → s .loops ≤ 8 → s .first + s .count ≤ 2295 → Right s kinds sizes lows highs
+scope-right s kinds sizes lows highs t l h m n k =
+    let q = t .kindsLong in
+    record { few = m; nested = n; kindRows = omega arith; sizeRows = fewer (t .sizeRows) k; lowRows = l; highRows = h }
+
+pub scope-declares : (s : Scope) (t : Totals) (arities counts kinds : List ℕ) (sizes : List (List ℤ)) → Holds t arities counts kinds sizes
+    → s .families ≡ t .families → 8 * s .families ≤ s .first → Declares s arities counts
+scope-declares s t arities counts kinds sizes h e b =
+    let x = h .arityRows in
+    let y = h .countRows in
+    let z = h .mostFamilies in
+    record { arityRows = omega arith; countRows = omega arith; below = b; few = λ k q. h .few k (omega arith); some = λ k q. h .some k (omega arith) }
+
+-- the scope at the top
+abbrev pub topRows : Totals → Scope
+topRows t = record { families = t .families; first = 2040; count = t .registers; variables = 0; loops = 0 }
+
+pub top-scope : (t : Totals) (arities counts kinds : List ℕ) (sizes lows highs : List (List ℤ)) → C.topScope (declaredAt t arities counts kinds sizes) ≡ scopeFull (topRows t) arities counts kinds sizes lows highs
+unfolding C.topScope loopsOf
+top-scope t arities counts kinds sizes lows highs = refl
+
+-- ---- what a top field comes to
+
+pub kept-refused : (r : Read) (n q : ℕ) (d : Declared) (arities counts kinds : List ℕ) (sizes : List (List ℤ)) → r ≡ Refused n q → stepTold (Stopped n q) arities counts kinds sizes ≡ kept r d
+unfolding kept stepTold
+kept-refused r n q d arities counts kinds sizes e = sym (ap (λ (x : Read). kept x d) e)
+
+pub kept-going : (r : Read) (t : Totals) (arities counts kinds : List ℕ) (sizes : List (List ℤ)) → OneOf (0 ∷ []) (tagOf the-type r) → stepTold (Going t) arities counts kinds sizes ≡ kept r (declaredAt t arities counts kinds sizes)
+unfolding kept stepTold
+kept-going (Upto n) t arities counts kinds sizes h = refl
+kept-going (Refused n p) t arities counts kinds sizes h = absurd (let z : _≡_ {A = ℕ} 1 0 = h in omega arith)
+
+-- ---- registers
+
+pub record Sized (count total n : ℕ) : Type 0 where
+  pub room : count < 255
+  pub fits : total + n ≤ 65535
+
+never : {A : Type 0} {B : Type 0} {a : A} {n p : ℕ} → good a ≡ refused n p → B
+never e = absurd (let z : _≡_ {A = ℕ} 0 1 = cc in omega arith)
+
+module _ (p count total n : ℕ) where
+  fit : (x : ℕ) (b : Bool) → leb (total + x) 65535 ≡ b → count < 255 → (c : Checked (Unit {0})) → good n ≡ (require 7 p b >> (c >> good x)) → Sized count total n
+  unfolding require _>>_
+  fit x true q h (good u) e = let z : n ≡ x = cc in let y = leb-true (total + x) 65535 q in record { room = h; fits = omega arith }
+  fit x true q h (refused a b) e = never e
+  fit x false q h c e = never e
+
+  numbers : (x : Checked ℕ) → count < 255 → (c : Checked (Unit {0})) → good n ≡ (x >>= λ m. (require 7 p (leb (total + m) 65535) >> (c >> good m))) → Sized count total n
+  unfolding _>>=_
+  numbers (good x) h c e = fit x (leb (total + x) 65535) refl h c e
+  numbers (refused a b) h c e = never e
+
+  many : (b : Bool) → ltb count 255 ≡ b → (x : Checked ℕ) (c : Checked (Unit {0})) → good n ≡ (require 6 p b >> (x >>= λ m. (require 7 p (leb (total + m) 65535) >> (c >> good m)))) → Sized count total n
+  unfolding require _>>_
+  many true q x c e = numbers x (ltb-true count 255 q) c e
+  many false q x c e = never e
+
+pub size-fits : (r : Read) (n p count total : ℕ) (content : List ℕ) → r ≡ Upto n → numberTold r ≡ registerMeant p count total content → Sized count total n
+unfolding numberTold
+size-fits r n p count total content u e = many p count total n (ltb count 255) refl (checkNumber p (sizeIn content)) (C.noLeftover p (endIn content)) (sym (ap numberTold u) ∙ e)
+
+-- ---- the type of one parameter
+
+module _ (r : Parameter) (n q : ℕ) (l : List ℤ) (row : ℕ) (kinds : List ℕ) (sizes : List (List ℤ)) (t : Table kinds sizes) (h : row < 2295) where
+  pub typed-single : r ≡ Single n → rowTold (Upto n) row (set kinds row 0) sizes ≡ parameterTold r l
+  unfolding rowTold parameterTold kindBy
+  typed-single e = ap good (row-kind row kinds sizes t h 0) ∙ sym (ap (λ (x : Parameter). parameterTold x l) e)
+
+  pub typed-many : r ≡ Many n → Kept l → rowTold (Upto n) row (set kinds row 1) (set sizes row l) ≡ parameterTold r l
+  unfolding rowTold parameterTold kindBy
+  typed-many e k = ap good (row-both row kinds sizes t h 1 l k) ∙ sym (ap (λ (x : Parameter). parameterTold x l) e)
+
+  pub typed-bad : r ≡ Bad n q → rowTold (Refused n q) row kinds sizes ≡ parameterTold r l
+  unfolding rowTold parameterTold
+  typed-bad e = sym (ap (λ (x : Parameter). parameterTold x l) e)
+
+module _ (p : List ℕ) (at to : ℕ) (r : Parameter) (l : List ℤ) (n : ℕ) (h : ParameterPast p at to r l) where
+  pub past-single : r ≡ Single n → Passed p at to n
+  past-single e = rw e at h
+
+  pub past-many : r ≡ Many n → Passed p at to n × Kept l
+  past-many e = rw e at h
+
+pub register-stops : (r : Read) (kind count total : ℕ) (k₀ : List ℕ) (s₀ : List (List ℤ)) (k₁ : List ℕ) (s₁ : List (List ℤ)) → OneOf (1 ∷ []) (tagOf the-type r) → RegisterSet r kind count total k₀ s₀ k₁ s₁
+register-stops (Upto n) kind count total k₀ s₀ k₁ s₁ h = not-first h
+register-stops (Refused n p) kind count total k₀ s₀ k₁ s₁ h = tt

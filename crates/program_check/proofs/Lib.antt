@@ -1,0 +1,3 @@
+pub mod Declaring
+pub mod Entering
+pub mod Checking
