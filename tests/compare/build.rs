@@ -9,6 +9,8 @@ use std::path::{Path, PathBuf};
 
 /// The calls that the archive may export.
 const CALLS: [&str; 3] = ["check", "instance", "run"];
+/// An archive starts with 8 bytes of its own and the header of its symbol list.
+const LIST: usize = 8 + 60;
 
 /// The folder in which the archive is looked for.
 fn folder() -> PathBuf {
@@ -21,27 +23,25 @@ fn folder() -> PathBuf {
     }
 }
 
-/// Whether the archive's bytes hold the name of a call as a whole word.
-fn exports(archive: &[u8], call: &str) -> bool {
-    let name = format!("\0metaqasm_{call}\0");
-    archive
-        .windows(name.len())
-        .any(|window| window == name.as_bytes())
+/// The names in the archive's symbol list, or none where it has no such list.
+fn symbols(archive: &[u8]) -> Option<Vec<&[u8]>> {
+    if !archive.starts_with(b"!<arch>\n/ ") {
+        return None;
+    }
+    let count = archive.get(LIST..LIST + 4)?;
+    let count = u32::from_be_bytes(count.try_into().ok()?) as usize;
+    let names = archive.get(LIST + 4 + 4 * count..)?;
+    Some(names.split(|&byte| byte == 0).take(count).collect())
 }
 
-/// Whether the archive's list of symbols starts with the name of a call.
-fn first_symbol(archive: &[u8], call: &str) -> bool {
-    // The list follows its count, the count's offsets and no closing zero.
-    let start = 8 + 60;
-    let Some(count) = archive.get(start..start + 4) else {
-        return false;
+/// The calls that the archive exports.
+fn exported(archive: &[u8]) -> Vec<&'static str> {
+    let Some(symbols) = symbols(archive) else {
+        println!("cargo::warning=the library's archive has no list of symbols");
+        return Vec::new();
     };
-    let count = u32::from_be_bytes([count[0], count[1], count[2], count[3]]);
-    let names = start + 4 + 4 * count as usize;
-    let name = format!("metaqasm_{call}\0");
-    archive
-        .get(names..)
-        .is_some_and(|rest| rest.starts_with(name.as_bytes()))
+    let has = |call: &&str| symbols.contains(&format!("metaqasm_{call}").as_bytes());
+    CALLS.into_iter().filter(has).collect()
 }
 
 fn main() {
@@ -53,19 +53,17 @@ fn main() {
     let folder = folder();
     let path = folder.join("libmetaqasm.a");
     println!("cargo::rerun-if-changed={}", path.display());
-    let Ok(archive) = std::fs::read(&path) else {
-        return;
+    let calls = match std::fs::read(&path) {
+        Ok(archive) => exported(&archive),
+        Err(_) => Vec::new(),
     };
-    let found: Vec<&str> = CALLS
-        .into_iter()
-        .filter(|call| exports(&archive, call) || first_symbol(&archive, call))
-        .collect();
-    if found.is_empty() {
+    if calls.is_empty() {
+        println!("cargo::warning=no call of the library is compared: there is no archive with one");
         return;
     }
     println!("cargo::rustc-link-search=native={}", folder.display());
     println!("cargo::rustc-link-lib=static=metaqasm");
-    for call in found {
+    for call in calls {
         println!("cargo::rustc-cfg=has_{call}");
     }
 }

@@ -40,14 +40,16 @@ pub struct Answer {
     pub guarded: bool,
 }
 
-/// The byte that stands at a place before a call.
-pub fn pattern(place: usize) -> u8 {
-    (place.wrapping_mul(151) >> 2) as u8 ^ 0xA5
-}
-
 /// So many bytes as they stand before a call.
 pub fn untouched(length: usize) -> Vec<u8> {
-    (0..length).map(pattern).collect()
+    // The bytes repeat after a prime number of them, so that no two records
+    // near each other stand on the same ones.
+    let once: Vec<u8> = (0..251u8)
+        .map(|place| place.wrapping_mul(151) ^ 0xA5)
+        .collect();
+    let mut bytes = once.repeat(length / once.len() + 1);
+    bytes.truncate(length);
+    bytes
 }
 
 /// Asks; none where the library lacks the call.
@@ -56,21 +58,19 @@ pub fn ask(who: Who, question: &Question) -> Option<Answer> {
         Call::Check => 0,
         _ => question.length,
     };
-    let mut buffer = vec![0xC3; GUARD];
-    buffer.extend((0..length).map(pattern));
-    buffer.resize(GUARD + length + GUARD, 0x3C);
+    let (before, after) = ([0xC3; GUARD], [0x3C; GUARD]);
+    let mut buffer = [&before[..], &untouched(length), &after].concat();
     let output = &mut buffer[GUARD..GUARD + length];
     let outcome = match who {
         Who::Reference => Some(ask_reference(question, output)),
         Who::Library => ask_library(question, output),
     }?;
-    let (before, rest) = buffer.split_at(GUARD);
-    let (output, after) = rest.split_at(length);
-    let kept = |bytes: &[u8], value: u8| bytes.iter().all(|&byte| byte == value);
+    let guarded = buffer.starts_with(&before) && buffer.ends_with(&after);
+    buffer.truncate(GUARD + length);
     Some(Answer {
         outcome,
-        output: output.to_vec(),
-        guarded: kept(before, 0xC3) && kept(after, 0x3C),
+        output: buffer.split_off(GUARD),
+        guarded,
     })
 }
 

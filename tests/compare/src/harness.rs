@@ -1,6 +1,6 @@
 //! Comparing answers, and promises that hold of every answer by itself.
 
-use crate::ask::{ask, pattern, Answer, Call, Question, Who};
+use crate::ask::{ask, untouched, Answer, Call, Question, Who};
 use crate::recorded::Recorded;
 use generate::Case;
 use reference::Outcome;
@@ -61,6 +61,55 @@ impl Tally {
     }
 }
 
+/// What a test compares, counting as it goes.
+pub type Work = fn(&mut Tally) -> Result<(), String>;
+
+/// Does a test's work, with or without the library, and says what it counted.
+pub fn hold(with_library: bool, work: Work) {
+    let mut tally = Tally::default();
+    if let Err(message) = work(&mut tally) {
+        panic!("{message}");
+    }
+    println!("{}", tally.line());
+    match with_library {
+        true => assert_eq!(tally.alone, 0, "all answers are compared"),
+        false => assert_eq!(tally.compared, 0, "no answer can be compared"),
+    }
+}
+
+/// A test whose name says whether the library's call is compared.
+#[macro_export]
+macro_rules! compared {
+    ($name:ident, $has:ident, $work:ident) => {
+        mod $name {
+            #[cfg($has)]
+            #[test]
+            fn compared_with_the_library() {
+                $crate::harness::hold(true, super::$work);
+            }
+
+            #[cfg(not($has))]
+            #[test]
+            fn of_the_reference_alone_as_the_archive_lacks_the_call() {
+                $crate::harness::hold(false, super::$work);
+            }
+        }
+    };
+}
+
+/// Does work on a stack of eight mebibytes.
+pub fn on_eight_mebibytes(work: Work, tally: &mut Tally) -> Result<(), String> {
+    let mut counted = *tally;
+    let thread = std::thread::Builder::new()
+        .stack_size(8 << 20)
+        .spawn(move || work(&mut counted).map(|()| counted))
+        .map_err(|error| format!("no thread: {error}"))?;
+    *tally = thread
+        .join()
+        .map_err(|_| "the thread failed".to_string())??;
+    Ok(())
+}
+
 /// Compares both answers to a question; no where the library lacks the call.
 pub fn compare(question: &Question) -> Result<bool, String> {
     let told = |message: String| format!("{message}\n{}", describe(question));
@@ -92,7 +141,11 @@ fn difference(expected: &Answer, answer: &Answer) -> String {
 
 /// A question in a form with which it can be asked again.
 fn describe(question: &Question) -> String {
-    let bytes: Vec<String> = question.program.iter().map(|b| format!("{b:02x}")).collect();
+    let bytes: Vec<String> = question
+        .program
+        .iter()
+        .map(|b| format!("{b:02x}"))
+        .collect();
     format!(
         "call: {:?}\nlimit: {}\noutput bytes: {}\nprogram: {}",
         question.call,
@@ -106,7 +159,9 @@ fn describe(question: &Question) -> String {
 pub fn promises(question: &Question, answer: &Answer) -> Result<(), String> {
     let outcome = &answer.outcome;
     let records = outcome.records as usize;
-    let fits = records.checked_mul(8).is_some_and(|b| b <= answer.output.len());
+    let fits = records
+        .checked_mul(8)
+        .is_some_and(|b| b <= answer.output.len());
     let rules = [
         (answer.guarded, "bytes around the output were changed"),
         (fits, "more records than the output holds"),
@@ -126,8 +181,7 @@ pub fn promises(question: &Question, answer: &Answer) -> Result<(), String> {
     if !written.chunks_exact(8).all(sound_record) {
         return Err("a record has bytes that no record can have".into());
     }
-    let stays = |(place, byte): (usize, &u8)| *byte == pattern(8 * records + place);
-    if !rest.iter().enumerate().all(stays) {
+    if *rest != untouched(answer.output.len())[8 * records..] {
         return Err("output past the last record was changed".into());
     }
     Ok(())

@@ -10,7 +10,7 @@ pub const HAS_RUN: bool = cfg!(has_run);
 /// The result structure of the C interface.
 #[cfg(any(has_check, has_instance, has_run))]
 #[repr(C)]
-struct Result {
+struct Returned {
     number: u32,
     place: u32,
     records: u64,
@@ -18,8 +18,9 @@ struct Result {
 }
 
 #[cfg(any(has_check, has_instance, has_run))]
-impl From<Result> for Outcome {
-    fn from(result: Result) -> Outcome {
+impl From<Returned> for Outcome {
+    /// The same numbers as the reference has them.
+    fn from(result: Returned) -> Outcome {
         Outcome {
             number: result.number,
             place: result.place,
@@ -60,7 +61,7 @@ pub fn status() -> String {
 #[cfg(has_check)]
 pub fn check(program: &[u8]) -> Option<Outcome> {
     extern "C" {
-        fn metaqasm_check(program: *const u8, program_len: usize) -> Result;
+        fn metaqasm_check(program: *const u8, program_len: usize) -> Returned;
     }
     // SAFETY: pointer and length are those of one slice, which outlives the call.
     Some(unsafe { metaqasm_check(program.as_ptr(), program.len()) }.into())
@@ -91,7 +92,7 @@ pub fn instance(
             limit: u64,
             output: *mut u8,
             output_len: usize,
-        ) -> Result;
+        ) -> Returned;
     }
     // SAFETY: pointers and lengths are those of slices that outlive the call,
     // and the output is borrowed by this call alone.
@@ -126,7 +127,7 @@ pub fn run(program: &[u8], limit: u64, output: &mut [u8]) -> Option<Outcome> {
             limit: u64,
             output: *mut u8,
             output_len: usize,
-        ) -> Result;
+        ) -> Returned;
     }
     // SAFETY: pointers and lengths are those of slices that outlive the call,
     // and the output is borrowed by this call alone.

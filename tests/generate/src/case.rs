@@ -22,7 +22,8 @@ pub fn case(seed: u64) -> Case {
     match random.below(100) {
         0..=57 => whole_case(&mut random),
         58..=73 => damaged_tree(&mut random),
-        74..=85 => damaged_bytes(&mut random),
+        74..=83 => damaged_bytes(&mut random),
+        84 | 85 => mixed(&mut random),
         _ => targeted::case(&mut random),
     }
 }
@@ -49,6 +50,16 @@ fn damaged_bytes(random: &mut Random) -> Case {
     let written = typed::program(random);
     let bytes = damage::bytes(&written.fields, random);
     arguments(bytes, &written.families, random)
+}
+
+/// A sound program with any fields behind it.
+fn mixed(random: &mut Random) -> Case {
+    let mut written = typed::program(random);
+    if random.percent(50) {
+        written.fields.clear();
+    }
+    written.fields.extend(damage::soup(3, random));
+    arguments(program(&written.fields), &written.families, random)
 }
 
 /// Arguments that mostly suit the families declared.

@@ -37,6 +37,23 @@ pub fn bytes(fields: &[Field], random: &mut Random) -> Vec<u8> {
     bytes
 }
 
+/// Fields of any tags in each other, with right lengths.
+pub fn soup(depth: usize, random: &mut Random) -> Vec<Field> {
+    let count = random.below(5);
+    let mut fields = Vec::new();
+    for _ in 0..count {
+        let head: Vec<u8> = (0..random.below(3))
+            .map(|_| random.below(3) as u8)
+            .collect();
+        let parts = match depth {
+            0 => vec![],
+            _ => soup(depth - 1, random),
+        };
+        fields.push(Field::new(random.pick(&TAGS), &head, parts));
+    }
+    fields
+}
+
 /// Changes, removes, adds or cuts off bytes.
 fn change_byte(bytes: &mut Vec<u8>, random: &mut Random) {
     if bytes.is_empty() {

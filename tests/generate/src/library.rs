@@ -100,8 +100,9 @@ pub fn deep_calls(families: usize, levels: usize) -> Vec<Field> {
     fields
 }
 
-/// Deep calls that pass a size and a register down through loops of one round.
-pub fn deep_loops(families: usize, loops: usize) -> Vec<Field> {
+/// Deep calls that pass a size and a register down through loops of one round
+/// and reversals.
+pub fn deep_loops(families: usize, loops: usize, reversals: usize) -> Vec<Field> {
     let mut fields = Vec::new();
     for number in 0..families {
         let mut inner = match number {
@@ -111,7 +112,8 @@ pub fn deep_loops(families: usize, loops: usize) -> Vec<Field> {
         for _ in 0..loops {
             inner = repeat(literal(1), literal(1), vec![inner]);
         }
-        fields.push(family(1, vec![qbits(plus(0, 1))], vec![inner]));
+        let body = vec![wrapped(reversals, inner)];
+        fields.push(family(1, vec![qbits(plus(0, 1))], body));
     }
     fields
 }
@@ -155,6 +157,18 @@ pub fn large_library() -> Vec<Field> {
 pub fn empty_rounds() -> Vec<Field> {
     let inner = repeat(literal(1), literal(1998), vec![]);
     vec![repeat(literal(1), literal(50_000), vec![inner])]
+}
+
+/// A loop of three rounds that starts at the smallest number there is.
+pub fn far_loop() -> Field {
+    let last = sum(smallest(), literal(2));
+    let index = sum(variable(0), largest());
+    repeat(smallest(), last, vec![h(element(0, index))])
+}
+
+/// A loop over all numbers there are, with a gate on one wire.
+pub fn longest_loop() -> Field {
+    repeat(smallest(), largest(), vec![t(at(0, 0))])
 }
 
 /// The program L of the examples: h on each cell of x:Qbit[n], counted from 1.

@@ -66,7 +66,12 @@ fn full_length(random: &mut Random) -> Case {
 /// Statements nested about 16 deep, in a family, at the top or in an if.
 fn statement_depth(random: &mut Random) -> Case {
     let levels = 13 + random.below(5);
-    let nested = library::wrapped(levels, h(at(0, 0)));
+    let tag = random.pick(&[5, 6, 32, 37, 38, 48]);
+    let innermost = match random.percent(80) {
+        true => h(at(0, 0)),
+        false => Field::new(tag, &[], vec![]),
+    };
+    let nested = library::wrapped(levels, innermost);
     match random.below(3) {
         0 => with(&[family(0, vec![qbits(literal(1))], vec![nested])], &[]),
         1 => with(&[qreg(1), nested], &[]),
@@ -124,6 +129,9 @@ fn many_registers(random: &mut Random) -> Case {
             _ => qreg(random.below(3) as u16),
         })
         .collect();
+    if random.percent(20) {
+        fields.push(Field::new(random.pick(&[2, 3]), &[0], vec![]));
+    }
     let number = random.between(250, 255) as u8;
     fields.push(h(at(number, 0)));
     with(&fields, &[])
@@ -399,7 +407,10 @@ fn deep_calls(random: &mut Random) -> Case {
     let levels = 1 + random.below(16);
     let mut case = match random.percent(50) {
         true => with(&library::deep_calls(families, levels), &[]),
-        false => with(&library::deep_loops(families, levels.min(8)), &[3]),
+        false => with(
+            &library::deep_loops(families, levels.min(8), levels / 4),
+            &[3],
+        ),
     };
     case.family = (families - 1) as u32;
     case.limit = random.pick(&[10_000, 10, 100]);

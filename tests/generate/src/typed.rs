@@ -9,7 +9,9 @@ use crate::linear::{Bounds, Linear, VARIABLES};
 use crate::random::Random;
 
 /// How often an index is tried before the writer gives up.
-const TRIES: usize = 12;
+const TRIES: usize = 10;
+/// How often the writer looks for another wire or other sizes.
+const LOOKS: usize = 5;
 /// How deep statements are nested by chance.
 const DEPTH: usize = 5;
 
@@ -329,7 +331,7 @@ impl Writer<'_> {
     /// Writes a cx on two wires that are mostly different.
     fn pair(&mut self, scope: &Scope) -> Option<Field> {
         let first = self.choose(scope)?;
-        let found = (0..TRIES)
+        let found = (0..LOOKS)
             .filter_map(|_| self.choose(scope))
             .find(|other| apart(&first, other));
         let second = match found {
@@ -378,7 +380,7 @@ impl Writer<'_> {
     fn call(&mut self, scope: &Scope) -> Option<Field> {
         let number = self.random.below(self.families.len());
         let called = self.families[number].clone();
-        for attempt in 0..TRIES {
+        for attempt in 0..LOOKS {
             let forms = self.call_sizes(scope, called.sizes, attempt);
             if let Some(operands) = self.arguments(scope, &called, &forms) {
                 let sizes = forms.iter().map(|form| form.render(self.random));
@@ -432,7 +434,7 @@ impl Writer<'_> {
             let same = |other: &Chosen| other == chosen || *other == (chosen.0, None);
             !taken.iter().any(same)
         };
-        (0..TRIES)
+        (0..LOOKS)
             .filter_map(|_| self.choose(scope))
             .find(fresh)
             .or_else(|| self.choose(scope))

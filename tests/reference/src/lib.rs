@@ -40,6 +40,7 @@ impl Outcome {
 }
 
 impl From<Refusal> for Outcome {
+    /// A refusal as an answer.
     fn from(refusal: Refusal) -> Outcome {
         Outcome::before_run(refusal.number, refusal.place)
     }

@@ -177,11 +177,7 @@ impl<'r> Machine<'r> {
                 self.record(place, gate_op(*gate, direction), wire.0, 0)
             }
             Action::Cx(control, target) => {
-                let control = frame.wire(control, place)?;
-                let target = frame.wire(target, place)?;
-                if control == target {
-                    return refuse(25, place);
-                }
+                let (control, target) = frame.two_wires(control, target, place)?;
                 self.record(place, 4, control.0, target.0)
             }
             Action::Measure(wire, bit) => {
@@ -275,6 +271,21 @@ impl<'r> Machine<'r> {
 }
 
 impl Frame<'_> {
+    /// The two wires of a cx, which must not be the same.
+    fn two_wires(
+        &self,
+        control: &WireOperand,
+        target: &WireOperand,
+        place: u32,
+    ) -> Result<(Wire, Wire), End> {
+        let control = self.wire(control, place)?;
+        let target = self.wire(target, place)?;
+        match control == target {
+            true => refuse(25, place),
+            false => Ok((control, target)),
+        }
+    }
+
     /// The wire that an operand stands for.
     fn wire(&self, operand: &WireOperand, place: u32) -> Result<Wire, End> {
         match operand {

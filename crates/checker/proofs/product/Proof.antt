@@ -8,7 +8,6 @@ use mathlib.Core.Path.{_≡_, refl}
 use Rattle.forms.specs.Products.{productOf, MadeKept}
 use Rattle.checker.specs.Indexes.{formTold, operationOf}
 
-
 -- src/lib.rt:122:11
 multiply-requires : tie.Need-multiply-requires
 multiply-requires c κs = search needs

@@ -11,7 +11,6 @@ use denote.Ref.{now}
 use Rattle.program_check.specs.Declaring.{resultTold}
 use Rattle.metaqasm.proofs.Places.{turned-small}
 
-
 -- src/lib.rt:21:11
 check-program-requires : tie.Need-check-program-requires
 check-program-requires c κs = search needs

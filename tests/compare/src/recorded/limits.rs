@@ -109,7 +109,8 @@ fn statements() -> Vec<Recorded> {
 
 /// Indexes nested 16 and 17 deep in each place where one may stand.
 fn indexes() -> Vec<Recorded> {
-    // A sum of 0 and a deeper index; each level starts 8 bytes further on.
+    // A sum of 0 and a deeper index; each level starts 8 bytes further on, and
+    // the first field too deep is the left side of the innermost sum.
     let deep = |times| nested(0x42, times, &ZERO, &ZERO);
     let operand = |times| {
         let element = field(0x31, &joined(&[&[0], &deep(times)]));
@@ -126,16 +127,18 @@ fn indexes() -> Vec<Recorded> {
         let call = field(0x24, &joined(&[&[0], &deep(times), &wire]));
         joined(&[&start, &call])
     };
-    let bad_tag = field(0x26, &nested(0x42, 16, &ZERO, &bytes("3f 00 00")));
+    let left = field(0x26, &nested(0x43, 16, &[], &ZERO));
+    let bad_tag = field(0x26, &nested(0x44, 16, &[], &bytes("3f 00 00")));
     vec![
         Recorded::check("index of 16 levels", operand(15), 0, 0),
-        Recorded::check("index of 17 levels", operand(16), 5, 140),
+        Recorded::check("index of 17 levels", operand(16), 5, 135),
         Recorded::check("type of 16 levels", typed(15), 0, 0),
-        Recorded::check("type of 17 levels", typed(16), 5, 136),
+        Recorded::check("type of 17 levels", typed(16), 5, 131),
         Recorded::check("bound of 16 levels", bound(15), 0, 0),
-        Recorded::check("bound of 17 levels", bound(16), 5, 131),
+        Recorded::check("bound of 17 levels", bound(16), 5, 126),
         Recorded::check("call of 16 levels", called(15), 0, 0),
-        Recorded::check("call of 17 levels", called(16), 5, 145),
-        Recorded::check("level 17 with a wrong tag", bad_tag, 3, 131),
+        Recorded::check("call of 17 levels", called(16), 5, 140),
+        Recorded::check("index level 17 before a missing side", left, 5, 51),
+        Recorded::check("index level 17 with a wrong tag", bad_tag, 3, 51),
     ]
 }

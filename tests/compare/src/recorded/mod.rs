@@ -123,7 +123,11 @@ impl Recorded {
         }
         output[..self.records.len()].copy_from_slice(&self.records);
         let due = self.expected;
-        match (answer.outcome == due, answer.output == output, answer.guarded) {
+        match (
+            answer.outcome == due,
+            answer.output == output,
+            answer.guarded,
+        ) {
             (true, true, true) => Ok(true),
             (false, _, _) => Err(format!(
                 "{}: {who:?} answers {:?}, due is {due:?}",

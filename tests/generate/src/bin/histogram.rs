@@ -3,6 +3,7 @@
 //! Use: `histogram [FIRST_SEED [COUNT]]`.
 
 use generate::histogram::Histogram;
+use std::io::Write;
 use std::process::ExitCode;
 
 /// Reads one argument as a number, or takes what stands in for it.
@@ -15,15 +16,20 @@ fn number(argument: Option<&String>, otherwise: u64) -> Result<u64, String> {
     }
 }
 
+/// Writes one line to standard output.
+fn say(line: &str) -> Result<(), String> {
+    writeln!(std::io::stdout(), "{line}").map_err(|error| format!("standard output: {error}"))
+}
+
 /// Prints the table of a range of seeds and says whether it is complete.
 fn print(first: u64, count: u64) -> Result<(), String> {
     let last = first
         .checked_add(count)
         .ok_or("the last seed is past 64 bits")?;
     let histogram = Histogram::of(first..last);
-    println!("number    check instance      run");
+    say("number    check instance      run")?;
     for (number, [check, instance, run]) in &histogram.counts {
-        println!("{number:6} {check:8} {instance:8} {run:8}");
+        say(&format!("{number:6} {check:8} {instance:8} {run:8}"))?;
     }
     println!(
         "{} cases, {} accepted, {} with records, {} records, {} in the longest list",

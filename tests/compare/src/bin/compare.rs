@@ -1,0 +1,72 @@
+//! Compares the library with the reference and says how much was compared.
+//!
+//! Use: `compare [FIRST_SEED [COUNT]]`. It holds both to the recorded answers
+//! and asks them about a range of generated programs.
+
+use compare::recorded::recorded;
+use compare::{library, Tally};
+use std::io::Write;
+use std::process::ExitCode;
+
+/// Reads one argument as a number, or takes what stands in for it.
+fn number(argument: Option<&String>, otherwise: u64) -> Result<u64, String> {
+    match argument {
+        None => Ok(otherwise),
+        Some(text) => text
+            .parse()
+            .map_err(|_| format!("not a number of 64 bits: {text:?}")),
+    }
+}
+
+/// The first seed and the one after the last.
+fn seeds() -> Result<(u64, u64), String> {
+    let arguments: Vec<String> = std::env::args_os()
+        .skip(1)
+        .map(|argument| argument.to_string_lossy().into_owned())
+        .collect();
+    if arguments.len() > 2 {
+        return Err("use: compare [FIRST_SEED [COUNT]]".into());
+    }
+    let first = number(arguments.first(), 0)?;
+    let count = number(arguments.get(1), 20_000)?;
+    match first.checked_add(count) {
+        Some(last) => Ok((first, last)),
+        None => Err("the last seed is past 64 bits".into()),
+    }
+}
+
+/// Writes one line to standard output.
+fn say(line: &str) -> Result<(), String> {
+    writeln!(std::io::stdout(), "{line}").map_err(|error| format!("standard output: {error}"))
+}
+
+/// Compares everything and prints what was counted.
+fn compare_all() -> Result<(), String> {
+    let (first, last) = seeds()?;
+    say(&library::status())?;
+    let mut tally = Tally::default();
+    let rows = recorded();
+    tally.recorded(&rows)?;
+    say(&format!(
+        "{} recorded answers: {}",
+        rows.len(),
+        tally.line()
+    ))?;
+    let mut tally = Tally::default();
+    for seed in first..last {
+        let compared = tally.case(&generate::case(seed));
+        compared.map_err(|message| format!("seed {seed}: {message}"))?;
+    }
+    let count = last - first;
+    say(&format!("{count} generated programs: {}", tally.line()))
+}
+
+fn main() -> ExitCode {
+    match compare_all() {
+        Ok(()) => ExitCode::SUCCESS,
+        Err(message) => {
+            eprintln!("compare: {message}");
+            ExitCode::FAILURE
+        }
+    }
+}

@@ -1,0 +1,192 @@
+//! The deepest calls, the longest lists and loops, and the most steps.
+
+use compare::harness::on_eight_mebibytes;
+use compare::{ask, compared, Call, Question, Tally, Who};
+use generate::build::*;
+use generate::library;
+use reference::Outcome;
+
+compared!(deepest_calls_checked, has_check, deepest_checked);
+compared!(deepest_calls_of_an_instance, has_instance, deepest_instance);
+compared!(deepest_calls_of_a_run, has_run, deepest_run);
+compared!(lists_of_10000_of_an_instance, has_instance, long_instance);
+compared!(lists_of_10000_of_a_run, has_run, long_run);
+compared!(loops_from_the_smallest_number, has_run, far_loops);
+compared!(a_hundred_million_steps, has_run, many_steps);
+compared!(the_adder_at_8000_bits, has_instance, large_adder);
+compared!(a_full_library_of_families, has_check, full_library);
+
+/// Asks, and holds the reference to number, place, records and steps.
+fn due(tally: &mut Tally, question: &Question, expected: [u64; 4]) -> Result<(), String> {
+    tally.question(question)?;
+    let [number, place, records, steps] = expected;
+    let expected = Outcome {
+        number: number as u32,
+        place: place as u32,
+        records,
+        steps,
+    };
+    match ask(Who::Reference, question) {
+        Some(answer) if answer.outcome == expected => Ok(()),
+        other => {
+            let found = other.map(|answer| answer.outcome);
+            Err(format!("{found:?}, due is {expected:?}"))
+        }
+    }
+}
+
+/// A question about an instance.
+fn instance<'a>(program: &'a [u8], family: u32, sizes: &'a [u8]) -> Question<'a> {
+    Question {
+        program,
+        call: Call::Instance { family, sizes },
+        limit: 1_000_000,
+        length: 100_000,
+    }
+}
+
+/// A question about another call.
+fn other<'a>(program: &'a [u8], call: Call<'a>) -> Question<'a> {
+    Question {
+        program,
+        call,
+        limit: 1_000_000,
+        length: 100_000,
+    }
+}
+
+/// 255 families of 16 levels each: by reversals, and by loops and reversals.
+fn deepest() -> [Vec<u8>; 2] {
+    let mut calls = library::deep_calls(255, 16);
+    calls.extend([qreg(3), call(254, vec![], vec![at(0, 2)])]);
+    let mut loops = library::deep_loops(255, 8, 7);
+    let operand = vec![whole(0)];
+    calls.push(reverse(vec![call(254, vec![], vec![at(0, 1)])]));
+    loops.extend([qreg(3), call(254, vec![literal(2)], operand)]);
+    [program(&calls), program(&loops)]
+}
+
+/// Checks the deepest programs.
+fn deepest_checked(tally: &mut Tally) -> Result<(), String> {
+    let work = |tally: &mut Tally| {
+        for program in deepest() {
+            due(tally, &other(&program, Call::Check), [0; 4])?;
+        }
+        Ok(())
+    };
+    on_eight_mebibytes(work, tally)
+}
+
+/// Unrolls the last family of the deepest programs.
+fn deepest_instance(tally: &mut Tally) -> Result<(), String> {
+    let work = |tally: &mut Tally| {
+        let [calls, loops] = deepest();
+        let sizes = sizes(&[2]);
+        // 255 times 15 reversals and one statement.
+        due(tally, &instance(&calls, 254, &[]), [0, 0, 1, 4_080])?;
+        // 255 times 7 reversals, 8 loops, 8 rounds and one statement.
+        due(tally, &instance(&loops, 254, &sizes), [0, 0, 1, 6_120])?;
+        let short = Question {
+            limit: 4_079,
+            ..instance(&calls, 254, &[])
+        };
+        due(tally, &short, [26, 53, 0, 4_079])
+    };
+    on_eight_mebibytes(work, tally)
+}
+
+/// Runs the deepest programs, forward and reversed.
+fn deepest_run(tally: &mut Tally) -> Result<(), String> {
+    let work = |tally: &mut Tally| {
+        let [calls, loops] = deepest();
+        due(tally, &other(&calls, Call::Run), [0, 0, 2, 8_163])?;
+        due(tally, &other(&loops, Call::Run), [0, 0, 1, 6_121])
+    };
+    on_eight_mebibytes(work, tally)
+}
+
+/// Unrolls lists of 10,000 statements, forward and reversed.
+fn long_instance(tally: &mut Tally) -> Result<(), String> {
+    let forward = program(&[library::long_list(10_000)]);
+    let backward = program(&[library::reversed_list(10_000)]);
+    due(tally, &instance(&forward, 0, &[]), [0, 0, 5_000, 10_000])?;
+    due(tally, &instance(&backward, 0, &[]), [0, 0, 5_000, 10_001])
+}
+
+/// Runs the longest lists, forward and reversed, and one through a call.
+fn long_run(tally: &mut Tally) -> Result<(), String> {
+    let shortest = program(&vec![reverse(vec![]); 21_845]);
+    due(tally, &other(&shortest, Call::Run), [0, 0, 0, 21_845])?;
+    let inside = program(&[reverse(vec![reverse(vec![]); 21_844])]);
+    due(tally, &other(&inside, Call::Run), [0, 0, 0, 21_845])?;
+    let called = [
+        library::long_list(9_990),
+        qreg(1),
+        reverse(vec![call(0, vec![], vec![at(0, 0)])]),
+    ];
+    let called = program(&called);
+    due(tally, &other(&called, Call::Run), [0, 0, 4_995, 9_992])
+}
+
+/// Runs loops that start at the smallest number, up and down.
+fn far_loops(tally: &mut Tally) -> Result<(), String> {
+    let three = program(&[qreg(3), library::far_loop()]);
+    due(tally, &other(&three, Call::Run), [0, 0, 3, 7])?;
+    let backward = program(&[qreg(3), reverse(vec![library::far_loop()])]);
+    due(tally, &other(&backward, Call::Run), [0, 0, 3, 8])?;
+    let longest = [qreg(1), library::longest_loop()];
+    let longest = program(&longest);
+    let cut = Question {
+        limit: 2_001,
+        ..other(&longest, Call::Run)
+    };
+    due(tally, &cut, [26, 5, 1_000, 2_001])?;
+    let back = program(&[qreg(1), reverse(vec![library::longest_loop()])]);
+    let cut = Question {
+        limit: 2_001,
+        ..other(&back, Call::Run)
+    };
+    let gate = headers(&[qreg(1), reverse(vec![library::longest_loop()])]);
+    // The gate is the last field but two: gate, operand, index.
+    let place = gate[gate.len() - 3] as u64;
+    due(tally, &cut, [26, place, 999, 2_001])
+}
+
+/// Takes a hundred million steps without a record.
+fn many_steps(tally: &mut Tally) -> Result<(), String> {
+    let program = program(&library::empty_rounds());
+    let question = |limit| Question {
+        program: &program,
+        call: Call::Run,
+        limit,
+        length: 0,
+    };
+    due(tally, &question(u64::MAX), [0, 0, 0, 100_000_001])?;
+    due(tally, &question(1_000), [26, 13, 0, 1_000])
+}
+
+/// Unrolls the adder and its reverse at 8,000 bits.
+fn large_adder(tally: &mut Tally) -> Result<(), String> {
+    let program = program(&library::reversed_adder());
+    let sizes = sizes(&[7_999]);
+    // 17 gates for the first bit, 35 for each further one.
+    let gates = 17 + 7_999 * 35;
+    for family in [2, 3] {
+        let full = Question {
+            length: 8 * gates as usize,
+            ..instance(&program, family, &sizes)
+        };
+        tally.question(&full)?;
+        let answer = ask(Who::Reference, &full).ok_or("no answer")?;
+        if answer.outcome.number != 0 || answer.outcome.records != gates {
+            return Err(format!("{:?}, due are {gates} gates", answer.outcome));
+        }
+    }
+    Ok(())
+}
+
+/// Checks a program filled with families.
+fn full_library(tally: &mut Tally) -> Result<(), String> {
+    let program = program(&library::large_library());
+    due(tally, &other(&program, Call::Check), [0; 4])
+}

@@ -1,0 +1,234 @@
+//! Every step limit, every output length and all kinds of sizes.
+
+use compare::{ask, compared, Answer, Call, Question, Tally, Who};
+use generate::build::{self, *};
+use generate::{case, library};
+
+compared!(every_limit_of_an_instance, has_instance, instance_limits);
+compared!(every_limit_of_a_run, has_run, run_limits);
+compared!(every_length_of_an_instance, has_instance, instance_lengths);
+compared!(every_length_of_a_run, has_run, run_lengths);
+compared!(sizes_of_all_kinds, has_instance, all_sizes);
+compared!(every_family_number, has_instance, family_numbers);
+
+/// More steps than any program here takes.
+const ENOUGH: u64 = 100_000;
+/// More output than any program here fills.
+const ROOM: usize = 40_000;
+
+/// A program with a family and its sizes.
+type Small = (Vec<u8>, u32, Vec<u8>);
+
+/// Small programs for instances.
+fn instances() -> Vec<Small> {
+    let adder = program(&library::reversed_adder());
+    let mut list = vec![
+        (program(&library::each_cell()), 0, build::sizes(&[3])),
+        (program(&library::nested_loops()), 0, build::sizes(&[3])),
+        (adder.clone(), 2, build::sizes(&[1])),
+        (adder, 3, build::sizes(&[2])),
+        (
+            program(&library::deep_loops(9, 2, 1)),
+            8,
+            build::sizes(&[1]),
+        ),
+    ];
+    let cases = (0..600).map(case);
+    let small = cases.filter(|case| {
+        let answer = reference::instance(
+            &case.program,
+            case.family,
+            &case.sizes,
+            ENOUGH,
+            &mut [0; ROOM],
+        );
+        (4..150).contains(&answer.records) && answer.steps < 500
+    });
+    list.extend(
+        small
+            .take(40)
+            .map(|case| (case.program, case.family, case.sizes)),
+    );
+    list
+}
+
+/// Small programs for whole runs.
+fn runs() -> Vec<Small> {
+    let cases = (0..600).map(case);
+    let small = cases.filter(|case| {
+        let answer = reference::run(&case.program, ENOUGH, &mut [0; ROOM]);
+        (4..150).contains(&answer.records) && answer.steps < 500
+    });
+    small
+        .take(40)
+        .map(|case| (case.program, 0, vec![]))
+        .collect()
+}
+
+/// The question that a small program is for.
+fn question(small: &Small, call: fn(&Small) -> Call<'_>) -> Question<'_> {
+    Question {
+        program: &small.0,
+        call: call(small),
+        limit: ENOUGH,
+        length: ROOM,
+    }
+}
+
+/// An instance of a small program.
+fn as_instance(small: &Small) -> Call<'_> {
+    Call::Instance {
+        family: small.1,
+        sizes: &small.2,
+    }
+}
+
+/// A whole run of a small program.
+fn as_run(_: &Small) -> Call<'_> {
+    Call::Run
+}
+
+/// The reference's answer.
+fn answer(question: &Question) -> Result<Answer, String> {
+    ask(Who::Reference, question).ok_or("the reference gave no answer".into())
+}
+
+/// Asks with every limit up to past the last step.
+fn limits(tally: &mut Tally, full: Question) -> Result<(), String> {
+    let whole = answer(&full)?;
+    for limit in 0..whole.outcome.steps + 3 {
+        let question = Question { limit, ..full };
+        tally.question(&question)?;
+        let cut = answer(&question)?;
+        let due = if limit < whole.outcome.steps {
+            cut.outcome.number == 26 && cut.outcome.steps == limit
+        } else {
+            cut == whole
+        };
+        let records = 8 * cut.outcome.records as usize;
+        if !due || cut.output[..records] != whole.output[..records] {
+            return Err(format!(
+                "limit {limit} of {:?}: {:?}",
+                full.call, cut.outcome
+            ));
+        }
+    }
+    Ok(())
+}
+
+/// Asks with every output length up to past the last record.
+fn lengths(tally: &mut Tally, full: Question) -> Result<(), String> {
+    let whole = answer(&full)?;
+    let last = 8 * whole.outcome.records as usize;
+    for length in 0..last + 10 {
+        let question = Question { length, ..full };
+        tally.question(&question)?;
+        let cut = answer(&question)?;
+        let due = if length < last {
+            cut.outcome.number == 27 && cut.outcome.records == length as u64 / 8
+        } else {
+            cut.outcome == whole.outcome
+        };
+        let records = 8 * cut.outcome.records as usize;
+        if !due || cut.output[..records] != whole.output[..records] {
+            return Err(format!(
+                "length {length} of {:?}: {:?}",
+                full.call, cut.outcome
+            ));
+        }
+    }
+    Ok(())
+}
+
+/// Every step limit on small instances.
+fn instance_limits(tally: &mut Tally) -> Result<(), String> {
+    let list = instances();
+    list.iter()
+        .try_for_each(|small| limits(tally, question(small, as_instance)))
+}
+
+/// Every step limit on small runs.
+fn run_limits(tally: &mut Tally) -> Result<(), String> {
+    let list = runs();
+    list.iter()
+        .try_for_each(|small| limits(tally, question(small, as_run)))
+}
+
+/// Every output length on small instances.
+fn instance_lengths(tally: &mut Tally) -> Result<(), String> {
+    let list = instances();
+    list.iter()
+        .try_for_each(|small| lengths(tally, question(small, as_instance)))
+}
+
+/// Every output length on small runs.
+fn run_lengths(tally: &mut Tally) -> Result<(), String> {
+    let list = runs();
+    list.iter()
+        .try_for_each(|small| lengths(tally, question(small, as_run)))
+}
+
+/// A family over `m` sizes with a register for each, or one wire for none.
+fn over(m: u8) -> Vec<u8> {
+    let types: Vec<Field> = match m {
+        0 => vec![qbit()],
+        _ => (0..m).map(|number| qbits(variable(number))).collect(),
+    };
+    let body = match m {
+        0 => vec![h(whole(0))],
+        _ => {
+            let gate = h(element(m - 1, variable(m)));
+            vec![repeat(literal(0), minus(m - 1, 1), vec![gate])]
+        }
+    };
+    program(&[family(m, types, body)])
+}
+
+/// Sizes small, largest and too large, in any number of bytes.
+fn all_sizes(tally: &mut Tally) -> Result<(), String> {
+    let numbers = [0, 1, 2, 65_534, 65_535, 65_536, 1 << 31, u32::MAX];
+    for m in 0..=4 {
+        let program = over(m);
+        for (place, &number) in numbers.iter().enumerate() {
+            let mut all: Vec<u32> = vec![numbers[place % 3]; usize::from(m)];
+            if let Some(last) = all.last_mut() {
+                *last = number;
+            }
+            let sizes = build::sizes(&all);
+            for length in 0..=20 {
+                let mut given = sizes.clone();
+                given.resize(length, 0xFF);
+                ask_sizes(tally, &program, &given)?;
+            }
+            ask_sizes(tally, &program, &sizes)?;
+        }
+    }
+    Ok(())
+}
+
+/// Asks for family 0 at sizes.
+fn ask_sizes(tally: &mut Tally, program: &[u8], sizes: &[u8]) -> Result<(), String> {
+    let call = Call::Instance { family: 0, sizes };
+    tally.question(&Question {
+        program,
+        call,
+        limit: 1_000,
+        length: 500,
+    })
+}
+
+/// Every family number there is, and some past them.
+fn family_numbers(tally: &mut Tally) -> Result<(), String> {
+    let program = program(&vec![family(0, vec![qbit()], vec![h(whole(0))]); 255]);
+    let past = [256, 257, 511, 512, 65_535, 65_536, 1 << 31, u32::MAX];
+    for family in (0..=255).chain(past) {
+        let call = Call::Instance { family, sizes: &[] };
+        tally.question(&Question {
+            program: &program,
+            call,
+            limit: 10,
+            length: 20,
+        })?;
+    }
+    Ok(())
+}
