@@ -1,5 +1,5 @@
 -- What the statements that hold no statements do, and the numbers of a loop.
-use Prim.Native.Nat.{ℕ, _+_, _-_, _≤_}
+use Prim.Native.Nat.{ℕ, _+_, _-_, _≤_, _<_}
 use mathlib.Core.Path.{_≡_}
 use mathlib.Core.List.{List}
 use mathlib.Core.Bool.{Bool, true, false, cond, _&&_}
@@ -16,6 +16,9 @@ use Rattle.indexes.specs.declared.Value.the-variants.{Is, Over as vOver, Stuck 
 use Rattle.operands.specs.Stand.{operandsOf, frameOf}
 use Rattle.operands.specs.declared.Scope.{Scope}
 use Rattle.emit.specs.Squares.{conditionOf}
+use Rattle.emit.specs.declared.State.{State}
+use Rattle.emit.specs.declared.Answer.{Answer}
+use Rattle.emit.specs.declared.Answer.the-variants.{Going, Ended, Stuck as aStuck}
 use Rattle.gates.specs.declared.Mode.{Mode}
 use Rattle.gates.specs.declared.Bounds.{Bounds}
 use Rattle.gates.specs.declared.Bounds.the-variants.{Are, Over, Stuck}
@@ -90,3 +93,32 @@ enteredOf m n = record { limit = m .limit; room = m .room; seen = n; levels = de
 -- a call that names no family
 unfoldable pub namelessOf : ℕ → ℕ → Bool
 namelessOf tag size = eqb tag 36 && eqb size 0
+
+-- a statement that may be entered: not too deep, of a tag that there is, and no call without a family
+pub record Enterable (m : Mode) (tag size : ℕ) : Type 0 where
+  pub deep : m .levels ≡ 0 → ⊥
+  pub low : 32 ≤ tag
+  pub high : tag ≤ 38
+  pub named : namelessOf tag size ≡ false
+
+pub record Steps (m : Mode) (tag size : ℕ) (st s : State) : Type 0 where
+  pub enterable : Enterable m tag size
+  pub left : st .steps < m .limit
+  pub same : s .at ≡ st .at
+  pub more : s .steps ≡ st .steps + 1
+
+pub record Full (m : Mode) (tag size : ℕ) (base : Place) (st : State) (n : ℕ) (p : Place) (s : State) : Type 0 where
+  pub enterable : Enterable m tag size
+  pub none : m .limit ≤ st .steps
+  pub number : n ≡ 26
+  pub place : p ≡ base
+  pub same : s ≡ st
+
+-- what entering a statement answers
+unfoldable pub Entered : Mode → (tag size : ℕ) → Place → State → Answer → Type 0
+Entered m tag size base st (Going s) = Steps m tag size st s
+Entered m tag size base st (Ended n p s) = Full m tag size base st n p s
+Entered m tag size base st aStuck = Enterable m tag size → ⊥
+
+unfoldable pub actRun : Mode → ℕ → Place → List ℕ → Frame → Run (Unit {0})
+actRun m tag p l f = cond (eqb tag 35) (cxRun m p l f) (gateRun m tag p l f)

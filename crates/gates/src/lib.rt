@@ -7,7 +7,7 @@ ghost use lib.IntN.{ℤ, _-ℤ_};
 ghost use Rattle.language.specs.Machine.{roundsOf};
 ghost use Rattle.language.specs.Form.{inRange};
 ghost use Rattle.emit.specs.Squares.{Does};
-ghost use Rattle.gates.specs.Gates.{codeOf, frameIn, gateRun, cxRun, boundOf, Bounded, turnOf, namelessOf, deeperOf, enteredOf};
+ghost use Rattle.gates.specs.Gates.{codeOf, frameIn, gateRun, cxRun, boundOf, Bounded, turnOf, namelessOf, Entered, actRun, deeperOf, enteredOf};
 use emit::Answer;
 use emit::Condition;
 use emit::State;
@@ -47,7 +47,7 @@ fn code(tag: u8, back: bool) -> u8
 }
 
 // Writes the gate with this tag and content, whose step is taken.
-pub fn gate(
+fn gate(
     p: &[u8],
     tag: u8,
     base: usize,
@@ -72,7 +72,7 @@ pub fn gate(
 }
 
 // Writes the cx with this content, whose step is taken.
-pub fn cx(
+fn cx(
     p: &[u8],
     base: usize,
     vars: &[i64],
@@ -186,10 +186,58 @@ pub fn copied(vars: &[i64], all: &mut [i64; 20])
 }
 
 // Whether it is a call that names no family.
-pub fn nameless(tag: u8, size: usize) -> bool
+fn nameless(tag: u8, size: usize) -> bool
     ensures { λ r. ⌜ r ≡ namelessOf tag size ⌝ }
 {
     tag == 36 && size == 0
+}
+
+// Enters the statement with this tag and so many bytes of content: takes its step, unless it has no meaning or none is left.
+pub fn step(tag: u8, size: usize, base: usize, m: Mode, st: State) -> Answer
+    ensures { λ r. ⌜ Entered m tag size base st r ⌝ }
+{
+    if m.levels == 0 {
+        return Answer::Stuck;
+    }
+    if tag < 32 {
+        return Answer::Stuck;
+    }
+    if 38 < tag {
+        return Answer::Stuck;
+    }
+    if nameless(tag, size) {
+        return Answer::Stuck;
+    }
+    let steps = st.steps;
+    if m.limit <= steps {
+        return Answer::Ended(26, base, st);
+    }
+    let taken = steps + 1;
+    Answer::Going(State {
+        at: st.at,
+        steps: taken,
+    })
+}
+
+// Writes the gate or the cx with this tag and content, whose step is taken.
+pub fn act(
+    p: &[u8],
+    tag: u8,
+    base: usize,
+    vars: &[i64],
+    scope: Scope,
+    regs: &[u16],
+    m: Mode,
+    st: State,
+    out: &mut [u8],
+) -> Answer
+    requires { ⌜ m .room ≡ length (now out) ⌝ }
+    ensures { λ r. ⌜ Does (now (out .entry)) st (now (out .exit)) r (actRun m tag base (now (p .entry)) (frameIn m (now (vars .entry)) scope (now (regs .entry)))) ⌝ }
+{
+    if tag == 35 {
+        return cx(p, base, vars, scope, regs, m, st, out);
+    }
+    gate(p, tag, base, vars, scope, regs, m, st, out)
 }
 
 // A level deeper, in a direction.

@@ -1,0 +1,291 @@
+-- Where a run ends: at a place of the program, whatever the program.
+use mathlib.Core.Path.{_≡_, refl, subst}
+use mathlib.Core.List.{List, [], _∷_, _++_}
+use mathlib.Core.Bool.{Bool, true, false, cond, _&&_}
+use mathlib.Core.Option.{Option, none, some}
+use Prim.Native.Nat.{ℕ, zero, suc, _+_, _*_, _≤_}
+use native.Mathlib.Omega.{arith}
+use lib.IntN.{ℤ, pos, negsuc, _-ℤ_}
+use lib.Dec.{leb, ltb, eqb}
+use lib.ListN.{length, getElem?}
+use Rattle.language.specs.Limits.{mostWires, recordSize}
+use Rattle.language.specs.Form.{inRange}
+use Rattle.language.specs.Tree.{Place, number, missing, Index, literal, variable, operation, badIndex, Operand, whole, element, badOperand, ParameterType, qbit, qbits, badType, Argument, index, operand, badArgument}
+use Rattle.language.specs.Tree.{Statement, Statements, gate, cx, call, reverse, for, badStatement, nil, cons, Top, family, qreg, creg, measure, reset, if, statement, badTop}
+use Rattle.language.specs.Read.{read}
+use Rattle.language.specs.Machine as M
+use Rattle.language.specs.Machine.{Meaning, aWire, aBit, wires, bits, Direction, forward, backward, Frame, Outcome, going, ended, stuck, Run, Family, Globals}
+use Rattle.language.proofs.Refusals.{AllOf, FairType, FairStatement, FairStatements, FairTop, tops-fair}
+
+module _ (size : ℕ) where
+  abbrev pub EndsIn : {A : Type 0} → Outcome A → Type 0
+  EndsIn (going a s) = Unit {0}
+  EndsIn (ended n p s) = p ≤ size
+  EndsIn stuck = Unit {0}
+
+  pub record Ends {A : Type 0} (run : Run A) : Type 0 where
+    pub ends : (s : M.State) → EndsIn (run s)
+
+  ends-after : {A B : Type 0} (o : Outcome A) (next : A → Run B) → EndsIn o → ((a : A) → Ends (next a)) → EndsIn (M.after o next)
+  unfolding M.after
+  ends-after (going a s) next h k = k a .ends s
+  ends-after (ended n p s) next h k = h
+  ends-after stuck next h k = tt
+
+  ends-bind : {A B : Type 0} {run : Run A} {next : A → Run B} → Ends run → ((a : A) → Ends (next a)) → Ends (M._>>=_ run next)
+  unfolding M._>>=_
+  ends-bind {run = run} {next = next} h k = record { ends = λ s. ends-after (run s) next (h .ends s) k }
+
+  ends-then : {B : Type 0} {run : Run (Unit {0})} {next : Run B} → Ends run → Ends next → Ends (M._>>_ run next)
+  unfolding M._>>_
+  ends-then {run = run} {next = next} h k = record { ends = λ s. ends-after (run s) (λ u. next) (h .ends s) (λ u. k) }
+
+  ends-give : {A : Type 0} (a : A) → Ends (M.give a)
+  ends-give a = record { ends = λ s. tt }
+
+  ends-nothing : {A : Type 0} → Ends {A = A} M.noMeaning
+  ends-nothing = record { ends = λ s. tt }
+
+  ends-at : {A : Type 0} (n p : ℕ) → p ≤ size → Ends {A = A} (M.endAt n p)
+  ends-at n p h = record { ends = λ s. h }
+
+  ends-cond : {A : Type 0} (b : Bool) {x y : Run A} → Ends x → Ends y → Ends (cond b x y)
+  ends-cond true h k = h
+  ends-cond false h k = k
+
+  ends-found : {A : Type 0} (o : Option A) → Ends (M.found o)
+  unfolding M.found
+  ends-found none = ends-nothing
+  ends-found (some a) = ends-give a
+
+  -- ---- indexes and operands
+
+  ends-inside : (p : Place) (z : ℤ) → p ≤ size → Ends (M.inside p z)
+  unfolding M.inside
+  ends-inside p z h = ends-cond (inRange z) (ends-give z) (ends-at 24 p h)
+
+  ends-index : (p : Place) (values : List ℤ) (i : Index) → p ≤ size → Ends (M.evaluate p values i)
+  unfolding M.evaluate
+  ends-index p values (literal q n) h = ends-inside p _ h
+  ends-index p values (variable q n e) h = ends-bind (ends-found (getElem? values n)) λ z. ends-inside p z h
+  ends-index p values (operation q o l r e) h = ends-bind (ends-index p values l h) λ x. ends-bind (ends-index p values r h) λ y. ends-inside p _ h
+  ends-index p values (badIndex n q) h = ends-nothing
+
+  ends-element : (m : Meaning) (z : ℤ) → Ends (M.elementAt m z)
+  unfolding M.elementAt
+  ends-element (aWire w) z = ends-nothing
+  ends-element (aBit b) z = ends-nothing
+  ends-element (wires first n) (pos i) = ends-cond (ltb i n) (ends-give _) ends-nothing
+  ends-element (wires first n) (negsuc i) = ends-nothing
+  ends-element (bits first n) (pos i) = ends-cond (ltb i n) (ends-give _) ends-nothing
+  ends-element (bits first n) (negsuc i) = ends-nothing
+
+  ends-operand : (p : Place) (f : Frame) (o : Operand) → p ≤ size → Ends (M.meaningOf p f o)
+  unfolding M.meaningOf
+  ends-operand p f (whole q n e) h = ends-found (getElem? (f .operands) n)
+  ends-operand p f (element q n i e) h = ends-bind (ends-found (getElem? (f .operands) n)) λ m. ends-bind (ends-index p (f .variables) i h) λ z. ends-element m z
+  ends-operand p f (badOperand n q) h = ends-nothing
+
+  ends-as-wire : (m : Meaning) → Ends (M.asWire m)
+  unfolding M.asWire
+  ends-as-wire (aWire w) = ends-give w
+  ends-as-wire (aBit b) = ends-nothing
+  ends-as-wire (wires first n) = ends-nothing
+  ends-as-wire (bits first n) = ends-nothing
+
+  ends-as-bit : (m : Meaning) → Ends (M.asBit m)
+  unfolding M.asBit
+  ends-as-bit (aWire w) = ends-nothing
+  ends-as-bit (aBit b) = ends-give b
+  ends-as-bit (wires first n) = ends-nothing
+  ends-as-bit (bits first n) = ends-nothing
+
+  ends-wire : (p : Place) (f : Frame) (o : Operand) → p ≤ size → Ends (M.wireOf p f o)
+  unfolding M.wireOf
+  ends-wire p f o h = ends-bind (ends-operand p f o h) ends-as-wire
+
+  ends-bit : (p : Place) (f : Frame) (o : Operand) → p ≤ size → Ends (M.bitOf p f o)
+  unfolding M.bitOf
+  ends-bit p f o h = ends-bind (ends-operand p f o h) ends-as-bit
+
+  ends-sizes : (p : Place) (f : Frame) (xs : List Argument) → p ≤ size → Ends (M.sizesOf p f xs)
+  unfolding M.sizesOf
+  ends-sizes p f [] h = ends-give []
+  ends-sizes p f (index q i ∷ more) h = ends-bind (ends-index p (f .variables) i h) λ z. ends-bind (ends-sizes p f more h) λ zs. ends-give _
+  ends-sizes p f (operand q o ∷ more) h = ends-sizes p f more h
+  ends-sizes p f (badArgument n q ∷ more) h = ends-nothing
+
+  ends-meanings : (p : Place) (f : Frame) (xs : List Argument) → p ≤ size → Ends (M.meaningsOf p f xs)
+  unfolding M.meaningsOf
+  ends-meanings p f [] h = ends-give []
+  ends-meanings p f (index q i ∷ more) h = ends-meanings p f more h
+  ends-meanings p f (operand q o ∷ more) h = ends-bind (ends-operand p f o h) λ m. ends-bind (ends-meanings p f more h) λ ms. ends-give _
+  ends-meanings p f (badArgument n q ∷ more) h = ends-nothing
+
+  ends-laid : (p : Place) (n : ℕ) → p ≤ size → Ends (M.laidOut p n)
+  unfolding M.laidOut
+  ends-laid p n h = ends-cond (leb n mostWires) (ends-give tt) (ends-at 23 p h)
+
+  ends-size : (z : ℤ) → Ends (M.sizeOf z)
+  unfolding M.sizeOf
+  ends-size (pos n) = ends-give n
+  ends-size (negsuc n) = ends-nothing
+
+  ends-layout : (values : List ℤ) (next : ℕ) (types : List ParameterType) → AllOf (FairType size) types → Ends (M.layout values next types)
+  unfolding M.layout
+  ends-layout values next [] h = ends-give []
+  ends-layout values next (qbit p e ∷ types) h = ends-then (ends-laid p _ (h .0)) (ends-bind (ends-layout values _ types (h .1)) λ ms. ends-give _)
+  ends-layout values next (qbits p i e ∷ types) h =
+      ends-bind (ends-index p values i (h .0 .0)) λ z. ends-bind (ends-size z) λ n. ends-then (ends-laid p _ (h .0 .0)) (ends-bind (ends-layout values _ types (h .1)) λ ms. ends-give _)
+  ends-layout values next (badType n p ∷ types) h = ends-nothing
+
+  -- ---- statements
+
+  -- families whose types and bodies lie in the program
+  pub record Kept (f : Family) : Type 0 where
+    pub types : AllOf (FairType size) (f .types)
+    pub body : (r : Frame) → Ends (f .body r)
+
+  kept-found : (fs : List Family) (n : ℕ) → AllOf Kept fs → (f : Family) → getElem? fs n ≡ some f → Kept f
+  kept-found [] n h f e = absurd (let z : _≡_ {A = ℕ} 0 1 = cc in omega arith)
+  kept-found (x ∷ fs) zero h f e = let q : x ≡ f = cc in rw (← q) (h .0)
+  kept-found (x ∷ fs) (suc n) h f e = kept-found fs n (h .1) f e
+
+  module _ (limit room : ℕ) where
+    ends-step : (p : Place) → p ≤ size → Ends (M.step limit room p)
+    unfolding M.step
+    ends-step p h = record { ends = λ s. go (ltb (s .steps) limit) s }
+      where
+        go : (b : Bool) (s : M.State) → EndsIn {A = Unit {0}} (cond b (going tt (record { records = s .records; steps = suc (s .steps) })) (ended 26 p s))
+        go true s = tt
+        go false s = h
+
+    ends-write : (p : Place) (f : Frame) (a : M.Action) → p ≤ size → Ends (M.write limit room p f a)
+    unfolding M.write
+    ends-write p f a h = record { ends = λ s. go (leb (recordSize * suc (length (s .records))) room) s }
+      where
+        go : (b : Bool) (s : M.State) → EndsIn {A = Unit {0}} (cond b (going tt (record { records = s .records ++ (record { action = a; condition = f .condition } ∷ []); steps = s .steps })) (ended 27 p s))
+        go true s = tt
+        go false s = h
+
+    ends-rounds : (p : Place) (d : Direction) (n : ℕ) (z : ℤ) (body : ℤ → Run (Unit {0})) → p ≤ size → ((z : ℤ) → Ends (body z)) → Ends (M.rounds limit room p d n z body)
+    unfolding M.rounds
+    ends-rounds p d zero z body h k = ends-give tt
+    ends-rounds p d (suc n) z body h k = ends-bind (ends-step p h) λ u. ends-bind (k z) λ v. ends-rounds p d n _ body h k
+
+    ends-order : (d : Direction) {x y : Run (Unit {0})} → Ends x → Ends y → Ends (M.inOrder d x y)
+    unfolding M.inOrder
+    ends-order forward h k = ends-then h k
+    ends-order backward h k = ends-then k h
+
+    ends-enter : (o : Option Family) (f : Family → Run (Unit {0})) → ((x : Family) → o ≡ some x → Ends (f x)) → Ends (M._>>=_ (M.found o) f)
+    unfolding M.found M._>>=_ M.after
+    ends-enter none f k = ends-nothing
+    ends-enter (some x) f k = record { ends = λ s. k x refl .ends s }
+
+    mutual
+      unfolding M.runStatement FairStatement M.enter M.inCall
+
+      pub ends-statement : (x : Statement) (fs : List Family) (f : Frame) → FairStatement size x → AllOf Kept fs → Ends (M.runStatement limit room x fs f)
+      ends-statement (gate p g o e) fs f h k = ends-then (ends-step p (h .0)) (ends-bind (ends-wire p f o (h .0)) λ w. ends-write p f _ (h .0))
+      ends-statement (cx p c o e) fs f h k = ends-then (ends-step p (h .0)) (ends-bind (ends-wire p f c (h .0)) λ x. ends-bind (ends-wire p f o (h .0)) λ y. ends-cond (eqb (x .number) (y .number)) (ends-at 25 p (h .0)) (ends-write p f (M.doCx x y) (h .0)))
+      ends-statement (call p n more) fs f h k = ends-then (ends-step p (h .0)) (ends-enter (getElem? fs n) _ λ x e.
+          ends-bind (ends-sizes p f more (h .0)) λ zs. ends-bind (ends-meanings p f more (h .0)) λ ms. ends-cond (eqb (length zs) (x .variables) && M.allTake (x .types) ms) (kept-found fs n k x e .body (M.inCall f zs ms)) ends-nothing)
+      ends-statement (reverse p ss) fs f h k = ends-then (ends-step p (h .0)) (ends-statements ss fs _ (h .1) k)
+      ends-statement (for p low high ss) fs f h k = ends-then (ends-step p (h .0)) (ends-bind (ends-index p (f .variables) low (h .0)) λ x. ends-bind (ends-index p (f .variables) high (h .0)) λ y.
+          ends-rounds p (f .direction) _ _ _ (h .0) (λ z. ends-statements ss fs (M.inRound f z) (h .3) k))
+      ends-statement (badStatement n p) fs f h k = ends-nothing
+
+      pub ends-statements : (xs : Statements) (fs : List Family) (f : Frame) → FairStatements size xs → AllOf Kept fs → Ends (M.runStatements limit room xs fs f)
+      ends-statements nil fs f h k = ends-give tt
+      ends-statements (cons x xs) fs f h k = ends-order (f .direction) (ends-statement x fs f (h .0) k) (ends-statements xs fs f (h .1) k)
+
+    -- ---- top fields, whole runs and instances
+
+    all-more : (fs : List Family) (f : Family) → AllOf Kept fs → Kept f → AllOf Kept (fs ++ (f ∷ []))
+    all-more [] f h k = (k, tt)
+    all-more (x ∷ fs) f h k = (h .0, all-more fs f (h .1) k)
+
+    declared-kept : (x : Top) (fs : List Family) → FairTop size x → AllOf Kept fs → AllOf Kept (M.declared limit room x fs)
+    unfolding M.declared FairTop
+    declared-kept (family p (number m) n types body) fs h k = all-more fs _ k (record { types = h .1; body = λ r. ends-statements body fs r (h .2) k })
+    declared-kept (family p missing n types body) fs h k = k
+    declared-kept (qreg p n e) fs h k = k
+    declared-kept (creg p n e) fs h k = k
+    declared-kept (measure p w b e) fs h k = k
+    declared-kept (reset p w e) fs h k = k
+    declared-kept (if p v b ss) fs h k = k
+    declared-kept (statement x) fs h k = k
+    declared-kept (badTop n p) fs h k = k
+
+    all-kept : (xs : List Top) (fs : List Family) → AllOf (FairTop size) xs → AllOf Kept fs → AllOf Kept (M.allDeclared limit room xs fs)
+    unfolding M.allDeclared
+    all-kept [] fs h k = k
+    all-kept (x ∷ xs) fs h k = all-kept xs (M.declared limit room x fs) (h .1) (declared-kept x fs (h .0) k)
+
+    -- a part of a run that gives globals with such families on
+    abbrev LeadsIn : Outcome Globals → Type 0
+    LeadsIn (going g s) = AllOf Kept (g .families)
+    LeadsIn (ended n p s) = p ≤ size
+    LeadsIn stuck = Unit {0}
+
+    record Leads (run : Run Globals) : Type 0 where
+      ends : (s : M.State) → LeadsIn (run s)
+
+    leads-after : {A : Type 0} (o : Outcome A) (next : A → Run Globals) → EndsIn o → ((a : A) → Leads (next a)) → LeadsIn (M.after o next)
+    unfolding M.after
+    leads-after (going a s) next h k = k a .ends s
+    leads-after (ended n p s) next h k = h
+    leads-after stuck next h k = tt
+
+    leads-bind : {A : Type 0} {run : Run A} {next : A → Run Globals} → Ends run → ((a : A) → Leads (next a)) → Leads (M._>>=_ run next)
+    unfolding M._>>=_
+    leads-bind {run = run} {next = next} h k = record { ends = λ s. leads-after (run s) next (h .ends s) k }
+
+    leads-then : {run : Run (Unit {0})} {next : Run Globals} → Ends run → Leads next → Leads (M._>>_ run next)
+    unfolding M._>>_
+    leads-then {run = run} {next = next} h k = record { ends = λ s. leads-after (run s) (λ u. next) (h .ends s) (λ u. k) }
+
+    leads-give : (g : Globals) → AllOf Kept (g .families) → Leads (M.give g)
+    leads-give g h = record { ends = λ s. h }
+
+    leads-nothing : Leads M.noMeaning
+    leads-nothing = record { ends = λ s. tt }
+
+    leads-top : (x : Top) (g : Globals) → FairTop size x → AllOf Kept (g .families) → Leads (M.runTop limit room x g)
+    unfolding M.runTop FairTop M.withFamilies M.withWires M.withBits
+    leads-top (family p m n types body) g h k = leads-give _ (declared-kept (family p m n types body) (g .families) h k)
+    leads-top (qreg p (number n) e) g h k = leads-give _ k
+    leads-top (qreg p missing e) g h k = leads-nothing
+    leads-top (creg p (number n) e) g h k = leads-give _ k
+    leads-top (creg p missing e) g h k = leads-nothing
+    leads-top (measure p o c e) g h k = leads-then (ends-step p (h .0)) (leads-bind (ends-wire p (M.topFrame g) o (h .0)) λ w. leads-bind (ends-bit p (M.topFrame g) c (h .0)) λ b.
+        leads-then (ends-write p (M.topFrame g) _ (h .0)) (leads-give g k))
+    leads-top (reset p o e) g h k = leads-then (ends-step p (h .0)) (leads-bind (ends-wire p (M.topFrame g) o (h .0)) λ w. leads-then (ends-write p (M.topFrame g) _ (h .0)) (leads-give g k))
+    leads-top (if p v o ss) g h k = leads-then (ends-step p (h .0)) (leads-bind (ends-bit p (M.topFrame g) o (h .0)) λ b. leads-then (ends-statements ss (g .families) _ (h .2) k) (leads-give g k))
+    leads-top (statement x) g h k = leads-then (ends-statement x (g .families) (M.topFrame g) h k) (leads-give g k)
+    leads-top (badTop n p) g h k = leads-nothing
+
+    leads-on : (o : Outcome Globals) (next : Globals → Run Globals) → LeadsIn o → ((g : Globals) → AllOf Kept (g .families) → Ends (next g)) → EndsIn (M.after o next)
+    unfolding M.after
+    leads-on (going g s) next h k = k g h .ends s
+    leads-on (ended n p s) next h k = h
+    leads-on stuck next h k = tt
+
+    ends-tops : (xs : List Top) (g : Globals) → AllOf (FairTop size) xs → AllOf Kept (g .families) → Ends (M.runTops limit room xs g)
+    unfolding M.runTops M._>>=_
+    ends-tops [] g h k = ends-give g
+    ends-tops (x ∷ xs) g h k = record { ends = λ s. leads-on (M.runTop limit room x g s) (M.runTops limit room xs) (leads-top x g (h .0) k .ends s) (λ g′ k′. ends-tops xs g′ (h .1) k′) }
+
+-- a whole run ends at a place of the program
+pub run-within : (program : List ℕ) (limit room : ℕ) → EndsIn (length program) (M.runProgram limit room (read program))
+unfolding M.runProgram
+run-within program limit room = ends-tops (length program) limit room (read program) M.nothingYet (tops-fair program) tt .ends M.begin
+
+-- and so does an instance
+pub instance-within : (program : List ℕ) (limit room n : ℕ) (f : Family) (values : List ℤ) → getElem? (M.allDeclared limit room (read program) []) n ≡ some f
+    → EndsIn (length program) (M.runInstance f values)
+unfolding M.runInstance M.instanceRun
+instance-within program limit room n f values e =
+    let k = kept-found (length program) (M.allDeclared limit room (read program) []) n (all-kept (length program) limit room (read program) [] (tops-fair program) tt) f e in
+    ends-bind (length program) (ends-layout (length program) values 0 (f .types) (k .types)) (λ ms. k .body _) .ends M.begin
