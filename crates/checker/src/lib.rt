@@ -1,4 +1,4 @@
-// The check of a program.
+// The check of statements: index fields, operands, calls, lists, loops, top fields that declare nothing, and the parts of declarations.
 ghost use mathlib.Core.Path.{_≡_};
 ghost use mathlib.Core.Bool.{true, false};
 ghost use Prim.Native.Nat.{ℕ, _+_, _≤_, _<_};
@@ -10,13 +10,13 @@ ghost use Rattle.language.specs.Tree.{badIndex, badOperand, badType};
 ghost use Rattle.language.specs.Read.{field, due, readIndex, readLiteral, readVariable, readOperand, readWhole, readElement, readArgument, readCall, readStatement, statementsBy, forOf, readIf, readTop, qbitsOf, readType};
 ghost use Rattle.language.specs.Check.{formOf, combined};
 ghost use Rattle.fields.specs.Header.{fieldsAt};
-ghost use Rattle.forms.specs.Flat.{Kept, asForm};
+ghost use Rattle.forms.specs.Flat.{Kept, Short, widened, asForm};
 ghost use Rattle.checker.specs.Indexes.{indexTag, deepNumber, operationOf, scopeOf, formTold, Ends, Past};
 ghost use Rattle.language.specs.Form.{built, differenceOf, _thenBuild_, showing};
-ghost use Rattle.language.specs.Check.{Kind, Signature, byShowing, wholeFits, checkOperand, callForms, callOperands, checkStatement, checkStatements, Declared, topScope, checkTop, kindOf};
+ghost use Rattle.language.specs.Check.{Kind, Signature, require, byShowing, wholeFits, checkOperand, callForms, callOperands, checkStatement, checkStatements, Declared, topScope, checkTop, kindOf};
 ghost use Rattle.forms.specs.Flat.{builtOf};
 ghost use Rattle.forms.specs.Rows.{Rows, loopsOf, formsOf};
-ghost use Rattle.checker.specs.Operands.{kindBy, elementFits, withinShown, told, Upon, Passes, Right, kindsAt, scopeWith, scopeAt, wantedOf, SizeRight};
+ghost use Rattle.checker.specs.Operands.{kindBy, elementFits, inOrder, withinShown, told, Upon, Passes, Right, kindsAt, scopeWith, scopeAt, wantedOf, SizeRight};
 ghost use Rattle.checker.specs.Statements.{statementTag, tooDeep, Declares, scopeFull, loopTold, loopMeant, LoopPast, takenBy, oneWire, twoOperands, formsTold, PastCount, Loops};
 ghost use Rattle.checker.specs.Tops.{kept, numberTold, registerMeant, sizeTold, parameterTold, ParameterPast};
 use fields::Header;
@@ -242,7 +242,7 @@ fn must_show(
 // Shows the index f to be within a size.
 fn within(
     f: &[i64; 13],
-    size: &[i64; 13],
+    size: &[i64; 5],
     at: usize,
     next: usize,
     variables: usize,
@@ -251,11 +251,11 @@ fn within(
     highs: &[[i64; 13]],
 ) -> Read
     requires { ⌜ Kept (now f) ⌝ }
-    requires { ⌜ Kept (now size) ⌝ }
+    requires { ⌜ Short (now size) ⌝ }
     requires { ⌜ variables + loops ≤ 12 ⌝ }
     requires { ⌜ Rows (now lows) loops ⌝ }
     requires { ⌜ Rows (now highs) loops ⌝ }
-    ensures { λ r. ⌜ told r ≡ withinShown at variables (loopsOf loops (now (lows .entry)) (now (highs .entry))) (asForm (now (f .entry))) (asForm (now (size .entry))) ⌝ }
+    ensures { λ r. ⌜ told r ≡ withinShown at variables (loopsOf loops (now (lows .entry)) (now (highs .entry))) (asForm (now (f .entry))) (asForm (widened (now (size .entry)))) ⌝ }
     ensures { λ r. ⌜ Upon next r ⌝ }
 {
     let mut g = *f;
@@ -265,7 +265,8 @@ fn within(
     };
     let mut one = [0i64; 13];
     forms::set_constant(&mut one, 1);
-    let mut room = *size;
+    let mut room = [0i64; 13];
+    forms::load(&mut room, size);
     if forms::subtract(&mut room, &one) {
         if forms::subtract(&mut room, f) {
             return must_show(&mut room, at, next, variables, loops, lows, highs);
@@ -279,7 +280,7 @@ fn within(
 fn large_enough(
     known: bool,
     size: &[i64; 13],
-    own: &[i64; 13],
+    own: &[i64; 5],
     at: usize,
     next: usize,
     variables: usize,
@@ -288,15 +289,16 @@ fn large_enough(
     highs: &[[i64; 13]],
 ) -> Read
     requires { ⌜ (known ≡ true → Kept (now size)) ⌝ }
-    requires { ⌜ Kept (now own) ⌝ }
+    requires { ⌜ Short (now own) ⌝ }
     requires { ⌜ variables + loops ≤ 12 ⌝ }
     requires { ⌜ Rows (now lows) loops ⌝ }
     requires { ⌜ Rows (now highs) loops ⌝ }
-    ensures { λ r. ⌜ told r ≡ byShowing at (showing variables (loopsOf loops (now (lows .entry)) (now (highs .entry))) (builtOf known (now (size .entry)) thenBuild differenceOf (asForm (now (own .entry))))) ⌝ }
+    ensures { λ r. ⌜ told r ≡ byShowing at (showing variables (loopsOf loops (now (lows .entry)) (now (highs .entry))) (builtOf known (now (size .entry)) thenBuild differenceOf (asForm (widened (now (own .entry)))))) ⌝ }
     ensures { λ r. ⌜ Upon next r ⌝ }
 {
     if known {
-        let mut room = *own;
+        let mut room = [0i64; 13];
+        forms::load(&mut room, own);
         if forms::subtract(&mut room, size) {
             return must_show(&mut room, at, next, variables, loops, lows, highs);
         }
@@ -310,7 +312,7 @@ fn whole_fits(
     wanted: Wanted,
     size: &[i64; 13],
     kind: u8,
-    own: &[i64; 13],
+    own: &[i64; 5],
     at: usize,
     next: usize,
     variables: usize,
@@ -319,11 +321,11 @@ fn whole_fits(
     highs: &[[i64; 13]],
 ) -> Read
     requires { ⌜ SizeRight wanted (now size) ⌝ }
-    requires { ⌜ Kept (now own) ⌝ }
+    requires { ⌜ Short (now own) ⌝ }
     requires { ⌜ variables + loops ≤ 12 ⌝ }
     requires { ⌜ Rows (now lows) loops ⌝ }
     requires { ⌜ Rows (now highs) loops ⌝ }
-    ensures { λ r. ⌜ ((fs : List Signature) (ks : List Kind) → told r ≡ wholeFits at (scopeWith fs ks variables (loopsOf loops (now (lows .entry)) (now (highs .entry)))) (wantedOf wanted (now (size .entry))) (kindBy kind (asForm (now (own .entry))))) ⌝ }
+    ensures { λ r. ⌜ ((fs : List Signature) (ks : List Kind) → told r ≡ wholeFits at (scopeWith fs ks variables (loopsOf loops (now (lows .entry)) (now (highs .entry)))) (wantedOf wanted (now (size .entry))) (kindBy kind (asForm (widened (now (own .entry)))))) ⌝ }
     ensures { λ r. ⌜ Upon next r ⌝ }
 {
     match wanted {
@@ -354,6 +356,28 @@ fn element_fits(wanted: Wanted, kind: u8) -> bool
     }
 }
 
+// Whether an element of an operand of a kind is what is due, for the field from `at` to `next`.
+fn element_kind(wanted: Wanted, kind: u8, at: usize, next: usize) -> Read
+    ensures { λ r. ⌜ told r ≡ require 9 at (elementFits wanted kind) ⌝ }
+    ensures { λ r. ⌜ Upon next r ⌝ }
+{
+    if element_fits(wanted, kind) {
+        return Read::Upto(next);
+    }
+    Read::Refused(9, at)
+}
+
+// The first refusal of two tests of the same field, if there is one.
+fn first_refusal(first: Read, second: Read) -> Read
+    ensures { λ r. ⌜ told r ≡ inOrder (told first) (told second) ⌝ }
+    ensures { λ r. ⌜ ((n : ℕ) → Upon n first → Upon n second → Upon n r) ⌝ }
+{
+    match first {
+        Read::Upto(_) => second,
+        Read::Refused(n, p) => Read::Refused(n, p),
+    }
+}
+
 // The whole operand at `at`, whose field ends at `next`.
 fn whole(
     program: &[u8],
@@ -363,7 +387,7 @@ fn whole(
     size: &[i64; 13],
     s: Scope,
     kinds: &[u8],
-    sizes: &[[i64; 13]],
+    sizes: &[[i64; 5]],
     lows: &[[i64; 13]],
     highs: &[[i64; 13]],
 ) -> Read
@@ -408,7 +432,7 @@ fn element(
     size: &[i64; 13],
     s: Scope,
     kinds: &[u8],
-    sizes: &[[i64; 13]],
+    sizes: &[[i64; 5]],
     lows: &[[i64; 13]],
     highs: &[[i64; 13]],
 ) -> Read
@@ -436,10 +460,9 @@ fn element(
     if end < next {
         return Read::Refused(4, at);
     }
-    if element_fits(wanted, kinds[row]) {
-        return within(&f, &sizes[row], at, next, s.variables, s.loops, lows, highs);
-    }
-    Read::Refused(9, at)
+    let kind = element_kind(wanted, kinds[row], at, next);
+    let shown = within(&f, &sizes[row], at, next, s.variables, s.loops, lows, highs);
+    first_refusal(kind, shown)
 }
 
 // The operand that is due at `at` in the field at `place` whose content ends at `to`.
@@ -452,7 +475,7 @@ pub fn operand(
     size: &[i64; 13],
     s: Scope,
     kinds: &[u8],
-    sizes: &[[i64; 13]],
+    sizes: &[[i64; 5]],
     lows: &[[i64; 13]],
     highs: &[[i64; 13]],
 ) -> Read
@@ -502,7 +525,7 @@ fn one_wire(
     next: usize,
     s: Scope,
     kinds: &[u8],
-    sizes: &[[i64; 13]],
+    sizes: &[[i64; 5]],
     lows: &[[i64; 13]],
     highs: &[[i64; 13]],
 ) -> Read
@@ -543,7 +566,7 @@ fn two_operands(
     second: Wanted,
     s: Scope,
     kinds: &[u8],
-    sizes: &[[i64; 13]],
+    sizes: &[[i64; 5]],
     lows: &[[i64; 13]],
     highs: &[[i64; 13]],
 ) -> Read
@@ -632,17 +655,11 @@ fn call_forms(
 }
 
 // What a parameter of a kind and an own size takes, with a call's m forms put in; the size goes to `size`.
-fn taken(
-    kind: u8,
-    own: &[i64; 13],
-    forms: &[[i64; 13]; 4],
-    m: usize,
-    size: &mut [i64; 13],
-) -> Wanted
-    requires { ⌜ Kept (now own) ⌝ }
+fn taken(kind: u8, own: &[i64; 5], forms: &[[i64; 13]; 4], m: usize, size: &mut [i64; 13]) -> Wanted
+    requires { ⌜ Short (now own) ⌝ }
     requires { ⌜ m ≤ 4 ⌝ }
     requires { ⌜ Rows (now forms) 4 ⌝ }
-    ensures { λ r. ⌜ wantedOf r (now (size .exit)) ≡ takenBy (formsOf m (now (forms .entry))) (kindBy kind (asForm (now (own .entry)))) ⌝ }
+    ensures { λ r. ⌜ wantedOf r (now (size .exit)) ≡ takenBy (formsOf m (now (forms .entry))) (kindBy kind (asForm (widened (now (own .entry))))) ⌝ }
     ensures { λ r. ⌜ SizeRight r (now (size .exit)) ⌝ }
 {
     if kind == 0 {
@@ -667,14 +684,14 @@ fn call_operands(
     m: usize,
     s: Scope,
     kinds: &[u8],
-    sizes: &[[i64; 13]],
+    sizes: &[[i64; 5]],
     lows: &[[i64; 13]],
     highs: &[[i64; 13]],
 ) -> Read
     requires { ⌜ to ≤ length (now program) ⌝ }
     requires { ⌜ m ≤ 4 ⌝ }
     requires { ⌜ Rows (now forms) 4 ⌝ }
-    requires { ⌜ first + count ≤ s .first ⌝ }
+    requires { ⌜ first + count ≤ length (now kinds) ⌝ }
     requires { ⌜ Right s (now kinds) (now sizes) (now lows) (now highs) ⌝ }
     ensures { λ r. ⌜ ((fs : List Signature) → told r ≡ callOperands (scopeAt fs s (now (kinds .entry)) (now (sizes .entry)) (now (lows .entry)) (now (highs .entry))) place (formsOf m (now (forms .entry))) (kindsAt count first (now (kinds .entry)) (now (sizes .entry))) (map readArgument (fieldsAt (now (program .entry)) at to))) ⌝ }
     ensures { λ r. ⌜ Upon to r ⌝ }
@@ -714,17 +731,16 @@ fn call(
     at: usize,
     next: usize,
     s: Scope,
-    arities: &[u8],
-    counts: &[u8],
+    families: &[[usize; 3]],
     kinds: &[u8],
-    sizes: &[[i64; 13]],
+    sizes: &[[i64; 5]],
     lows: &[[i64; 13]],
     highs: &[[i64; 13]],
 ) -> Read
     requires { ⌜ (at + 3 ≤ next) × (next ≤ length (now program)) ⌝ }
     requires { ⌜ Right s (now kinds) (now sizes) (now lows) (now highs) ⌝ }
-    requires { ⌜ Declares s (now arities) (now counts) ⌝ }
-    ensures { λ r. ⌜ told r ≡ checkStatement (readCall at (slice (at + 3) next (now (program .entry)))) (scopeFull s (now (arities .entry)) (now (counts .entry)) (now (kinds .entry)) (now (sizes .entry)) (now (lows .entry)) (now (highs .entry))) ⌝ }
+    requires { ⌜ Declares s (now families) (now kinds) ⌝ }
+    ensures { λ r. ⌜ told r ≡ checkStatement (readCall at (slice (at + 3) next (now (program .entry)))) (scopeFull s (now (families .entry)) (now (kinds .entry)) (now (sizes .entry)) (now (lows .entry)) (now (highs .entry))) ⌝ }
 {
     let from = at + 3;
     if next <= from {
@@ -734,10 +750,11 @@ fn call(
     if s.families <= n {
         return Read::Refused(8, at);
     }
-    let m = wide(arities[n]);
-    let count = wide(counts[n]);
+    let family = families[n];
+    let m = family[0];
+    let count = family[1];
+    let first = family[2];
     let inner = at + 4;
-    let first = 8 * n;
     let mut forms = [[0i64; 13]; 4];
     let r = call_forms(program, inner, next, at, m, s, lows, highs, &mut forms);
     let Read::Upto(mid) = r else {
@@ -833,17 +850,16 @@ pub fn one_statement(
     tag: u8,
     levels: usize,
     s: Scope,
-    arities: &[u8],
-    counts: &[u8],
+    families: &[[usize; 3]],
     kinds: &[u8],
-    sizes: &[[i64; 13]],
+    sizes: &[[i64; 5]],
     lows: &[[i64; 13]; 8],
     highs: &[[i64; 13]; 8],
 ) -> Read
     requires { ⌜ (at + 3 ≤ next) × (next ≤ length (now program)) ⌝ }
     requires { ⌜ Right s (now kinds) (now sizes) (now lows) (now highs) ⌝ }
-    requires { ⌜ Declares s (now arities) (now counts) ⌝ }
-    ensures { λ r. ⌜ told r ≡ checkStatement (readStatement levels (field at tag (slice (at + 3) next (now (program .entry))))) (scopeFull s (now (arities .entry)) (now (counts .entry)) (now (kinds .entry)) (now (sizes .entry)) (now (lows .entry)) (now (highs .entry))) ⌝ }
+    requires { ⌜ Declares s (now families) (now kinds) ⌝ }
+    ensures { λ r. ⌜ told r ≡ checkStatement (readStatement levels (field at tag (slice (at + 3) next (now (program .entry))))) (scopeFull s (now (families .entry)) (now (kinds .entry)) (now (sizes .entry)) (now (lows .entry)) (now (highs .entry))) ⌝ }
 {
     let kind = statement_tag(tag);
     if levels == 0 {
@@ -866,20 +882,7 @@ pub fn one_statement(
                 highs,
             )
         }
-        StatementTag::Call => {
-            call(
-                program,
-                at,
-                next,
-                s,
-                arities,
-                counts,
-                kinds,
-                sizes,
-                lows,
-                highs,
-            )
-        }
+        StatementTag::Call => { call(program, at, next, s, families, kinds, sizes, lows, highs) }
         StatementTag::Reverse => {
             list(
                 program,
@@ -887,8 +890,7 @@ pub fn one_statement(
                 next,
                 below,
                 s,
-                arities,
-                counts,
+                families,
                 kinds,
                 sizes,
                 lows,
@@ -902,8 +904,7 @@ pub fn one_statement(
                 next,
                 below,
                 s,
-                arities,
-                counts,
+                families,
                 kinds,
                 sizes,
                 lows,
@@ -921,17 +922,16 @@ pub fn list(
     to: usize,
     levels: usize,
     s: Scope,
-    arities: &[u8],
-    counts: &[u8],
+    families: &[[usize; 3]],
     kinds: &[u8],
-    sizes: &[[i64; 13]],
+    sizes: &[[i64; 5]],
     lows: &[[i64; 13]; 8],
     highs: &[[i64; 13]; 8],
 ) -> Read
     requires { ⌜ to ≤ length (now program) ⌝ }
     requires { ⌜ Right s (now kinds) (now sizes) (now lows) (now highs) ⌝ }
-    requires { ⌜ Declares s (now arities) (now counts) ⌝ }
-    ensures { λ r. ⌜ told r ≡ checkStatements (statementsBy (readStatement levels) (fieldsAt (now (program .entry)) from to)) (scopeFull s (now (arities .entry)) (now (counts .entry)) (now (kinds .entry)) (now (sizes .entry)) (now (lows .entry)) (now (highs .entry))) ⌝ }
+    requires { ⌜ Declares s (now families) (now kinds) ⌝ }
+    ensures { λ r. ⌜ told r ≡ checkStatements (statementsBy (readStatement levels) (fieldsAt (now (program .entry)) from to)) (scopeFull s (now (families .entry)) (now (kinds .entry)) (now (sizes .entry)) (now (lows .entry)) (now (highs .entry))) ⌝ }
 {
     let mut at = from;
     loop {
@@ -946,8 +946,7 @@ pub fn list(
                     tag,
                     levels,
                     s,
-                    arities,
-                    counts,
+                    families,
                     kinds,
                     sizes,
                     lows,
@@ -969,22 +968,22 @@ fn repeated(
     next: usize,
     levels: usize,
     s: Scope,
-    arities: &[u8],
-    counts: &[u8],
+    families: &[[usize; 3]],
     kinds: &[u8],
-    sizes: &[[i64; 13]],
+    sizes: &[[i64; 5]],
     lows: &[[i64; 13]; 8],
     highs: &[[i64; 13]; 8],
 ) -> Read
     requires { ⌜ (at + 3 ≤ next) × (next ≤ length (now program)) ⌝ }
     requires { ⌜ Right s (now kinds) (now sizes) (now lows) (now highs) ⌝ }
-    requires { ⌜ Declares s (now arities) (now counts) ⌝ }
-    ensures { λ r. ⌜ told r ≡ checkStatement (forOf (readStatement levels) at (fieldsAt (now (program .entry)) (at + 3) next)) (scopeFull s (now (arities .entry)) (now (counts .entry)) (now (kinds .entry)) (now (sizes .entry)) (now (lows .entry)) (now (highs .entry))) ⌝ }
+    requires { ⌜ Declares s (now families) (now kinds) ⌝ }
+    ensures { λ r. ⌜ told r ≡ checkStatement (forOf (readStatement levels) at (fieldsAt (now (program .entry)) (at + 3) next)) (scopeFull s (now (families .entry)) (now (kinds .entry)) (now (sizes .entry)) (now (lows .entry)) (now (highs .entry))) ⌝ }
 {
     let n = s.loops;
     if 8 <= n {
         return Read::Refused(6, at);
     }
+    let loops = n + 1;
     let variables = s.variables + n;
     let mut low = [0i64; 13];
     let mut high = [0i64; 13];
@@ -996,7 +995,6 @@ fn repeated(
     inner_lows[n] = low;
     let mut inner_highs = *highs;
     inner_highs[n] = high;
-    let loops = n + 1;
     let t = Scope {
         families: s.families,
         first: s.first,
@@ -1010,8 +1008,7 @@ fn repeated(
         next,
         levels,
         t,
-        arities,
-        counts,
+        families,
         kinds,
         sizes,
         &inner_lows,
@@ -1025,17 +1022,16 @@ fn conditional(
     at: usize,
     next: usize,
     s: Scope,
-    arities: &[u8],
-    counts: &[u8],
+    families: &[[usize; 3]],
     kinds: &[u8],
-    sizes: &[[i64; 13]],
+    sizes: &[[i64; 5]],
     lows: &[[i64; 13]; 8],
     highs: &[[i64; 13]; 8],
 ) -> Read
     requires { ⌜ (at + 3 ≤ next) × (next ≤ length (now program)) ⌝ }
     requires { ⌜ Right s (now kinds) (now sizes) (now lows) (now highs) ⌝ }
-    requires { ⌜ Declares s (now arities) (now counts) ⌝ }
-    ensures { λ r. ⌜ ((d : Declared) → topScope d ≡ (scopeFull s (now (arities .entry)) (now (counts .entry)) (now (kinds .entry)) (now (sizes .entry)) (now (lows .entry)) (now (highs .entry))) → kept r d ≡ checkTop (readIf at (slice (at + 3) next (now (program .entry)))) d) ⌝ }
+    requires { ⌜ Declares s (now families) (now kinds) ⌝ }
+    ensures { λ r. ⌜ ((d : Declared) → topScope d ≡ (scopeFull s (now (families .entry)) (now (kinds .entry)) (now (sizes .entry)) (now (lows .entry)) (now (highs .entry))) → kept r d ≡ checkTop (readIf at (slice (at + 3) next (now (program .entry)))) d) ⌝ }
 {
     let from = at + 3;
     if next <= from {
@@ -1069,8 +1065,7 @@ fn conditional(
         next,
         15,
         s,
-        arities,
-        counts,
+        families,
         kinds,
         sizes,
         lows,
@@ -1085,34 +1080,22 @@ pub fn action(
     next: usize,
     tag: u8,
     s: Scope,
-    arities: &[u8],
-    counts: &[u8],
+    families: &[[usize; 3]],
     kinds: &[u8],
-    sizes: &[[i64; 13]],
+    sizes: &[[i64; 5]],
     lows: &[[i64; 13]; 8],
     highs: &[[i64; 13]; 8],
 ) -> Read
     requires { ⌜ (at + 3 ≤ next) × (next ≤ length (now program)) ⌝ }
     requires { ⌜ Right s (now kinds) (now sizes) (now lows) (now highs) ⌝ }
-    requires { ⌜ Declares s (now arities) (now counts) ⌝ }
+    requires { ⌜ Declares s (now families) (now kinds) ⌝ }
     requires { ⌜ (tag ≡ 1 → ⊥) × (tag ≡ 2 → ⊥) × (tag ≡ 3 → ⊥) ⌝ }
-    ensures { λ r. ⌜ ((d : Declared) → topScope d ≡ (scopeFull s (now (arities .entry)) (now (counts .entry)) (now (kinds .entry)) (now (sizes .entry)) (now (lows .entry)) (now (highs .entry))) → kept r d ≡ checkTop (readTop (field at tag (slice (at + 3) next (now (program .entry))))) d) ⌝ }
+    ensures { λ r. ⌜ ((d : Declared) → topScope d ≡ (scopeFull s (now (families .entry)) (now (kinds .entry)) (now (sizes .entry)) (now (lows .entry)) (now (highs .entry))) → kept r d ≡ checkTop (readTop (field at tag (slice (at + 3) next (now (program .entry))))) d) ⌝ }
 {
     match tag {
         4 => two_operands(program, at, next, Wanted::Bit, s, kinds, sizes, lows, highs),
         5 => one_wire(program, at, next, s, kinds, sizes, lows, highs),
-        6 => conditional(
-            program,
-            at,
-            next,
-            s,
-            arities,
-            counts,
-            kinds,
-            sizes,
-            lows,
-            highs,
-        ),
+        6 => conditional(program, at, next, s, families, kinds, sizes, lows, highs),
         _ => one_statement(
             program,
             at,
@@ -1120,8 +1103,7 @@ pub fn action(
             tag,
             16,
             s,
-            arities,
-            counts,
+            families,
             kinds,
             sizes,
             lows,

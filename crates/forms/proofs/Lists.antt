@@ -2,7 +2,7 @@
 --     front i new old   the first i of `new`, and what is left of `old` past them: what such a loop has after i turns
 --     rest-...          the answer to "are all in range" is the answer for what is left, so long as each one passed is
 -- Assumes nothing.
-use mathlib.Core.Path.{_≡_, refl, sym, ap, _∙_}
+use mathlib.Core.Path.{_≡_, refl, sym, ap, _∙_, subst}
 use mathlib.Core.List.{List, [], _∷_, _++_, map}
 use mathlib.Core.Bool.{Bool, true, false, cond, _&&_}
 use Prim.Native.Nat.{ℕ, zero, suc, _+_, _-_, _≤_, _<_}
@@ -10,10 +10,10 @@ use native.Mathlib.Numerals.{add-one}
 use native.Mathlib.Omega.{arith}
 use lib.IntN.{ℤ, pos, negsuc, _+ℤ_, _-ℤ_, _*ℤ_}
 use lib.Signed.{leZ, ltZ}
-use lib.ListN.{length, getD, take, drop, set, length-set, length-take, length-drop}
-use lib.Seq.{getD-take, getD-drop}
+use lib.ListN.{length, getD, take, drop, set, replicate, length-set, length-take, length-drop, length-append, take-append-drop, List·getD-append}
+use lib.Seq.{getD-take, getD-drop, take-all}
 use Rattle.language.specs.Form.{Form, Built, built, outOfRange, Loop, closed, closedAll, showing, showingOf, inRange, allInRange, zipped, build, sumOf, differenceOf, multipleOf, _thenBuild_, without, noneNegative, isZero, allZero, constantForm, variableForm}
-use Rattle.forms.specs.Flat.{Kept, asForm, builtOf, showingBy}
+use Rattle.forms.specs.Flat.{Kept, Short, widened, asForm, builtOf, showingBy}
 use Rattle.language.proofs.Integers.{clash, lt-true}
 
 module _ {A : Type 0} where
@@ -264,3 +264,61 @@ rest-long (x ∷ f) k = let l = k .long in omega arith
 
 pub kept-at : (f : List ℤ) (i : ℕ) → i < 13 → Kept f → inRange (getD f i (pos 0)) ≡ true
 kept-at f i h k = each-at ranges f i (let l = k .long in omega arith) (k .inside)
+
+-- ---- rows of five numbers
+
+both-true : (a b c : Bool) → (b ≡ true → c ≡ true) → (a && b) ≡ true → (a && c) ≡ true
+both-true true b c f e = f e
+both-true false b c f e = absurd (clash (sym e))
+
+widened-range : (l : List ℤ) → allInRange l ≡ true → allInRange (widened l) ≡ true
+unfolding inRange allInRange
+widened-range [] e = refl
+widened-range (z ∷ l) e = both-true (inRange z) (allInRange l) (allInRange (widened l)) (widened-range l) e
+
+pub short-kept : (l : List ℤ) → Short l → Kept (widened l)
+short-kept l s = record { long = (let n = s .long in omega (arith, length-append l (replicate 8 (pos 0)))); inside = widened-range l (s .inside) }
+
+pub short-at : (l : List ℤ) (i : ℕ) → i < 5 → Short l → getD (widened l) i (pos 0) ≡ getD l i (pos 0)
+short-at l i h s = let n = s .long in List·getD-append l (replicate 8 (pos 0)) (pos 0) i (omega arith)
+
+pub short-range : (l : List ℤ) (i : ℕ) → i < 5 → Short l → inRange (getD l i (pos 0)) ≡ true
+short-range l i h s = ap inRange (sym (short-at l i h s)) ∙ kept-at (widened l) i (omega arith) (short-kept l s)
+
+-- the first five of a list, one by one
+abbrev pub listed : List ℤ → List ℤ
+listed l = getD l 0 (pos 0) ∷ getD l 1 (pos 0) ∷ getD l 2 (pos 0) ∷ getD l 3 (pos 0) ∷ getD l 4 (pos 0) ∷ []
+
+five-first : (l : List ℤ) → 5 ≤ length l → listed l ≡ take 5 l
+five-first [] e = absurd (omega arith)
+five-first (a ∷ []) e = absurd (omega arith)
+five-first (a ∷ b ∷ []) e = absurd (omega arith)
+five-first (a ∷ b ∷ c ∷ []) e = absurd (omega arith)
+five-first (a ∷ b ∷ c ∷ d ∷ []) e = absurd (omega arith)
+five-first (a ∷ b ∷ c ∷ d ∷ x ∷ l) e = refl
+
+take-range : (n : ℕ) (l : List ℤ) → allInRange l ≡ true → allInRange (take n l) ≡ true
+unfolding allInRange
+take-range zero l e = refl
+take-range (suc n) [] e = refl
+take-range (suc n) (z ∷ l) e = both-true (inRange z) (allInRange l) (allInRange (take n l)) (take-range n l) e
+
+module _ (l : List ℤ) (s : Short l) where
+  five-all : listed l ≡ l
+  five-all = let n = s .long in five-first l (omega arith) ∙ take-all 5 l (omega arith)
+
+  pub load-wide : widened (listed l) ≡ widened l
+  load-wide = ap widened five-all
+
+  pub load-kept : Kept (widened (listed l))
+  load-kept = subst (λ (x : List ℤ). Kept (widened x)) (sym five-all) (short-kept l s)
+
+module _ (l : List ℤ) (k : Kept l) where
+  five-some : listed l ≡ take 5 l
+  five-some = let n = k .long in five-first l (omega arith)
+
+  pub store-wide : drop 5 l ≡ replicate 8 (pos 0) → widened (listed l) ≡ l
+  store-wide e = ap widened five-some ∙ ap (λ (x : List ℤ). take 5 l ++ x) (sym e) ∙ take-append-drop 5 l
+
+  pub store-short : Short (listed l)
+  store-short = subst (λ (x : List ℤ). Short x) (sym five-some) (record { long = (let n = k .long in omega (arith, length-take 5 l)); inside = take-range 5 l (k .inside) })

@@ -2,13 +2,13 @@
 ghost use mathlib.Core.Path.{_≡_};
 ghost use mathlib.Core.Bool.{true, false};
 ghost use Prim.Native.Nat.{ℕ, _+_, _≤_, _<_};
-ghost use lib.ListN.{length, getD};
+ghost use lib.ListN.{length, getD, drop, replicate};
 ghost use lib.IntN.{pos};
 ghost use Rattle.language.specs.Form.{built, inRange, constantForm, variableForm, sumOf, differenceOf, multipleOf, _thenBuild_, allZero, closed, showingOf, showing, putIn};
 ghost use Rattle.language.specs.Tree.{Place, product};
 ghost use Rattle.language.specs.Check.{combined};
-ghost use Rattle.forms.specs.Flat.{Kept, asForm, builtOf, showingBy, shownOf};
 ghost use Rattle.forms.specs.Products.{madeOf, productOf, MadeKept};
+ghost use Rattle.forms.specs.Flat.{Kept, Short, widened, asForm, builtOf, showingBy, shownOf};
 ghost use Rattle.forms.specs.Entry.{entryOf};
 ghost use Rattle.forms.specs.Rows.{Rows, loopAt, loopsOf, formsOf};
 
@@ -245,12 +245,41 @@ pub fn show(
     }
 }
 
+// f becomes the form that a row of a table keeps.
+pub fn load(f: &mut [i64; 13], row: &[i64; 5])
+    requires { ⌜ Short (now row) ⌝ }
+    ensures { λ _. ⌜ now (f .exit) ≡ widened (now (row .entry)) ⌝ }
+    ensures { λ _. ⌜ Kept (now (f .exit)) ⌝ }
+{
+    *f = [0i64; 13];
+    f[0] = row[0];
+    f[1] = row[1];
+    f[2] = row[2];
+    f[3] = row[3];
+    f[4] = row[4];
+}
+
+// The row that keeps f, whose coefficients but for the first four are 0.
+pub fn store(row: &mut [i64; 5], f: &[i64; 13])
+    requires { ⌜ Kept (now f) ⌝ }
+    requires { ⌜ drop 5 (now f) ≡ replicate 8 (pos 0) ⌝ }
+    ensures { λ _. ⌜ widened (now (row .exit)) ≡ now (f .entry) ⌝ }
+    ensures { λ _. ⌜ Short (now (row .exit)) ⌝ }
+{
+    *row = [0i64; 5];
+    row[0] = f[0];
+    row[1] = f[1];
+    row[2] = f[2];
+    row[3] = f[3];
+    row[4] = f[4];
+}
+
 // f becomes a parameter's size with a call's forms put in for the family's m variables, all together.
-pub fn put_in(f: &mut [i64; 13], size: &[i64; 13], forms: &[[i64; 13]], m: usize) -> bool
-    requires { ⌜ Kept (now size) ⌝ }
-    requires { ⌜ m ≤ 12 ⌝ }
+pub fn put_in(f: &mut [i64; 13], size: &[i64; 5], forms: &[[i64; 13]], m: usize) -> bool
+    requires { ⌜ Short (now size) ⌝ }
+    requires { ⌜ m ≤ 4 ⌝ }
     requires { ⌜ Rows (now forms) m ⌝ }
-    ensures { λ r. ⌜ builtOf r (now (f .exit)) ≡ putIn (asForm (now (size .entry))) (formsOf m (now (forms .entry))) ⌝ }
+    ensures { λ r. ⌜ builtOf r (now (f .exit)) ≡ putIn (asForm (widened (now (size .entry)))) (formsOf m (now (forms .entry))) ⌝ }
     ensures { λ r. ⌜ (r ≡ true → Kept (now (f .exit))) ⌝ }
 {
     let z = size[0];

@@ -13,7 +13,7 @@ use Rattle.language.specs.Result.{verdict, checkProgram, checkResult}
 use Rattle.language.proofs.Refusals.{place-within}
 use Rattle.program_check.specs.Declaring.{resultTold}
 use Rattle.program_check.specs.declared.Outcome.{Outcome}
-use Rattle.program_check.specs.declared.Outcome.the-variants.{Accepted, Turned}
+use Rattle.program_check.specs.declared.Outcome.the-variants.{Turned}
 
 -- the place of a check's answer
 pub place-small : (p : List ℕ) → checkResult p .place ≤ 65535

@@ -1,24 +1,21 @@
 -- What the fields at the top, one after the other, say of the definitions. Assumes nothing.
 use mathlib.Core.Path.{_≡_, refl, sym, ap, _∙_}
 use mathlib.Core.List.{List, [], _∷_, map}
-use mathlib.Core.Bool.{Bool, true, false}
 use Prim.Native.Nat.{ℕ, _+_, _≤_, _<_}
 use native.Mathlib.Omega.{arith}
 use borrow.Author.Tests.{le-leb, lt-leb}
 use lib.IntN.{ℤ, pos}
-use lib.ListN.{length, getD, replicate, length-replicate, getD-replicate}
+use lib.ListN.{length, replicate, length-replicate, getD-replicate}
 use lib.Seq.{slice, take-length}
 use Rattle.language.specs.Tree.{qreg, creg}
 use Rattle.language.specs.Read.{Field, field, badHeader, fields, choose, readFamily, readRegister, readTop, read}
-use Rattle.language.specs.Check.{Checked, good, refused, _>>=_, _>>_, require, Declared, checkTop, checkTops, check}
-use Rattle.language.specs.Result.{Result, verdict, checkProgram, checkResult}
+use Rattle.language.specs.Check.{Checked, _>>=_, _>>_, require, Declared, checkTop, checkTops, check}
+use Rattle.language.specs.Result.{verdict, checkProgram, checkResult}
 use Rattle.fields.specs.Header.{fieldsAt}
 use Rattle.fields.proofs.Reading.{Wholly}
-use Rattle.forms.specs.Flat.{Kept}
-use Rattle.forms.specs.Rows.{Rows}
-use Rattle.forms.proofs.Laws.{zeros-kept}
+use Rattle.language.specs.Form.{inRange, allInRange}
 use Rattle.checker.specs.Operands.{tabulated}
-use Rattle.program_check.specs.Declaring.{Table, declaredAt, Holds, nothing, stepTold, StepHolds, resultTold}
+use Rattle.program_check.specs.Declaring.{declaredAt, Holds, nothing, stepTold, StepHolds, resultTold}
 use Rattle.program_check.specs.declared.Totals.{Totals}
 use Rattle.program_check.specs.declared.Step.{Step}
 use Rattle.program_check.specs.declared.Step.the-variants.{Going, Stopped}
@@ -56,44 +53,46 @@ module _ (p : List ℕ) (at to : ℕ) (d : Declared) where
   unfolding checkTops checkTop readTop resultTold verdict _>>=_
   tops-cut e = sym (ap (λ (fs : List Field). verdict (checkTops (map readTop fs) d)) e)
 
-  module _ (tag next : ℕ) (w : Wholly p at to tag next) (s : Step) (arities counts kinds : List ℕ) (sizes : List (List ℤ))
-      (e : stepTold s arities counts kinds sizes ≡ checkTop (readTop (field at tag (slice (at + 3) next p))) d) where
-    tops-next : topsAt p at to d ≡ (stepTold s arities counts kinds sizes >>= topsAt p next to)
+  module _ (tag next : ℕ) (w : Wholly p at to tag next) (s : Step) (families : List (List ℕ)) (kinds : List ℕ) (sizes : List (List ℤ))
+      (e : stepTold s families kinds sizes ≡ checkTop (readTop (field at tag (slice (at + 3) next p))) d) where
+    tops-next : topsAt p at to d ≡ (stepTold s families kinds sizes >>= topsAt p next to)
     unfolding checkTops
     tops-next = ap (λ (fs : List Field). checkTops (map readTop fs) d) (w .first) ∙ ap (λ (c : Checked Declared). c >>= topsAt p next to) (sym e)
 
     pub tops-stop : (n q : ℕ) → s ≡ Stopped n q → resultTold (Turned n q) ≡ verdict (topsAt p at to d)
     unfolding resultTold verdict stepTold _>>=_
-    tops-stop n q u = sym (ap verdict (tops-next ∙ ap (λ (x : Step). stepTold x arities counts kinds sizes >>= topsAt p next to) u))
+    tops-stop n q u = sym (ap verdict (tops-next ∙ ap (λ (x : Step). stepTold x families kinds sizes >>= topsAt p next to) u))
 
-    pub tops-go : (t : Totals) → s ≡ Going t → topsAt p at to d ≡ topsAt p next to (declaredAt t arities counts kinds sizes)
+    pub tops-go : (t : Totals) → s ≡ Going t → topsAt p at to d ≡ topsAt p next to (declaredAt t families kinds sizes)
     unfolding stepTold _>>=_
-    tops-go t u = tops-next ∙ ap (λ (x : Step). stepTold x arities counts kinds sizes >>= topsAt p next to) u
+    tops-go t u = tops-next ∙ ap (λ (x : Step). stepTold x families kinds sizes >>= topsAt p next to) u
 
-pub step-holds : (s : Step) (t : Totals) (arities counts kinds : List ℕ) (sizes : List (List ℤ)) → s ≡ Going t → StepHolds s arities counts kinds sizes → Holds t arities counts kinds sizes
-step-holds s t arities counts kinds sizes e h = rw e at h
+pub step-holds : (s : Step) (t : Totals) (families : List (List ℕ)) (kinds : List ℕ) (sizes : List (List ℤ)) → s ≡ Going t → StepHolds s families kinds sizes → Holds t families kinds sizes
+step-holds s t families kinds sizes e h = rw e at h
 
 -- ---- the start
 
-pub tops-all : (p arities counts kinds : List ℕ) (sizes : List (List ℤ)) → check (read p) ≡ topsAt p 0 (length p) (declaredAt nothing arities counts kinds sizes)
+pub tops-all : (p : List ℕ) (families : List (List ℕ)) (kinds : List ℕ) (sizes : List (List ℤ)) → check (read p) ≡ topsAt p 0 (length p) (declaredAt nothing families kinds sizes)
 unfolding check read fieldsAt tabulated
-tops-all p arities counts kinds sizes = sym (ap (λ (l : List ℕ). checkTops (map readTop (fields 0 l)) (declaredAt nothing arities counts kinds sizes)) (take-length p))
+tops-all p families kinds sizes = sym (ap (λ (l : List ℕ). checkTops (map readTop (fields 0 l)) (declaredAt nothing families kinds sizes)) (take-length p))
 
-pub zeros-hold : Holds nothing (replicate 255 0) (replicate 255 0) (replicate 2295 0) (replicate 2295 (replicate 13 (pos 0)))
+pub zeros-hold : Holds nothing (replicate 255 (replicate 3 0)) (replicate 2295 0) (replicate 2295 (replicate 5 (pos 0)))
+unfolding inRange allInRange
 zeros-hold = record {
   table = record {
     kindsLong = length-replicate {A = ℕ} 2295 0;
-    sizesLong = length-replicate 2295 (replicate 13 (pos 0));
-    sizeRows = record { enough = omega (arith, length-replicate 2295 (replicate 13 (pos 0))); each = λ i h. rw (getD-replicate 2295 i (replicate 13 (pos 0)) [] h) zeros-kept };
+    sizesLong = length-replicate 2295 (replicate 5 (pos 0));
+    sizeRows = record { enough = omega (arith, length-replicate 2295 (replicate 5 (pos 0))); each = λ i h. rw (getD-replicate 2295 i (replicate 5 (pos 0)) [] h) (record { long = refl; inside = refl }) };
   };
-  arityRows = length-replicate {A = ℕ} 255 0;
-  countRows = length-replicate {A = ℕ} 255 0;
+  long = length-replicate {A = List ℕ} 255 (replicate 3 0);
   mostFamilies = omega arith;
   mostRegisters = omega arith;
   mostQubits = omega arith;
   mostBits = omega arith;
-  few = λ k h. absurd (omega arith);
-  some = λ k h. absurd (omega arith);
+  leastRows = omega arith;
+  mostRows = omega arith;
+  each = λ k h. absurd (omega arith);
+  behind = λ k h. absurd (omega arith);
 }
 
 pub program-long : (p : List ℕ) → 65535 < length p → resultTold (Turned 1 0) ≡ checkResult p

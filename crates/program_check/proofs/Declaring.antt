@@ -2,30 +2,25 @@
 use mathlib.Core.Path.{_≡_, refl, sym, ap, _∙_}
 use mathlib.Core.List.{List, [], _∷_, _++_, append-assoc}
 use mathlib.Core.Bool.{Bool, true, false, _&&_}
-use Prim.Native.Nat.{ℕ, zero, suc, _+_, _-_, _*_, _≤_, _<_}
+use Prim.Native.Nat.{ℕ, suc, _+_, _-_, _≤_, _<_}
 use native.Mathlib.Omega.{arith}
-use native.Mathlib.Nat.{zero-add}
-use native.Mathlib.Numerals.{add-one}
 use lib.Dec.{eqb, leb, ltb}
-use borrow.Author.Tests.{eqb-true, eqb-false, ne-eqb, le-leb, lt-leb, le-ltb, lt-ltb, leb-true, ltb-true}
+use borrow.Author.Tests.{eqb-true, eqb-false, le-leb, lt-leb, le-ltb, lt-ltb, leb-true, ltb-true}
 use lib.IntN.{ℤ, pos}
 use lib.ListN.{length, getD, drop, set, length-set, replicate, length-replicate, getD-replicate}
-use lib.Seq.{slice, getD-set-same, getD-set-other}
+use lib.Seq.{getD-set-same, getD-set-other}
 use types.Run.{OneOf}
 use denote.Enum.Declared.{tagOf}
-use Rattle.language.specs.Tree.{badType, number, missing, family}
-use Rattle.language.specs.Read.{Field, due, fields, readType, typesOf, statementsBy, outerStatement, familyOf, readFamily}
-use Rattle.language.specs.Form.{Form, constantForm}
-use Rattle.language.specs.Check.{Checked, good, refused, _>>=_, _>>_, require, checkNumber, Kind, qubit, quantum, classical, Signature, kindOf, kindsOf, checkStatements, Declared, familyScope, withFamily, withQubits, withBits, checkTop}
+use Rattle.language.specs.Tree.{badType}
+use Rattle.language.specs.Read.{Field, due, readType, typesOf}
+use Rattle.language.specs.Check.{Checked, good, refused, _>>=_, _>>_, require, checkNumber, Kind, quantum, kindOf, kindsOf, Declared}
 use Rattle.language.specs.Check as C
 use Rattle.fields.specs.Header.{fieldsAt}
-use Rattle.fields.proofs.Reading.{one-byte, slice-none}
-use Rattle.forms.specs.Flat.{Kept, asForm}
-use Rattle.forms.specs.Rows.{Rows, loopsOf}
-use Rattle.forms.proofs.Laws.{fewer, zeros-kept}
+use Rattle.forms.specs.Flat.{Kept, Short, widened, asForm}
+use Rattle.forms.specs.Rows.{Rows, ShortRows, loopsOf}
+use Rattle.forms.proofs.Laws.{zeros-kept}
 use Rattle.checker.specs.Indexes.{Passed}
-use Rattle.checker.specs.Operands.{kindBy, kindAt, kindsAt, tabulated, scopeWith, told}
-use Rattle.checker.specs.Statements.{signatureAt, Beyond, PastCount}
+use Rattle.checker.specs.Operands.{kindBy, kindAt, kindsAt, tabulated}
 use Rattle.checker.specs.Statements.{scopeFull, Declares}
 use Rattle.checker.specs.Operands.{Right}
 use Rattle.checker.specs.Tops.{kept, parameterTold, ParameterPast, numberTold, registerMeant, sizeIn, endIn}
@@ -36,13 +31,24 @@ use Rattle.checker.specs.declared.Read.{Read}
 use Rattle.checker.specs.declared.Read.the-variants.{Upto, Refused}
 use Rattle.checker.proofs.Read.{the-type}
 use Rattle.checker.proofs.Operating.{row-more, rows-same, not-first}
-use Rattle.checker.proofs.Stating.{rows-set}
-use Rattle.program_check.specs.Declaring.{Table, Apart, rowTold, rowsTold, firstIn, secondIn, countsMeant, countsTold, bodyMeant, declaredAt, Holds, stepTold, RegisterSet}
+use Rattle.program_check.specs.Declaring.{Table, Apart, rowTold, rowsTold, firstIn, secondIn, countsMeant, declaredAt, Holds, stepTold, RegisterSet}
 use Rattle.program_check.specs.declared.Totals.{Totals}
-use Rattle.program_check.specs.declared.Step.{Step}
 use Rattle.program_check.specs.declared.Step.the-variants.{Going, Stopped}
 
 -- ---- rows of the table of operands
+
+short-set : (rows : List (List ℤ)) (n i : ℕ) (l : List ℤ) → ShortRows rows n → Short l → ShortRows (set rows i l) n
+short-set rows n i l r k = record {
+  enough = (let e = r .enough in omega (arith, length-set rows i l));
+  each = λ j h. by j h (eqb j i) refl;
+}
+  where
+    by : (j : ℕ) → j < n → (t : Bool) → eqb j i ≡ t → Short (getD (set rows i l) j [])
+    by j h true e =
+        let z : j ≡ i = eqb-true j i e in
+        let q : i < length rows = (let y = r .enough in omega arith) in
+        rw (z, getD-set-same rows i l [] q) k
+    by j h false e = rw (getD-set-other rows i j l [] (eqb-false j i e)) (r .each j h)
 
 pub apart-none : (first count : ℕ) (kinds : List ℕ) (sizes : List (List ℤ)) → Table kinds sizes → Apart first count kinds sizes kinds sizes
 apart-none first count kinds sizes t = record { table = t; below = λ j h. refl; above = λ j h. refl }
@@ -51,29 +57,29 @@ module _ (row : ℕ) (kinds : List ℕ) (sizes : List (List ℤ)) (t : Table kin
   pub apart-kind : Apart row 1 kinds sizes (set kinds row b) sizes
   apart-kind = record {
     table = record { kindsLong = length-set kinds row b ∙ t .kindsLong; sizesLong = t .sizesLong; sizeRows = t .sizeRows };
-    below = λ j k. ap (λ (x : ℕ). kindBy x (asForm (getD sizes j []))) (getD-set-other kinds row j b 0 (λ e. omega arith));
-    above = λ j k. ap (λ (x : ℕ). kindBy x (asForm (getD sizes j []))) (getD-set-other kinds row j b 0 (λ e. omega arith));
+    below = λ j k. ap (λ (x : ℕ). kindBy x (asForm (widened (getD sizes j [])))) (getD-set-other kinds row j b 0 (λ e. omega arith));
+    above = λ j k. ap (λ (x : ℕ). kindBy x (asForm (widened (getD sizes j [])))) (getD-set-other kinds row j b 0 (λ e. omega arith));
   }
 
-  pub row-kind : kindAt row (set kinds row b) sizes ≡ kindBy b (asForm (getD sizes row []))
-  row-kind = let q = t .kindsLong in ap (λ (x : ℕ). kindBy x (asForm (getD sizes row []))) (getD-set-same kinds row b 0 (omega arith))
+  pub row-kind : kindAt row (set kinds row b) sizes ≡ kindBy b (asForm (widened (getD sizes row [])))
+  row-kind = let q = t .kindsLong in ap (λ (x : ℕ). kindBy x (asForm (widened (getD sizes row [])))) (getD-set-same kinds row b 0 (omega arith))
 
-  module _ (l : List ℤ) (k : Kept l) where
+  module _ (l : List ℤ) (k : Short l) where
     pub apart-both : Apart row 1 kinds sizes (set kinds row b) (set sizes row l)
     apart-both = record {
-      table = record { kindsLong = length-set kinds row b ∙ t .kindsLong; sizesLong = length-set sizes row l ∙ t .sizesLong; sizeRows = rows-set sizes 2295 row l (t .sizeRows) k };
+      table = record { kindsLong = length-set kinds row b ∙ t .kindsLong; sizesLong = length-set sizes row l ∙ t .sizesLong; sizeRows = short-set sizes 2295 row l (t .sizeRows) k };
       below = λ j q. other j (λ e. omega arith);
       above = λ j q. other j (λ e. omega arith);
     }
       where
         other : (j : ℕ) → (j ≡ row → ⊥) → kindAt j (set kinds row b) (set sizes row l) ≡ kindAt j kinds sizes
-        other j n = λ i. kindBy (getD-set-other kinds row j b 0 n i) (asForm (getD-set-other sizes row j l [] n i))
+        other j n = λ i. kindBy (getD-set-other kinds row j b 0 n i) (asForm (widened (getD-set-other sizes row j l [] n i)))
 
-    pub row-both : kindAt row (set kinds row b) (set sizes row l) ≡ kindBy b (asForm l)
+    pub row-both : kindAt row (set kinds row b) (set sizes row l) ≡ kindBy b (asForm (widened l))
     row-both =
         let q = t .kindsLong in
         let p = t .sizesLong in
-        λ i. kindBy (getD-set-same kinds row b 0 (omega arith) i) (asForm (getD-set-same sizes row l [] (omega arith) i))
+        λ i. kindBy (getD-set-same kinds row b 0 (omega arith) i) (asForm (widened (getD-set-same sizes row l [] (omega arith) i)))
 
 -- one row more
 pub apart-more : (first count j : ℕ) {k₀ : List ℕ} {s₀ : List (List ℤ)} {k₁ : List ℕ} {s₁ : List (List ℤ)} {k₂ : List ℕ} {s₂ : List (List ℤ)}
@@ -204,34 +210,36 @@ pub scope-right : (s : Scope) (kinds : List ℕ) (sizes lows highs : List (List 
     → s .variables ≤ 4 → s .loops ≤ 8 → s .first + s .count ≤ 2295 → Right s kinds sizes lows highs
 scope-right s kinds sizes lows highs t l h m n k =
     let q = t .kindsLong in
-    record { few = m; nested = n; kindRows = omega arith; sizeRows = fewer (t .sizeRows) k; lowRows = l; highRows = h }
+    let p = t .sizesLong in
+    record { few = m; nested = n; kindRows = omega arith; sizeRows = record { enough = omega arith; each = λ i b. t .sizeRows .each i (omega arith) }; lowRows = l; highRows = h }
 
-pub scope-declares : (s : Scope) (t : Totals) (arities counts kinds : List ℕ) (sizes : List (List ℤ)) → Holds t arities counts kinds sizes
-    → s .families ≡ t .families → 8 * s .families ≤ s .first → Declares s arities counts
-scope-declares s t arities counts kinds sizes h e b =
-    let x = h .arityRows in
-    let y = h .countRows in
-    let z = h .mostFamilies in
-    record { arityRows = omega arith; countRows = omega arith; below = b; few = λ k q. h .few k (omega arith); some = λ k q. h .some k (omega arith) }
+pub scope-declares : (s : Scope) (t : Totals) (families : List (List ℕ)) {k₀ : List ℕ} {s₀ : List (List ℤ)} (kinds : List ℕ) (sizes : List (List ℤ))
+    → Holds t families k₀ s₀ → Table kinds sizes → s .families ≡ t .families → Declares s families kinds
+scope-declares s t families kinds sizes h b e =
+    let x = h .long in
+    let y = h .mostFamilies in
+    let z = h .mostRows in
+    let q = b .kindsLong in
+    record { enough = omega arith; each = λ k p. (let w = h .each k (omega arith) in let v = w .inside in record { few = w .few; inside = omega arith }) }
 
 -- the scope at the top
 abbrev pub topRows : Totals → Scope
-topRows t = record { families = t .families; first = 2040; count = t .registers; variables = 0; loops = 0 }
+topRows t = record { families = t .families; first = 0; count = t .registers; variables = 0; loops = 0 }
 
-pub top-scope : (t : Totals) (arities counts kinds : List ℕ) (sizes lows highs : List (List ℤ)) → C.topScope (declaredAt t arities counts kinds sizes) ≡ scopeFull (topRows t) arities counts kinds sizes lows highs
+pub top-scope : (t : Totals) (families : List (List ℕ)) (kinds : List ℕ) (sizes lows highs : List (List ℤ)) → C.topScope (declaredAt t families kinds sizes) ≡ scopeFull (topRows t) families kinds sizes lows highs
 unfolding C.topScope loopsOf
-top-scope t arities counts kinds sizes lows highs = refl
+top-scope t families kinds sizes lows highs = refl
 
 -- ---- what a top field comes to
 
-pub kept-refused : (r : Read) (n q : ℕ) (d : Declared) (arities counts kinds : List ℕ) (sizes : List (List ℤ)) → r ≡ Refused n q → stepTold (Stopped n q) arities counts kinds sizes ≡ kept r d
+pub kept-refused : (r : Read) (n q : ℕ) (d : Declared) (families : List (List ℕ)) (kinds : List ℕ) (sizes : List (List ℤ)) → r ≡ Refused n q → stepTold (Stopped n q) families kinds sizes ≡ kept r d
 unfolding kept stepTold
-kept-refused r n q d arities counts kinds sizes e = sym (ap (λ (x : Read). kept x d) e)
+kept-refused r n q d families kinds sizes e = sym (ap (λ (x : Read). kept x d) e)
 
-pub kept-going : (r : Read) (t : Totals) (arities counts kinds : List ℕ) (sizes : List (List ℤ)) → OneOf (0 ∷ []) (tagOf the-type r) → stepTold (Going t) arities counts kinds sizes ≡ kept r (declaredAt t arities counts kinds sizes)
+pub kept-going : (r : Read) (t : Totals) (families : List (List ℕ)) (kinds : List ℕ) (sizes : List (List ℤ)) → OneOf (0 ∷ []) (tagOf the-type r) → stepTold (Going t) families kinds sizes ≡ kept r (declaredAt t families kinds sizes)
 unfolding kept stepTold
-kept-going (Upto n) t arities counts kinds sizes h = refl
-kept-going (Refused n p) t arities counts kinds sizes h = absurd (let z : _≡_ {A = ℕ} 1 0 = h in omega arith)
+kept-going (Upto n) t families kinds sizes h = refl
+kept-going (Refused n p) t families kinds sizes h = absurd (let z : _≡_ {A = ℕ} 1 0 = h in omega arith)
 
 -- ---- registers
 
@@ -270,9 +278,9 @@ module _ (r : Parameter) (n q : ℕ) (l : List ℤ) (row : ℕ) (kinds : List �
   unfolding rowTold parameterTold kindBy
   typed-single e = ap good (row-kind row kinds sizes t h 0) ∙ sym (ap (λ (x : Parameter). parameterTold x l) e)
 
-  pub typed-many : r ≡ Many n → Kept l → rowTold (Upto n) row (set kinds row 1) (set sizes row l) ≡ parameterTold r l
+  pub typed-many : (short : List ℤ) → r ≡ Many n → Short short → widened short ≡ l → rowTold (Upto n) row (set kinds row 1) (set sizes row short) ≡ parameterTold r l
   unfolding rowTold parameterTold kindBy
-  typed-many e k = ap good (row-both row kinds sizes t h 1 l k) ∙ sym (ap (λ (x : Parameter). parameterTold x l) e)
+  typed-many short e k w = ap good (row-both row kinds sizes t h 1 short k ∙ ap (λ (x : List ℤ). quantum (asForm x)) w) ∙ sym (ap (λ (x : Parameter). parameterTold x l) e)
 
   pub typed-bad : r ≡ Bad n q → rowTold (Refused n q) row kinds sizes ≡ parameterTold r l
   unfolding rowTold parameterTold

@@ -2,10 +2,9 @@
 use mathlib.Core.Path.{_≡_, refl, sym, ap, _∙_}
 use mathlib.Core.List.{List, [], _∷_, _++_}
 use mathlib.Core.Bool.{Bool, true, false, _&&_}
-use Prim.Native.Nat.{ℕ, zero, suc, _+_, _*_, _≤_, _<_}
+use Prim.Native.Nat.{ℕ, _+_, _≤_, _<_}
 use native.Mathlib.Omega.{arith}
 use native.Mathlib.Nat.{zero-add}
-use native.Mathlib.Numerals.{add-one}
 use lib.Dec.{eqb, leb, ltb}
 use borrow.Author.Tests.{eqb-true, eqb-false}
 use lib.IntN.{ℤ, pos}
@@ -14,15 +13,15 @@ use lib.Seq.{slice, drop-drop, getD-set-same, getD-set-other}
 use types.Run.{OneOf}
 use denote.Enum.Declared.{tagOf}
 use Rattle.language.specs.Tree as T
-use Rattle.language.specs.Tree.{number, missing, qreg, creg}
+use Rattle.language.specs.Tree.{qreg, creg}
 use Rattle.language.specs.Read.{Field, fields, typesOf, statementsBy, outerStatement, familyOf, readFamily, readRegister}
 use Rattle.language.specs.Form.{constantForm}
-use Rattle.language.specs.Check.{Checked, good, refused, _>>=_, _>>_, require, checkNumber, Kind, qubit, quantum, classical, Signature, kindsOf, checkStatements, Declared, familyScope, withFamily, withQubits, withBits, checkTop}
+use Rattle.language.specs.Check.{Checked, good, refused, _>>=_, _>>_, require, checkNumber, Kind, Signature, kindsOf, checkStatements, Declared, familyScope, withFamily, withQubits, withBits, checkTop}
 use Rattle.language.specs.Check as C
 use Rattle.fields.specs.Header.{fieldsAt}
 use Rattle.forms.specs.Rows.{loopsOf}
 use Rattle.checker.specs.Operands.{kindBy, kindAt, kindsAt, tabulated, told}
-use Rattle.checker.specs.Statements.{signatureAt, scopeFull, Beyond}
+use Rattle.checker.specs.Statements.{signatureAt, scopeFull, Entered, Beyond}
 use Rattle.checker.specs.Tops.{numberTold, registerMeant}
 use Rattle.checker.specs.declared.Scope.{Scope}
 use Rattle.checker.specs.declared.Read.{Read}
@@ -30,7 +29,7 @@ use Rattle.checker.specs.declared.Read.the-variants.{Upto, Refused}
 use Rattle.checker.proofs.Read.{the-type}
 use Rattle.checker.proofs.Operating.{row-more, rows-same, length-rows, not-first}
 use Rattle.checker.proofs.Topping.{qreg-is, creg-is}
-use Rattle.program_check.specs.Declaring.{Table, Apart, rowsTold, firstIn, secondIn, countsMeant, countsTold, BothRight, bodyMeant, declaredAt, Holds, stepTold, RegisterRow, RegisterSet}
+use Rattle.program_check.specs.Declaring.{Apart, rowsTold, firstIn, secondIn, countsMeant, countsTold, BothRight, bodyMeant, declaredAt, Holds, stepTold, RegisterRow, RegisterSet}
 use Rattle.program_check.specs.declared.Totals.{Totals}
 use Rattle.program_check.specs.declared.Counts.{Counts}
 use Rattle.program_check.specs.declared.Counts.the-variants.{Both, Bad}
@@ -39,13 +38,27 @@ use Rattle.program_check.proofs.Declaring.{rows-below, rows-above}
 
 -- ---- signatures
 
--- the families so far, in tables whose rows change only behind theirs
-pub signatures-same : (f first count : ℕ) (arities counts : List ℕ) {k₀ : List ℕ} {s₀ : List (List ℤ)} {k₁ : List ℕ} {s₁ : List (List ℤ)}
-    → Apart first count k₀ s₀ k₁ s₁ → 8 * f ≤ first → ((k : ℕ) → k < f → getD counts k 0 ≤ 8)
-    → tabulated (signatureAt arities counts k₁ s₁) f 0 ≡ tabulated (signatureAt arities counts k₀ s₀) f 0
-signatures-same f first count arities counts {k₀} {s₀} {k₁} {s₁} a b h =
-    rows-same (signatureAt arities counts k₁ s₁) (signatureAt arities counts k₀ s₀) f 0
-    (λ k p q. let x = h k (omega arith) in ap (λ (l : List Kind). record { variables = getD arities k 0; parameters = l }) (rows-below first count (getD counts k 0) (8 * k) a (omega arith)))
+-- the families so far, in tables where none of their rows changes
+signatures-same : (f : ℕ) (families : List (List ℕ)) (k₀ : List ℕ) (s₀ : List (List ℤ)) (k₁ : List ℕ) (s₁ : List (List ℤ))
+    → ((k : ℕ) → k < f → signatureAt families k₁ s₁ k ≡ signatureAt families k₀ s₀ k)
+    → tabulated (signatureAt families k₁ s₁) f 0 ≡ tabulated (signatureAt families k₀ s₀) f 0
+signatures-same f families k₀ s₀ k₁ s₁ h = rows-same (signatureAt families k₁ s₁) (signatureAt families k₀ s₀) f 0 (λ k p q. h k (omega arith))
+
+abbrev sizedBy : List (List ℕ) → ℕ → List Kind → Signature
+sizedBy families k l = record { variables = getD (getD families k []) 0 0; parameters = l }
+
+module _ (t : Totals) (families : List (List ℕ)) {k₀ : List ℕ} {s₀ : List (List ℤ)} {k₁ : List ℕ} {s₁ : List (List ℤ)} (h : Holds t families k₀ s₀) where
+  -- the rows that change stand behind theirs
+  pub families-below : (count : ℕ) → Apart (t .rows) count k₀ s₀ k₁ s₁ → tabulated (signatureAt families k₁ s₁) (t .families) 0 ≡ tabulated (signatureAt families k₀ s₀) (t .families) 0
+  families-below count a =
+      signatures-same (t .families) families k₀ s₀ k₁ s₁
+      (λ k q. ap (sizedBy families k) (rows-below (t .rows) count (getD (getD families k []) 1 0) (getD (getD families k []) 2 0) a (h .each k q .inside)))
+
+  -- the row that changes is a register's
+  pub families-above : (row : ℕ) → row < 255 → Apart row 1 k₀ s₀ k₁ s₁ → tabulated (signatureAt families k₁ s₁) (t .families) 0 ≡ tabulated (signatureAt families k₀ s₀) (t .families) 0
+  families-above row b a =
+      signatures-same (t .families) families k₀ s₀ k₁ s₁
+      (λ k q. let z = h .behind k q in ap (sizedBy families k) (rows-above row 1 (getD (getD families k []) 1 0) (getD (getD families k []) 2 0) a (omega arith)))
 
 -- ---- registers
 
@@ -57,12 +70,12 @@ pub number-goes : (r : Read) (n : ℕ) (x : Checked ℕ) (w : ℕ → Declared) 
 unfolding numberTold _>>=_
 number-goes r n x w u e = ap (λ (c : Checked ℕ). c >>= λ m. good (w m)) (sym (ap numberTold u) ∙ e)
 
-module _ (t : Totals) (arities counts kinds : List ℕ) (sizes : List (List ℤ)) (at : ℕ) (content : List ℕ) where
+module _ (t : Totals) (families : List (List ℕ)) (kinds : List ℕ) (sizes : List (List ℤ)) (at : ℕ) (content : List ℕ) where
   abbrev now : Declared
-  now = declaredAt t arities counts kinds sizes
+  now = declaredAt t families kinds sizes
 
   registers-now : length (now .registers) ≡ t .registers
-  registers-now = length-rows (λ j. kindAt j kinds sizes) (t .registers) 2040
+  registers-now = length-rows (λ j. kindAt j kinds sizes) (t .registers) 0
 
   qreg-meant : checkTop (readRegister qreg at content) now ≡ (registerMeant at (t .registers) (t .qubits) content >>= λ n. good (withQubits now n))
   qreg-meant = qreg-is at content now ∙ ap (λ (k : ℕ). registerMeant at k (t .qubits) content >>= λ n. good (withQubits now n)) registers-now
@@ -71,54 +84,55 @@ module _ (t : Totals) (arities counts kinds : List ℕ) (sizes : List (List ℤ)
   creg-meant = creg-is at content now ∙ ap (λ (k : ℕ). registerMeant at k (t .bits) content >>= λ n. good (withBits now n)) registers-now
 
   module _ (r : Read) where
-    pub qreg-stops : (n q : ℕ) (k₁ : List ℕ) (s₁ : List (List ℤ)) → r ≡ Refused n q → numberTold r ≡ registerMeant at (t .registers) (t .qubits) content → stepTold (Stopped n q) arities counts k₁ s₁ ≡ checkTop (readRegister qreg at content) now
+    pub qreg-stops : (n q : ℕ) (k₁ : List ℕ) (s₁ : List (List ℤ)) → r ≡ Refused n q → numberTold r ≡ registerMeant at (t .registers) (t .qubits) content → stepTold (Stopped n q) families k₁ s₁ ≡ checkTop (readRegister qreg at content) now
     unfolding stepTold
     qreg-stops n q k₁ s₁ u e = number-stops r n q _ (withQubits now) u e ∙ sym qreg-meant
 
-    pub creg-stops : (n q : ℕ) (k₁ : List ℕ) (s₁ : List (List ℤ)) → r ≡ Refused n q → numberTold r ≡ registerMeant at (t .registers) (t .bits) content → stepTold (Stopped n q) arities counts k₁ s₁ ≡ checkTop (readRegister creg at content) now
+    pub creg-stops : (n q : ℕ) (k₁ : List ℕ) (s₁ : List (List ℤ)) → r ≡ Refused n q → numberTold r ≡ registerMeant at (t .registers) (t .bits) content → stepTold (Stopped n q) families k₁ s₁ ≡ checkTop (readRegister creg at content) now
     unfolding stepTold
     creg-stops n q k₁ s₁ u e = number-stops r n q _ (withBits now) u e ∙ sym creg-meant
 
 -- one register more
-module _ (t : Totals) (arities counts : List ℕ) (n kind total : ℕ) {k₀ : List ℕ} {s₀ : List (List ℤ)} {k₁ : List ℕ} {s₁ : List (List ℤ)} (h : Holds t arities counts k₀ s₀) (r : RegisterRow n kind (t .registers) total k₀ s₀ k₁ s₁) where
-  families-same : tabulated (signatureAt arities counts k₁ s₁) (t .families) 0 ≡ tabulated (signatureAt arities counts k₀ s₀) (t .families) 0
-  families-same = let b = h .mostFamilies in signatures-same (t .families) (2040 + t .registers) 1 arities counts (r .apart) (omega arith) (h .some)
+module _ (t : Totals) (families : List (List ℕ)) (n kind total : ℕ) {k₀ : List ℕ} {s₀ : List (List ℤ)} {k₁ : List ℕ} {s₁ : List (List ℤ)} (h : Holds t families k₀ s₀) (r : RegisterRow n kind (t .registers) total k₀ s₀ k₁ s₁) where
+  families-same : tabulated (signatureAt families k₁ s₁) (t .families) 0 ≡ tabulated (signatureAt families k₀ s₀) (t .families) 0
+  families-same = families-above t families h (t .registers) (r .room) (r .apart)
 
-  registers-more : kindsAt (t .registers + 1) 2040 k₁ s₁ ≡ (kindsAt (t .registers) 2040 k₀ s₀ ++ (kindBy kind (constantForm (pos n)) ∷ []))
+  registers-more : kindsAt (t .registers + 1) 0 k₁ s₁ ≡ (kindsAt (t .registers) 0 k₀ s₀ ++ (kindBy kind (constantForm (pos n)) ∷ []))
   registers-more =
-      row-more (λ j. kindAt j k₁ s₁) (t .registers) 2040
-      ∙ (λ i. rows-below (2040 + t .registers) 1 (t .registers) 2040 (r .apart) (omega arith) i ++ (r .row i ∷ []))
+      row-more (λ j. kindAt j k₁ s₁) (t .registers) 0
+      ∙ ap (λ (k : ℕ). kindsAt (t .registers) 0 k₁ s₁ ++ (kindAt k k₁ s₁ ∷ [])) (zero-add (t .registers))
+      ∙ (λ i. rows-below (t .registers) 1 (t .registers) 0 (r .apart) (omega arith) i ++ (r .row i ∷ []))
 
-  pub with-qubits : kind ≡ 1 → declaredAt (record { families = t .families; registers = t .registers + 1; qubits = t .qubits + n; bits = t .bits }) arities counts k₁ s₁ ≡ withQubits (declaredAt t arities counts k₀ s₀) n
+  pub with-qubits : kind ≡ 1 → declaredAt (record { families = t .families; rows = t .rows; registers = t .registers + 1; qubits = t .qubits + n; bits = t .bits }) families k₁ s₁ ≡ withQubits (declaredAt t families k₀ s₀) n
   unfolding withQubits kindBy
   with-qubits e =
       (λ i. record { families = families-same i; registers = registers-more i; qubits = t .qubits + n; bits = t .bits })
-      ∙ ap (λ (k : ℕ). record { families = tabulated (signatureAt arities counts k₀ s₀) (t .families) 0; registers = kindsAt (t .registers) 2040 k₀ s₀ ++ (kindBy k (constantForm (pos n)) ∷ []); qubits = t .qubits + n; bits = t .bits }) e
+      ∙ ap (λ (k : ℕ). record { families = tabulated (signatureAt families k₀ s₀) (t .families) 0; registers = kindsAt (t .registers) 0 k₀ s₀ ++ (kindBy k (constantForm (pos n)) ∷ []); qubits = t .qubits + n; bits = t .bits }) e
 
-  pub with-bits : kind ≡ 2 → declaredAt (record { families = t .families; registers = t .registers + 1; qubits = t .qubits; bits = t .bits + n }) arities counts k₁ s₁ ≡ withBits (declaredAt t arities counts k₀ s₀) n
+  pub with-bits : kind ≡ 2 → declaredAt (record { families = t .families; rows = t .rows; registers = t .registers + 1; qubits = t .qubits; bits = t .bits + n }) families k₁ s₁ ≡ withBits (declaredAt t families k₀ s₀) n
   unfolding withBits kindBy
   with-bits e =
       (λ i. record { families = families-same i; registers = registers-more i; qubits = t .qubits; bits = t .bits + n })
-      ∙ ap (λ (k : ℕ). record { families = tabulated (signatureAt arities counts k₀ s₀) (t .families) 0; registers = kindsAt (t .registers) 2040 k₀ s₀ ++ (kindBy k (constantForm (pos n)) ∷ []); qubits = t .qubits; bits = t .bits + n }) e
+      ∙ ap (λ (k : ℕ). record { families = tabulated (signatureAt families k₀ s₀) (t .families) 0; registers = kindsAt (t .registers) 0 k₀ s₀ ++ (kindBy k (constantForm (pos n)) ∷ []); qubits = t .qubits; bits = t .bits + n }) e
 
-  pub holds-register : (q b : ℕ) → q ≤ 65535 → b ≤ 65535 → Holds (record { families = t .families; registers = t .registers + 1; qubits = q; bits = b }) arities counts k₁ s₁
+  pub holds-register : (q b : ℕ) → q ≤ 65535 → b ≤ 65535 → Holds (record { families = t .families; rows = t .rows; registers = t .registers + 1; qubits = q; bits = b }) families k₁ s₁
   holds-register q b x y =
       let z = r .room in
-      record { table = r .apart .table; arityRows = h .arityRows; countRows = h .countRows; mostFamilies = h .mostFamilies; mostRegisters = omega arith; mostQubits = x; mostBits = y; few = h .few; some = h .some }
+      record { table = r .apart .table; long = h .long; mostFamilies = h .mostFamilies; mostRegisters = omega arith; mostQubits = x; mostBits = y; leastRows = h .leastRows; mostRows = h .mostRows; each = h .each; behind = h .behind }
 
-module _ (t : Totals) (arities counts k₀ : List ℕ) (s₀ : List (List ℤ)) (at : ℕ) (content : List ℕ) (r : Read) (n : ℕ) (u : r ≡ Upto n) (h : Holds t arities counts k₀ s₀) where
+module _ (t : Totals) (families : List (List ℕ)) (k₀ : List ℕ) (s₀ : List (List ℤ)) (at : ℕ) (content : List ℕ) (r : Read) (n : ℕ) (u : r ≡ Upto n) (h : Holds t families k₀ s₀) where
   pub register-row : (kind count total : ℕ) (k₁ : List ℕ) (s₁ : List (List ℤ)) → RegisterSet r kind count total k₀ s₀ k₁ s₁ → RegisterRow n kind count total k₀ s₀ k₁ s₁
   register-row kind count total k₁ s₁ s = rw u at s
 
   pub qreg-goes : {k₁ : List ℕ} {s₁ : List (List ℤ)} → RegisterRow n 1 (t .registers) (t .qubits) k₀ s₀ k₁ s₁ → numberTold r ≡ registerMeant at (t .registers) (t .qubits) content
-      → stepTold (Going (record { families = t .families; registers = t .registers + 1; qubits = t .qubits + n; bits = t .bits })) arities counts k₁ s₁ ≡ checkTop (readRegister qreg at content) (declaredAt t arities counts k₀ s₀)
+      → stepTold (Going (record { families = t .families; rows = t .rows; registers = t .registers + 1; qubits = t .qubits + n; bits = t .bits })) families k₁ s₁ ≡ checkTop (readRegister qreg at content) (declaredAt t families k₀ s₀)
   unfolding stepTold
-  qreg-goes s e = ap good (with-qubits t arities counts n 1 (t .qubits) h s refl) ∙ number-goes r n _ (withQubits (declaredAt t arities counts k₀ s₀)) u e ∙ sym (qreg-meant t arities counts k₀ s₀ at content)
+  qreg-goes s e = ap good (with-qubits t families n 1 (t .qubits) h s refl) ∙ number-goes r n _ (withQubits (declaredAt t families k₀ s₀)) u e ∙ sym (qreg-meant t families k₀ s₀ at content)
 
   pub creg-goes : {k₁ : List ℕ} {s₁ : List (List ℤ)} → RegisterRow n 2 (t .registers) (t .bits) k₀ s₀ k₁ s₁ → numberTold r ≡ registerMeant at (t .registers) (t .bits) content
-      → stepTold (Going (record { families = t .families; registers = t .registers + 1; qubits = t .qubits; bits = t .bits + n })) arities counts k₁ s₁ ≡ checkTop (readRegister creg at content) (declaredAt t arities counts k₀ s₀)
+      → stepTold (Going (record { families = t .families; rows = t .rows; registers = t .registers + 1; qubits = t .qubits; bits = t .bits + n })) families k₁ s₁ ≡ checkTop (readRegister creg at content) (declaredAt t families k₀ s₀)
   unfolding stepTold
-  creg-goes s e = ap good (with-bits t arities counts n 2 (t .bits) h s refl) ∙ number-goes r n _ (withBits (declaredAt t arities counts k₀ s₀)) u e ∙ sym (creg-meant t arities counts k₀ s₀ at content)
+  creg-goes s e = ap good (with-bits t families n 2 (t .bits) h s refl) ∙ number-goes r n _ (withBits (declaredAt t families k₀ s₀)) u e ∙ sym (creg-meant t families k₀ s₀ at content)
 
 -- ---- the body of a family
 
@@ -129,33 +143,33 @@ rows-then (Refused n p) count first kinds sizes = refl
 
 -- the scope of a family whose rows these are
 abbrev pub familyRows : Totals → (m p : ℕ) → Scope
-familyRows t m p = record { families = t .families; first = 8 * t .families; count = p; variables = m; loops = 0 }
+familyRows t m p = record { families = t .families; first = t .rows; count = p; variables = m; loops = 0 }
 
-module _ (t : Totals) (arities counts : List ℕ) (at m p : ℕ) (l : List ℕ) (from next : ℕ) {k₀ : List ℕ} {s₀ : List (List ℤ)} {k₁ : List ℕ} {s₁ : List (List ℤ)} (h : Holds t arities counts k₀ s₀) (a : Apart (8 * t .families) p k₀ s₀ k₁ s₁)
-    (r : Read) (e : rowsTold r p (8 * t .families) k₁ s₁ ≡ kindsOf (familyScope (declaredAt t arities counts k₀ s₀) m []) (typesOf at p (fieldsAt l from next))) where
+module _ (t : Totals) (families : List (List ℕ)) (at m p : ℕ) (l : List ℕ) (from next : ℕ) {k₀ : List ℕ} {s₀ : List (List ℤ)} {k₁ : List ℕ} {s₁ : List (List ℤ)} (h : Holds t families k₀ s₀) (a : Apart (t .rows) p k₀ s₀ k₁ s₁)
+    (r : Read) (e : rowsTold r p (t .rows) k₁ s₁ ≡ kindsOf (familyScope (declaredAt t families k₀ s₀) m []) (typesOf at p (fieldsAt l from next))) where
   abbrev bodyAfter : List Kind → Checked (List Kind)
-  bodyAfter ks = checkStatements (statementsBy outerStatement (drop p (fieldsAt l from next))) (familyScope (declaredAt t arities counts k₀ s₀) m ks) >> good ks
+  bodyAfter ks = checkStatements (statementsBy outerStatement (drop p (fieldsAt l from next))) (familyScope (declaredAt t families k₀ s₀) m ks) >> good ks
 
-  pub body-stops : OneOf (1 ∷ []) (tagOf the-type r) → rowsTold r p (8 * t .families) k₁ s₁ ≡ bodyMeant (declaredAt t arities counts k₀ s₀) at m p (fieldsAt l from next)
+  pub body-stops : OneOf (1 ∷ []) (tagOf the-type r) → rowsTold r p (t .rows) k₁ s₁ ≡ bodyMeant (declaredAt t families k₀ s₀) at m p (fieldsAt l from next)
   unfolding rowsTold _>>=_
   body-stops o = by r o ∙ ap (λ (c : Checked (List Kind)). c >>= bodyAfter) e
     where
-      by : (r : Read) → OneOf (1 ∷ []) (tagOf the-type r) → rowsTold r p (8 * t .families) k₁ s₁ ≡ (rowsTold r p (8 * t .families) k₁ s₁ >>= bodyAfter)
+      by : (r : Read) → OneOf (1 ∷ []) (tagOf the-type r) → rowsTold r p (t .rows) k₁ s₁ ≡ (rowsTold r p (t .rows) k₁ s₁ >>= bodyAfter)
       by (Upto n) o = not-first o
       by (Refused n q) o = refl
 
-  family-scope : (lows highs : List (List ℤ)) → scopeFull (familyRows t m p) arities counts k₁ s₁ lows highs ≡ familyScope (declaredAt t arities counts k₀ s₀) m (kindsAt p (8 * t .families) k₁ s₁)
+  family-scope : (lows highs : List (List ℤ)) → scopeFull (familyRows t m p) families k₁ s₁ lows highs ≡ familyScope (declaredAt t families k₀ s₀) m (kindsAt p (t .rows) k₁ s₁)
   unfolding familyScope loopsOf
-  family-scope lows highs = ap (λ (fs : List Signature). record { families = fs; operands = kindsAt p (8 * t .families) k₁ s₁; variables = m; loops = [] }) (signatures-same (t .families) (8 * t .families) p arities counts a (omega arith) (h .some))
+  family-scope lows highs = ap (λ (fs : List Signature). record { families = fs; operands = kindsAt p (t .rows) k₁ s₁; variables = m; loops = [] }) (families-below t families h p a)
 
   pub body-goes : (mid : ℕ) → r ≡ Upto mid → Beyond l from next p mid → (o : Read) (lows highs : List (List ℤ))
-      → told o ≡ checkStatements (statementsBy outerStatement (fieldsAt l mid next)) (scopeFull (familyRows t m p) arities counts k₁ s₁ lows highs)
-      → rowsTold o p (8 * t .families) k₁ s₁ ≡ bodyMeant (declaredAt t arities counts k₀ s₀) at m p (fieldsAt l from next)
+      → told o ≡ checkStatements (statementsBy outerStatement (fieldsAt l mid next)) (scopeFull (familyRows t m p) families k₁ s₁ lows highs)
+      → rowsTold o p (t .rows) k₁ s₁ ≡ bodyMeant (declaredAt t families k₀ s₀) at m p (fieldsAt l from next)
   unfolding rowsTold _>>=_
   body-goes mid u b o lows highs d =
-      rows-then o p (8 * t .families) k₁ s₁
-      ∙ ap (λ (c : Checked (Unit {0})). c >> good (kindsAt p (8 * t .families) k₁ s₁)) (d ∙ (λ i. checkStatements (statementsBy outerStatement (sym (b .rest) i)) (family-scope lows highs i)))
-      ∙ ap (λ (c : Checked (List Kind)). c >>= bodyAfter) (sym (ap (λ (x : Read). rowsTold x p (8 * t .families) k₁ s₁) u) ∙ e)
+      rows-then o p (t .rows) k₁ s₁
+      ∙ ap (λ (c : Checked (Unit {0})). c >> good (kindsAt p (t .rows) k₁ s₁)) (d ∙ (λ i. checkStatements (statementsBy outerStatement (sym (b .rest) i)) (family-scope lows highs i)))
+      ∙ ap (λ (c : Checked (List Kind)). c >>= bodyAfter) (sym (ap (λ (x : Read). rowsTold x p (t .rows) k₁ s₁) u) ∙ e)
 
 -- ---- a family
 
@@ -195,96 +209,104 @@ two-on : (l : List ℕ) (at next : ℕ) → fields (at + 5) (drop 2 (slice (at +
 unfolding fieldsAt
 two-on l at next = let e : at + 3 + 2 ≡ at + 5 = omega arith in ap (fields (at + 5)) (drop-drop 2 (at + 3) (take next l) ∙ ap (λ (k : ℕ). drop k (take next l)) e)
 
-module _ (t : Totals) (arities counts kinds : List ℕ) (sizes : List (List ℤ)) (l : List ℕ) (at next : ℕ) (c : Counts) (e : countsTold c ≡ countsMeant at (t .families) (slice (at + 3) next l)) where
+module _ (t : Totals) (families : List (List ℕ)) (kinds : List ℕ) (sizes : List (List ℤ)) (l : List ℕ) (at next : ℕ) (c : Counts) (e : countsTold c ≡ countsMeant at (t .families) (slice (at + 3) next l)) where
   abbrev before : Declared
-  before = declaredAt t arities counts kinds sizes
+  before = declaredAt t families kinds sizes
 
   family-meant : checkTop (readFamily at (slice (at + 3) next l)) before ≡ (countsTold c >>= familyAfter before at (slice (at + 3) next l))
   family-meant =
       family-is at (slice (at + 3) next l) before
-      ∙ ap (λ (k : ℕ). countsMeant at k (slice (at + 3) next l) >>= familyAfter before at (slice (at + 3) next l)) (length-rows (signatureAt arities counts kinds sizes) (t .families) 0)
+      ∙ ap (λ (k : ℕ). countsMeant at k (slice (at + 3) next l) >>= familyAfter before at (slice (at + 3) next l)) (length-rows (signatureAt families kinds sizes) (t .families) 0)
       ∙ ap (λ (x : Checked (ℕ × ℕ)). x >>= familyAfter before at (slice (at + 3) next l)) (sym e)
 
-  pub family-bad : (n q : ℕ) (a₁ c₁ k₁ : List ℕ) (s₁ : List (List ℤ)) → c ≡ Bad n q → stepTold (Stopped n q) a₁ c₁ k₁ s₁ ≡ checkTop (readFamily at (slice (at + 3) next l)) before
+  pub family-bad : (n q : ℕ) (f₁ : List (List ℕ)) (k₁ : List ℕ) (s₁ : List (List ℤ)) → c ≡ Bad n q → stepTold (Stopped n q) f₁ k₁ s₁ ≡ checkTop (readFamily at (slice (at + 3) next l)) before
   unfolding stepTold countsTold _>>=_
-  family-bad n q a₁ c₁ k₁ s₁ u = sym (family-meant ∙ ap (λ (x : Counts). countsTold x >>= familyAfter before at (slice (at + 3) next l)) u)
+  family-bad n q f₁ k₁ s₁ u = sym (family-meant ∙ ap (λ (x : Counts). countsTold x >>= familyAfter before at (slice (at + 3) next l)) u)
 
-  module _ (m p : ℕ) (u : c ≡ Both m p) (r : Read) (k₁ : List ℕ) (s₁ : List (List ℤ)) (b : rowsTold r p (8 * t .families) k₁ s₁ ≡ bodyMeant before at m p (fieldsAt l (at + 5) next)) where
+  module _ (m p : ℕ) (u : c ≡ Both m p) (r : Read) (k₁ : List ℕ) (s₁ : List (List ℤ)) (b : rowsTold r p (t .rows) k₁ s₁ ≡ bodyMeant before at m p (fieldsAt l (at + 5) next)) where
     abbrev entered : List Kind → Checked Declared
     entered ks = good (withFamily before (record { variables = m; parameters = ks }))
 
-    family-both : checkTop (readFamily at (slice (at + 3) next l)) before ≡ (rowsTold r p (8 * t .families) k₁ s₁ >>= entered)
+    family-both : checkTop (readFamily at (slice (at + 3) next l)) before ≡ (rowsTold r p (t .rows) k₁ s₁ >>= entered)
     unfolding countsTold _>>=_
     family-both =
         family-meant ∙ ap (λ (x : Counts). countsTold x >>= familyAfter before at (slice (at + 3) next l)) u
         ∙ ap (λ (fs : List Field). bodyMeant before at m p fs >>= entered) (two-on l at next)
         ∙ ap (λ (x : Checked (List Kind)). x >>= entered) (sym b)
 
-    pub family-stops : (n q : ℕ) (a₂ c₂ k₂ : List ℕ) (s₂ : List (List ℤ)) → r ≡ Refused n q → stepTold (Stopped n q) a₂ c₂ k₂ s₂ ≡ checkTop (readFamily at (slice (at + 3) next l)) before
+    pub family-stops : (n q : ℕ) (f₂ : List (List ℕ)) (k₂ : List ℕ) (s₂ : List (List ℤ)) → r ≡ Refused n q → stepTold (Stopped n q) f₂ k₂ s₂ ≡ checkTop (readFamily at (slice (at + 3) next l)) before
     unfolding stepTold rowsTold _>>=_
-    family-stops n q a₂ c₂ k₂ s₂ v = sym (family-both ∙ ap (λ (x : Read). rowsTold x p (8 * t .families) k₁ s₁ >>= entered) v)
+    family-stops n q f₂ k₂ s₂ v = sym (family-both ∙ ap (λ (x : Read). rowsTold x p (t .rows) k₁ s₁ >>= entered) v)
 
-    pub family-goes : OneOf (0 ∷ []) (tagOf the-type r) → good (withFamily before (record { variables = m; parameters = kindsAt p (8 * t .families) k₁ s₁ })) ≡ checkTop (readFamily at (slice (at + 3) next l)) before
+    pub family-goes : OneOf (0 ∷ []) (tagOf the-type r) → good (withFamily before (record { variables = m; parameters = kindsAt p (t .rows) k₁ s₁ })) ≡ checkTop (readFamily at (slice (at + 3) next l)) before
     unfolding rowsTold _>>=_
     family-goes o = by r o ∙ sym family-both
       where
-        by : (r : Read) → OneOf (0 ∷ []) (tagOf the-type r) → good (withFamily before (record { variables = m; parameters = kindsAt p (8 * t .families) k₁ s₁ })) ≡ (rowsTold r p (8 * t .families) k₁ s₁ >>= entered)
+        by : (r : Read) → OneOf (0 ∷ []) (tagOf the-type r) → good (withFamily before (record { variables = m; parameters = kindsAt p (t .rows) k₁ s₁ })) ≡ (rowsTold r p (t .rows) k₁ s₁ >>= entered)
         by (Upto n) o = refl
         by (Refused n q) o = absurd (let z : _≡_ {A = ℕ} 1 0 = o in omega arith)
 
 -- one family more
-module _ (t : Totals) (arities counts : List ℕ) (m p : ℕ) {k₀ : List ℕ} {s₀ : List (List ℤ)} {k₁ : List ℕ} {s₁ : List (List ℤ)} (h : Holds t arities counts k₀ s₀) (a : Apart (8 * t .families) p k₀ s₀ k₁ s₁) (room : t .families < 255) (few : m ≤ 4) (some : p ≤ 8) where
+module _ (t : Totals) (families : List (List ℕ)) (m p : ℕ) {k₀ : List ℕ} {s₀ : List (List ℤ)} {k₁ : List ℕ} {s₁ : List (List ℤ)} (h : Holds t families k₀ s₀) (a : Apart (t .rows) p k₀ s₀ k₁ s₁) (room : t .families < 255) (few : m ≤ 4) (some : p ≤ 8) where
   abbrev more : Totals
-  more = record { families = t .families + 1; registers = t .registers; qubits = t .qubits; bits = t .bits }
+  more = record { families = t .families + 1; rows = t .rows + p; registers = t .registers; qubits = t .qubits; bits = t .bits }
 
-  abbrev newArities : List ℕ
-  newArities = set arities (t .families) m
+  abbrev entry : List ℕ
+  entry = m ∷ p ∷ t .rows ∷ []
 
-  abbrev newCounts : List ℕ
-  newCounts = set counts (t .families) p
+  abbrev newFamilies : List (List ℕ)
+  newFamilies = set families (t .families) entry
 
-  arity-own : getD newArities (t .families) 0 ≡ m
-  arity-own = let x = h .arityRows in getD-set-same arities (t .families) m 0 (omega arith)
+  own : getD newFamilies (t .families) [] ≡ entry
+  own = let x = h .long in getD-set-same families (t .families) entry [] (omega arith)
 
-  count-own : getD newCounts (t .families) 0 ≡ p
-  count-own = let x = h .countRows in getD-set-same counts (t .families) p 0 (omega arith)
+  other : (k : ℕ) → k < t .families → getD newFamilies k [] ≡ getD families k []
+  other k q = getD-set-other families (t .families) k entry [] (λ e. omega arith)
 
-  arity-other : (k : ℕ) → k < t .families → getD newArities k 0 ≡ getD arities k 0
-  arity-other k q = getD-set-other arities (t .families) k m 0 (λ e. omega arith)
+  -- the signature in a row
+  abbrev signed : List ℕ → Signature
+  signed row = record { variables = getD row 0 0; parameters = kindsAt (getD row 1 0) (getD row 2 0) k₁ s₁ }
 
-  count-other : (k : ℕ) → k < t .families → getD newCounts k 0 ≡ getD counts k 0
-  count-other k q = getD-set-other counts (t .families) k p 0 (λ e. omega arith)
-
-  signatures-more : tabulated (signatureAt newArities newCounts k₁ s₁) (t .families + 1) 0 ≡ (tabulated (signatureAt arities counts k₀ s₀) (t .families) 0 ++ (record { variables = m; parameters = kindsAt p (8 * t .families) k₁ s₁ } ∷ []))
+  signatures-more : tabulated (signatureAt newFamilies k₁ s₁) (t .families + 1) 0 ≡ (tabulated (signatureAt families k₀ s₀) (t .families) 0 ++ (record { variables = m; parameters = kindsAt p (t .rows) k₁ s₁ } ∷ []))
   signatures-more =
-      row-more (signatureAt newArities newCounts k₁ s₁) (t .families) 0
-      ∙ ap (λ (k : ℕ). tabulated (signatureAt newArities newCounts k₁ s₁) (t .families) 0 ++ (signatureAt newArities newCounts k₁ s₁ k ∷ [])) (zero-add (t .families))
-      ∙ (λ i. (earlier ∙ signatures-same (t .families) (8 * t .families) p arities counts a (omega arith) (h .some)) i ++ (record { variables = arity-own i; parameters = kindsAt (count-own i) (8 * t .families) k₁ s₁ } ∷ []))
+      row-more (signatureAt newFamilies k₁ s₁) (t .families) 0
+      ∙ ap (λ (k : ℕ). tabulated (signatureAt newFamilies k₁ s₁) (t .families) 0 ++ (signatureAt newFamilies k₁ s₁ k ∷ [])) (zero-add (t .families))
+      ∙ (λ i. (earlier ∙ families-below t families h p a) i ++ (signed (own i) ∷ []))
     where
-      earlier : tabulated (signatureAt newArities newCounts k₁ s₁) (t .families) 0 ≡ tabulated (signatureAt arities counts k₁ s₁) (t .families) 0
-      earlier = rows-same (signatureAt newArities newCounts k₁ s₁) (signatureAt arities counts k₁ s₁) (t .families) 0 (λ k x y. (λ i. record { variables = arity-other k (omega arith) i; parameters = kindsAt (count-other k (omega arith) i) (8 * k) k₁ s₁ }))
+      earlier : tabulated (signatureAt newFamilies k₁ s₁) (t .families) 0 ≡ tabulated (signatureAt families k₁ s₁) (t .families) 0
+      earlier = rows-same (signatureAt newFamilies k₁ s₁) (signatureAt families k₁ s₁) (t .families) 0 (λ k x y. ap signed (other k (omega arith)))
 
-  pub with-family : declaredAt more newArities newCounts k₁ s₁ ≡ withFamily (declaredAt t arities counts k₀ s₀) (record { variables = m; parameters = kindsAt p (8 * t .families) k₁ s₁ })
+  pub with-family : declaredAt more newFamilies k₁ s₁ ≡ withFamily (declaredAt t families k₀ s₀) (record { variables = m; parameters = kindsAt p (t .rows) k₁ s₁ })
   unfolding withFamily
-  with-family = λ i. record { families = signatures-more i; registers = rows-above (8 * t .families) p (t .registers) 2040 a (omega arith) i; qubits = t .qubits; bits = t .bits }
+  with-family =
+      let x = h .mostRegisters in
+      let y = h .leastRows in
+      λ i. record { families = signatures-more i; registers = rows-below (t .rows) p (t .registers) 0 a (omega arith) i; qubits = t .qubits; bits = t .bits }
 
-  pub holds-family : Holds more newArities newCounts k₁ s₁
+  pub holds-family : Holds more newFamilies k₁ s₁
   holds-family =
-      record { table = a .table; arityRows = length-set arities (t .families) m ∙ h .arityRows; countRows = length-set counts (t .families) p ∙ h .countRows; mostFamilies = omega arith; mostRegisters = h .mostRegisters; mostQubits = h .mostQubits; mostBits = h .mostBits; few = fewer; some = somer }
+      let x = h .leastRows in
+      let y = h .mostRows in
+      record { table = a .table; long = length-set families (t .families) entry ∙ h .long; mostFamilies = omega arith; mostRegisters = h .mostRegisters; mostQubits = h .mostQubits; mostBits = h .mostBits; leastRows = omega arith; mostRows = omega arith; each = entered; behind = after }
     where
-      fewer : (k : ℕ) → k < t .families + 1 → getD newArities k 0 ≤ 4
-      fewer k q = by (eqb k (t .families)) refl
+      entered : (k : ℕ) → k < t .families + 1 → Entered (getD newFamilies k []) (t .rows + p)
+      entered k q = by (eqb k (t .families)) refl
         where
-          by : (b : Bool) → eqb k (t .families) ≡ b → getD newArities k 0 ≤ 4
-          by true e = rw (eqb-true k (t .families) e, arity-own) few
-          by false e = let n = eqb-false k (t .families) e in let z : k < t .families = omega arith in rw (arity-other k z) (h .few k z)
+          by : (b : Bool) → eqb k (t .families) ≡ b → Entered (getD newFamilies k []) (t .rows + p)
+          by true e = rw (eqb-true k (t .families) e, own) (record { few = few; inside = omega arith })
+          by false e =
+              let n = eqb-false k (t .families) e in
+              let z : k < t .families = omega arith in
+              let w = h .each k z in
+              let v = w .inside in
+              rw (other k z) (record { few = w .few; inside = omega arith })
 
-      somer : (k : ℕ) → k < t .families + 1 → getD newCounts k 0 ≤ 8
-      somer k q = by (eqb k (t .families)) refl
+      after : (k : ℕ) → k < t .families + 1 → 255 ≤ getD (getD newFamilies k []) 2 0
+      after k q = by (eqb k (t .families)) refl
         where
-          by : (b : Bool) → eqb k (t .families) ≡ b → getD newCounts k 0 ≤ 8
-          by true e = rw (eqb-true k (t .families) e, count-own) some
-          by false e = let n = eqb-false k (t .families) e in let z : k < t .families = omega arith in rw (count-other k z) (h .some k z)
+          by : (b : Bool) → eqb k (t .families) ≡ b → 255 ≤ getD (getD newFamilies k []) 2 0
+          by true e = rw (eqb-true k (t .families) e, own) (h .leastRows)
+          by false e = let n = eqb-false k (t .families) e in let z : k < t .families = omega arith in rw (other k z) (h .behind k z)
 
 pub both-right : (at next families : ℕ) (c : Counts) (m p : ℕ) → c ≡ Both m p → BothRight at next families c → BothRight at next families (Both m p)
 both-right at next families c m p e h = rw e at h

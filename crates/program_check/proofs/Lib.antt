@@ -1,3 +1,4 @@
 pub mod Declaring
+pub mod Narrowing
 pub mod Entering
 pub mod Checking

@@ -11,9 +11,9 @@ use Rattle.language.specs.Read.{Field, typesOf, statementsBy, outerStatement}
 use Rattle.language.specs.Form.{constantForm}
 use Rattle.language.specs.Check.{Checked, good, refused, _>>=_, _>>_, require, checkNumber, Kind, Declared, familyScope, kindsOf, checkStatements}
 use Rattle.language.specs.Result.{Result, turnedDown}
-use Rattle.forms.specs.Rows.{Rows}
+use Rattle.forms.specs.Rows.{ShortRows}
 use Rattle.checker.specs.Operands.{kindBy, kindAt, kindsAt, tabulated}
-use Rattle.checker.specs.Statements.{signatureAt}
+use Rattle.checker.specs.Statements.{signatureAt, Entered}
 use Rattle.checker.specs.declared.Read.{Read}
 use Rattle.checker.specs.declared.Read.the-variants.{Upto, Refused}
 use Rattle.program_check.specs.declared.Counts.{Counts}
@@ -26,11 +26,11 @@ use Rattle.program_check.specs.declared.Outcome.the-variants.{Accepted, 
 
 -- ---- the table of operands
 
--- a kind and a size in each of 2,295 rows: 8 for each of 255 families, and then one for each of 255 registers
+-- a kind and a size in each of 2,295 rows: one for each of 255 registers, and then those of the families' parameters, as they come
 pub record Table (kinds : List ℕ) (sizes : List (List ℤ)) : Type 0 where
   pub kindsLong : length kinds ≡ 2295
   pub sizesLong : length sizes ≡ 2295
-  pub sizeRows : Rows sizes 2295
+  pub sizeRows : ShortRows sizes 2295
 
 -- a table whose rows are as before, but for so many from a first one on
 pub record Apart (first count : ℕ) (kinds : List ℕ) (sizes : List (List ℤ)) (kinds' : List ℕ) (sizes' : List (List ℤ)) : Type 0 where
@@ -81,33 +81,34 @@ bodyMeant d q m p fs = kindsOf (familyScope d m []) (typesOf q p fs) >>= λ ks. 
 -- ---- what is declared
 
 -- what the tables say is declared
-abbrev pub declaredAt : Totals → List ℕ → List ℕ → List ℕ → List (List ℤ) → Declared
-declaredAt t arities counts kinds sizes = record
-    { families = tabulated (signatureAt arities counts kinds sizes) (t .families) 0; registers = kindsAt (t .registers) 2040 kinds sizes; qubits = t .qubits; bits = t .bits }
+abbrev pub declaredAt : Totals → List (List ℕ) → List ℕ → List (List ℤ) → Declared
+declaredAt t families kinds sizes = record
+    { families = tabulated (signatureAt families kinds sizes) (t .families) 0; registers = kindsAt (t .registers) 0 kinds sizes; qubits = t .qubits; bits = t .bits }
 
--- what the tables hold is right
-pub record Holds (t : Totals) (arities counts kinds : List ℕ) (sizes : List (List ℤ)) : Type 0 where
+-- what the tables hold is right: rows of parameters stand behind those of registers
+pub record Holds (t : Totals) (families : List (List ℕ)) (kinds : List ℕ) (sizes : List (List ℤ)) : Type 0 where
   pub table : Table kinds sizes
-  pub arityRows : length arities ≡ 255
-  pub countRows : length counts ≡ 255
+  pub long : length families ≡ 255
   pub mostFamilies : t .families ≤ 255
   pub mostRegisters : t .registers ≤ 255
   pub mostQubits : t .qubits ≤ 65535
   pub mostBits : t .bits ≤ 65535
-  pub few : (k : ℕ) → k < t .families → getD arities k 0 ≤ 4
-  pub some : (k : ℕ) → k < t .families → getD counts k 0 ≤ 8
+  pub leastRows : 255 ≤ t .rows
+  pub mostRows : t .rows ≤ 255 + 8 * t .families
+  pub each : (k : ℕ) → k < t .families → Entered (getD families k []) (t .rows)
+  pub behind : (k : ℕ) → k < t .families → 255 ≤ getD (getD families k []) 2 0
 
 abbrev pub nothing : Totals
-nothing = record { families = 0; registers = 0; qubits = 0; bits = 0 }
+nothing = record { families = 0; rows = 255; registers = 0; qubits = 0; bits = 0 }
 
 -- what an answer and the tables tell
-unfoldable pub stepTold : Step → List ℕ → List ℕ → List ℕ → List (List ℤ) → Checked Declared
-stepTold (Going t) arities counts kinds sizes = good (declaredAt t arities counts kinds sizes)
-stepTold (Stopped n p) arities counts kinds sizes = refused n p
+unfoldable pub stepTold : Step → List (List ℕ) → List ℕ → List (List ℤ) → Checked Declared
+stepTold (Going t) families kinds sizes = good (declaredAt t families kinds sizes)
+stepTold (Stopped n p) families kinds sizes = refused n p
 
-abbrev pub StepHolds : Step → List ℕ → List ℕ → List ℕ → List (List ℤ) → Type 0
-StepHolds (Going t) arities counts kinds sizes = Holds t arities counts kinds sizes
-StepHolds (Stopped n p) arities counts kinds sizes = Unit {0}
+abbrev pub StepHolds : Step → List (List ℕ) → List ℕ → List (List ℤ) → Type 0
+StepHolds (Going t) families kinds sizes = Holds t families kinds sizes
+StepHolds (Stopped n p) families kinds sizes = Unit {0}
 
 -- ---- registers
 
@@ -115,8 +116,8 @@ StepHolds (Stopped n p) arities counts kinds sizes = Unit {0}
 pub record RegisterRow (size kind count total : ℕ) (kinds : List ℕ) (sizes : List (List ℤ)) (kinds' : List ℕ) (sizes' : List (List ℤ)) : Type 0 where
   pub room : count < 255
   pub fits : total + size ≤ 65535
-  pub apart : Apart (2040 + count) 1 kinds sizes kinds' sizes'
-  pub row : kindAt (2040 + count) kinds' sizes' ≡ kindBy kind (constantForm (pos size))
+  pub apart : Apart count 1 kinds sizes kinds' sizes'
+  pub row : kindAt count kinds' sizes' ≡ kindBy kind (constantForm (pos size))
 
 abbrev pub RegisterSet : Read → (kind count total : ℕ) → List ℕ → List (List ℤ) → List ℕ → List (List ℤ) → Type 0
 RegisterSet (Upto n) kind count total kinds sizes kinds' sizes' = RegisterRow n kind count total kinds sizes kinds' sizes'

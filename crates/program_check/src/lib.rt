@@ -1,6 +1,6 @@
 // The check of a whole program: what the fields at the top declare, one after the other, and the answer.
 ghost use mathlib.Core.Path.{_≡_};
-ghost use Prim.Native.Nat.{ℕ, _+_, _*_, _≤_, _<_};
+ghost use Prim.Native.Nat.{_+_, _≤_, _<_};
 ghost use mathlib.Core.List.{List, []};
 ghost use lib.ListN.{length};
 ghost use lib.Seq.{slice};
@@ -18,9 +18,10 @@ use checker::Read;
 use checker::Scope;
 use fields::Header;
 
-// How much is declared so far: families, registers, qubits and bits.
+// How much is declared so far: families, registers, qubits and bits; and how many rows of the table of operands are in use.
 pub struct Totals {
     pub families: usize,
+    pub rows: usize,
     pub registers: usize,
     pub qubits: usize,
     pub bits: usize,
@@ -47,7 +48,7 @@ fn typed_row(
     m: usize,
     row: usize,
     kinds: &mut [u8],
-    sizes: &mut [[i64; 13]],
+    sizes: &mut [[i64; 5]],
 ) -> Read
     requires { ⌜ to ≤ length (now program) ⌝ }
     requires { ⌜ m ≤ 4 ⌝ }
@@ -64,8 +65,10 @@ fn typed_row(
             Read::Upto(next)
         }
         Parameter::Many(next) => {
+            let mut size = [0i64; 5];
+            forms::store(&mut size, &f);
             kinds[row] = 1;
-            sizes[row] = f;
+            sizes[row] = size;
             Read::Upto(next)
         }
         Parameter::Bad(n, q) => Read::Refused(n, q),
@@ -82,7 +85,7 @@ fn parameter_types(
     count: usize,
     first: usize,
     kinds: &mut [u8],
-    sizes: &mut [[i64; 13]],
+    sizes: &mut [[i64; 5]],
 ) -> Read
     requires { ⌜ to ≤ length (now program) ⌝ }
     requires { ⌜ m ≤ 4 ⌝ }
@@ -106,7 +109,7 @@ fn parameter_types(
 
 // The numbers of index variables and of parameters of a family, or a refusal's number and place.
 pub enum Counts {
-    Both(u8, u8),
+    Both(usize, usize),
     Bad(u32, usize),
 }
 
@@ -129,7 +132,7 @@ fn family_counts(program: &[u8], at: usize, next: usize, families: usize) -> Cou
     if next <= from {
         return Counts::Bad(4, at);
     }
-    let m = program[from];
+    let m = wide(program[from]);
     if 4 < m {
         return Counts::Bad(6, at);
     }
@@ -137,7 +140,7 @@ fn family_counts(program: &[u8], at: usize, next: usize, families: usize) -> Cou
     if next <= second {
         return Counts::Bad(4, at);
     }
-    let p = program[second];
+    let p = wide(program[second]);
     if p == 0 {
         return Counts::Bad(6, at);
     }
@@ -155,21 +158,20 @@ fn family_body(
     m: usize,
     p: usize,
     t: Totals,
-    arities: &[u8],
-    counts: &[u8],
+    families: &[[usize; 3]],
     kinds: &mut [u8],
-    sizes: &mut [[i64; 13]],
+    sizes: &mut [[i64; 5]],
 ) -> Read
     requires { ⌜ (at + 5 ≤ next) × (next ≤ length (now program)) ⌝ }
     requires { ⌜ m ≤ 4 ⌝ }
     requires { ⌜ p ≤ 8 ⌝ }
     requires { ⌜ t .families < 255 ⌝ }
-    requires { ⌜ Holds t (now arities) (now counts) (now kinds) (now sizes) ⌝ }
-    ensures { λ r. ⌜ rowsTold r p (8 * t .families) (now (kinds .exit)) (now (sizes .exit)) ≡ bodyMeant (declaredAt t (now (arities .entry)) (now (counts .entry)) (now (kinds .entry)) (now (sizes .entry))) at m p (fieldsAt (now (program .entry)) (at + 5) next) ⌝ }
-    ensures { λ _. ⌜ Apart (8 * t .families) p (now (kinds .entry)) (now (sizes .entry)) (now (kinds .exit)) (now (sizes .exit)) ⌝ }
+    requires { ⌜ Holds t (now families) (now kinds) (now sizes) ⌝ }
+    ensures { λ r. ⌜ rowsTold r p (t .rows) (now (kinds .exit)) (now (sizes .exit)) ≡ bodyMeant (declaredAt t (now (families .entry)) (now (kinds .entry)) (now (sizes .entry))) at m p (fieldsAt (now (program .entry)) (at + 5) next) ⌝ }
+    ensures { λ _. ⌜ Apart (t .rows) p (now (kinds .entry)) (now (sizes .entry)) (now (kinds .exit)) (now (sizes .exit)) ⌝ }
 {
     let from = at + 5;
-    let first = 8 * t.families;
+    let first = t.rows;
     let r = parameter_types(program, from, next, at, m, p, first, kinds, sizes);
     let Read::Upto(mid) = r else {
         return r;
@@ -188,8 +190,7 @@ fn family_body(
         next,
         16,
         s,
-        arities,
-        counts,
+        families,
         kinds,
         sizes,
         &none,
@@ -203,42 +204,30 @@ fn family(
     at: usize,
     next: usize,
     t: Totals,
-    arities: &mut [u8],
-    counts: &mut [u8],
+    families: &mut [[usize; 3]],
     kinds: &mut [u8],
-    sizes: &mut [[i64; 13]],
+    sizes: &mut [[i64; 5]],
 ) -> Step
     requires { ⌜ (at + 3 ≤ next) × (next ≤ length (now program)) ⌝ }
-    requires { ⌜ Holds t (now arities) (now counts) (now kinds) (now sizes) ⌝ }
-    ensures { λ r. ⌜ stepTold r (now (arities .exit)) (now (counts .exit)) (now (kinds .exit)) (now (sizes .exit)) ≡ checkTop (readFamily at (slice (at + 3) next (now (program .entry)))) (declaredAt t (now (arities .entry)) (now (counts .entry)) (now (kinds .entry)) (now (sizes .entry))) ⌝ }
-    ensures { λ r. ⌜ StepHolds r (now (arities .exit)) (now (counts .exit)) (now (kinds .exit)) (now (sizes .exit)) ⌝ }
+    requires { ⌜ Holds t (now families) (now kinds) (now sizes) ⌝ }
+    ensures { λ r. ⌜ stepTold r (now (families .exit)) (now (kinds .exit)) (now (sizes .exit)) ≡ checkTop (readFamily at (slice (at + 3) next (now (program .entry)))) (declaredAt t (now (families .entry)) (now (kinds .entry)) (now (sizes .entry))) ⌝ }
+    ensures { λ r. ⌜ StepHolds r (now (families .exit)) (now (kinds .exit)) (now (sizes .exit)) ⌝ }
 {
     let n = t.families;
     match family_counts(program, at, next, n) {
         Counts::Bad(k, q) => Step::Stopped(k, q),
         Counts::Both(m, p) => {
-            let variables = wide(m);
-            let count = wide(p);
-            let r = family_body(
-                program,
-                at,
-                next,
-                variables,
-                count,
-                t,
-                arities,
-                counts,
-                kinds,
-                sizes,
-            );
-            match r {
+            let first = t.rows;
+            match family_body(program, at, next, m, p, t, families, kinds, sizes) {
                 Read::Refused(k, q) => Step::Stopped(k, q),
                 Read::Upto(_) => {
-                    arities[n] = m;
-                    counts[n] = p;
-                    let families = n + 1;
+                    let entry = [m, p, first];
+                    families[n] = entry;
+                    let after = n + 1;
+                    let rows = first + p;
                     Step::Going(Totals {
-                        families,
+                        families: after,
+                        rows,
                         registers: t.registers,
                         qubits: t.qubits,
                         bits: t.bits,
@@ -258,7 +247,7 @@ fn register(
     count: usize,
     total: usize,
     kinds: &mut [u8],
-    sizes: &mut [[i64; 13]],
+    sizes: &mut [[i64; 5]],
 ) -> Read
     requires { ⌜ (at + 3 ≤ next) × (next ≤ length (now program)) ⌝ }
     requires { ⌜ total ≤ 65535 ⌝ }
@@ -270,11 +259,12 @@ fn register(
     let Read::Upto(size) = r else {
         return r;
     };
-    let row = 2040 + count;
     let mut f = [0i64; 13];
     forms::set_constant(&mut f, size as i64);
-    kinds[row] = kind;
-    sizes[row] = f;
+    let mut short = [0i64; 5];
+    forms::store(&mut short, &f);
+    kinds[count] = kind;
+    sizes[count] = short;
     Read::Upto(size)
 }
 
@@ -284,15 +274,14 @@ fn quantum_register(
     at: usize,
     next: usize,
     t: Totals,
-    arities: &[u8],
-    counts: &[u8],
+    families: &[[usize; 3]],
     kinds: &mut [u8],
-    sizes: &mut [[i64; 13]],
+    sizes: &mut [[i64; 5]],
 ) -> Step
     requires { ⌜ (at + 3 ≤ next) × (next ≤ length (now program)) ⌝ }
-    requires { ⌜ Holds t (now arities) (now counts) (now kinds) (now sizes) ⌝ }
-    ensures { λ r. ⌜ stepTold r (now (arities .entry)) (now (counts .entry)) (now (kinds .exit)) (now (sizes .exit)) ≡ checkTop (readRegister qreg at (slice (at + 3) next (now (program .entry)))) (declaredAt t (now (arities .entry)) (now (counts .entry)) (now (kinds .entry)) (now (sizes .entry))) ⌝ }
-    ensures { λ r. ⌜ StepHolds r (now (arities .entry)) (now (counts .entry)) (now (kinds .exit)) (now (sizes .exit)) ⌝ }
+    requires { ⌜ Holds t (now families) (now kinds) (now sizes) ⌝ }
+    ensures { λ r. ⌜ stepTold r (now (families .entry)) (now (kinds .exit)) (now (sizes .exit)) ≡ checkTop (readRegister qreg at (slice (at + 3) next (now (program .entry)))) (declaredAt t (now (families .entry)) (now (kinds .entry)) (now (sizes .entry))) ⌝ }
+    ensures { λ r. ⌜ StepHolds r (now (families .entry)) (now (kinds .exit)) (now (sizes .exit)) ⌝ }
 {
     let n = t.registers;
     let total = t.qubits;
@@ -303,6 +292,7 @@ fn quantum_register(
             let qubits = total + size;
             Step::Going(Totals {
                 families: t.families,
+                rows: t.rows,
                 registers,
                 qubits,
                 bits: t.bits,
@@ -317,15 +307,14 @@ fn classical_register(
     at: usize,
     next: usize,
     t: Totals,
-    arities: &[u8],
-    counts: &[u8],
+    families: &[[usize; 3]],
     kinds: &mut [u8],
-    sizes: &mut [[i64; 13]],
+    sizes: &mut [[i64; 5]],
 ) -> Step
     requires { ⌜ (at + 3 ≤ next) × (next ≤ length (now program)) ⌝ }
-    requires { ⌜ Holds t (now arities) (now counts) (now kinds) (now sizes) ⌝ }
-    ensures { λ r. ⌜ stepTold r (now (arities .entry)) (now (counts .entry)) (now (kinds .exit)) (now (sizes .exit)) ≡ checkTop (readRegister creg at (slice (at + 3) next (now (program .entry)))) (declaredAt t (now (arities .entry)) (now (counts .entry)) (now (kinds .entry)) (now (sizes .entry))) ⌝ }
-    ensures { λ r. ⌜ StepHolds r (now (arities .entry)) (now (counts .entry)) (now (kinds .exit)) (now (sizes .exit)) ⌝ }
+    requires { ⌜ Holds t (now families) (now kinds) (now sizes) ⌝ }
+    ensures { λ r. ⌜ stepTold r (now (families .entry)) (now (kinds .exit)) (now (sizes .exit)) ≡ checkTop (readRegister creg at (slice (at + 3) next (now (program .entry)))) (declaredAt t (now (families .entry)) (now (kinds .entry)) (now (sizes .entry))) ⌝ }
+    ensures { λ r. ⌜ StepHolds r (now (families .entry)) (now (kinds .exit)) (now (sizes .exit)) ⌝ }
 {
     let n = t.registers;
     let total = t.bits;
@@ -336,6 +325,7 @@ fn classical_register(
             let bits = total + size;
             Step::Going(Totals {
                 families: t.families,
+                rows: t.rows,
                 registers,
                 qubits: t.qubits,
                 bits,
@@ -351,20 +341,19 @@ fn acting(
     next: usize,
     tag: u8,
     t: Totals,
-    arities: &[u8],
-    counts: &[u8],
+    families: &[[usize; 3]],
     kinds: &[u8],
-    sizes: &[[i64; 13]],
+    sizes: &[[i64; 5]],
 ) -> Step
     requires { ⌜ (at + 3 ≤ next) × (next ≤ length (now program)) ⌝ }
-    requires { ⌜ Holds t (now arities) (now counts) (now kinds) (now sizes) ⌝ }
+    requires { ⌜ Holds t (now families) (now kinds) (now sizes) ⌝ }
     requires { ⌜ (tag ≡ 1 → ⊥) × (tag ≡ 2 → ⊥) × (tag ≡ 3 → ⊥) ⌝ }
-    ensures { λ r. ⌜ stepTold r (now (arities .entry)) (now (counts .entry)) (now (kinds .entry)) (now (sizes .entry)) ≡ checkTop (readTop (field at tag (slice (at + 3) next (now (program .entry))))) (declaredAt t (now (arities .entry)) (now (counts .entry)) (now (kinds .entry)) (now (sizes .entry))) ⌝ }
-    ensures { λ r. ⌜ StepHolds r (now (arities .entry)) (now (counts .entry)) (now (kinds .entry)) (now (sizes .entry)) ⌝ }
+    ensures { λ r. ⌜ stepTold r (now (families .entry)) (now (kinds .entry)) (now (sizes .entry)) ≡ checkTop (readTop (field at tag (slice (at + 3) next (now (program .entry))))) (declaredAt t (now (families .entry)) (now (kinds .entry)) (now (sizes .entry))) ⌝ }
+    ensures { λ r. ⌜ StepHolds r (now (families .entry)) (now (kinds .entry)) (now (sizes .entry)) ⌝ }
 {
     let s = Scope {
         families: t.families,
-        first: 2040,
+        first: 0,
         count: t.registers,
         variables: 0,
         loops: 0,
@@ -376,8 +365,7 @@ fn acting(
         next,
         tag,
         s,
-        arities,
-        counts,
+        families,
         kinds,
         sizes,
         &none,
@@ -395,39 +383,38 @@ fn top_field(
     next: usize,
     tag: u8,
     t: Totals,
-    arities: &mut [u8],
-    counts: &mut [u8],
+    families: &mut [[usize; 3]],
     kinds: &mut [u8],
-    sizes: &mut [[i64; 13]],
+    sizes: &mut [[i64; 5]],
 ) -> Step
     requires { ⌜ (at + 3 ≤ next) × (next ≤ length (now program)) ⌝ }
-    requires { ⌜ Holds t (now arities) (now counts) (now kinds) (now sizes) ⌝ }
-    ensures { λ r. ⌜ stepTold r (now (arities .exit)) (now (counts .exit)) (now (kinds .exit)) (now (sizes .exit)) ≡ checkTop (readTop (field at tag (slice (at + 3) next (now (program .entry))))) (declaredAt t (now (arities .entry)) (now (counts .entry)) (now (kinds .entry)) (now (sizes .entry))) ⌝ }
-    ensures { λ r. ⌜ StepHolds r (now (arities .exit)) (now (counts .exit)) (now (kinds .exit)) (now (sizes .exit)) ⌝ }
+    requires { ⌜ Holds t (now families) (now kinds) (now sizes) ⌝ }
+    ensures { λ r. ⌜ stepTold r (now (families .exit)) (now (kinds .exit)) (now (sizes .exit)) ≡ checkTop (readTop (field at tag (slice (at + 3) next (now (program .entry))))) (declaredAt t (now (families .entry)) (now (kinds .entry)) (now (sizes .entry))) ⌝ }
+    ensures { λ r. ⌜ StepHolds r (now (families .exit)) (now (kinds .exit)) (now (sizes .exit)) ⌝ }
 {
     match tag {
-        1 => family(program, at, next, t, arities, counts, kinds, sizes),
-        2 => quantum_register(program, at, next, t, arities, counts, kinds, sizes),
-        3 => classical_register(program, at, next, t, arities, counts, kinds, sizes),
-        _ => acting(program, at, next, tag, t, arities, counts, kinds, sizes),
+        1 => family(program, at, next, t, families, kinds, sizes),
+        2 => quantum_register(program, at, next, t, families, kinds, sizes),
+        3 => classical_register(program, at, next, t, families, kinds, sizes),
+        _ => acting(program, at, next, tag, t, families, kinds, sizes),
     }
 }
 
 // The fields of a program, one after the other, with nothing declared before them.
 fn top_fields(
     program: &[u8],
-    arities: &mut [u8],
-    counts: &mut [u8],
+    families: &mut [[usize; 3]],
     kinds: &mut [u8],
-    sizes: &mut [[i64; 13]],
+    sizes: &mut [[i64; 5]],
 ) -> Outcome
-    requires { ⌜ Holds nothing (now arities) (now counts) (now kinds) (now sizes) ⌝ }
+    requires { ⌜ Holds nothing (now families) (now kinds) (now sizes) ⌝ }
     ensures { λ r. ⌜ resultTold r ≡ verdict (check (read (now (program .entry)))) ⌝ }
 {
     let to = program.len();
     let mut at: usize = 0;
     let mut t = Totals {
         families: 0,
+        rows: 255,
         registers: 0,
         qubits: 0,
         bits: 0,
@@ -437,7 +424,7 @@ fn top_fields(
             Header::End => return Outcome::Accepted,
             Header::Cut => return Outcome::Turned(2, at),
             Header::Whole(tag, next) => {
-                let r = top_field(program, at, next, tag, t, arities, counts, kinds, sizes);
+                let r = top_field(program, at, next, tag, t, families, kinds, sizes);
                 match r {
                     Step::Stopped(n, q) => return Outcome::Turned(n, q),
                     Step::Going(after) => {
@@ -457,9 +444,8 @@ pub fn check_program(program: &[u8]) -> Outcome
     if 65535 < program.len() {
         return Outcome::Turned(1, 0);
     }
-    let mut arities = [0u8; 255];
-    let mut counts = [0u8; 255];
+    let mut families = [[0usize; 3]; 255];
     let mut kinds = [0u8; 2295];
-    let mut sizes = [[0i64; 13]; 2295];
-    top_fields(program, &mut arities, &mut counts, &mut kinds, &mut sizes)
+    let mut sizes = [[0i64; 5]; 2295];
+    top_fields(program, &mut families, &mut kinds, &mut sizes)
 }

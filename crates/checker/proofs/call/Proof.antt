@@ -28,132 +28,133 @@ use Rattle.checker.specs.Statements.{scopeFull, signatureAt, Loops, Decl
 use Rattle.checker.proofs.Operating.{row-get, row-none}
 use Rattle.checker.proofs.Stating.{call-none, call-beyond, call-stops, call-good, count-upto, four-rows}
 
--- src/lib.rt:651:16
+-- src/lib.rt:755:16
 add-from : tie.Need-add-from
 add-from c = search needs
 
--- src/lib.rt:653:9
+-- src/lib.rt:757:9
 returns : tie.Need-returns
 unfolding told
 returns c =
-    let a = c .before .before .before .before .before .args in
+    let a = c .before .before .before .args in
     let p = now (a .program) in
     let from = a .at + 3 in
     let content = slice from (a .next) p in
-    let s = scopeFull (a .s) (now (a .arities)) (now (a .counts)) (now (a .kinds)) (now (a .sizes)) (now (a .lows)) (now (a .highs)) in
-    let fs = tabulated (signatureAt (now (a .arities)) (now (a .counts)) (now (a .kinds)) (now (a .sizes))) (a .s .families) 0 in
+    let s = scopeFull (a .s) (now (a .families)) (now (a .kinds)) (now (a .sizes)) (now (a .lows)) (now (a .highs)) in
+    let fs = tabulated (signatureAt (now (a .families)) (now (a .kinds)) (now (a .sizes))) (a .s .families) 0 in
     call-none s (a .at) content (slice-none from (a .next) p (c .if1 .taken))
 
--- src/lib.rt:655:18
+-- src/lib.rt:759:18
 shared-slice-read-wide : tie.Need-shared-slice-read-wide
 shared-slice-read-wide c = search needs
 
--- src/lib.rt:655:9
+-- src/lib.rt:759:9
 wide-requires : tie.Need-wide-requires
 wide-requires c κs = search needs
 
--- src/lib.rt:657:9
+-- src/lib.rt:761:9
 returns-2 : tie.Need-returns-2
 unfolding told
 returns-2 c =
-    let a = c .before .before .before .before .before .before .before .before .before .args in
+    let a = c .before .before .before .before .before .before .before .args in
     let p = now (a .program) in
     let from = a .at + 3 in
     let content = slice from (a .next) p in
-    let s = scopeFull (a .s) (now (a .arities)) (now (a .counts)) (now (a .kinds)) (now (a .sizes)) (now (a .lows)) (now (a .highs)) in
-    let fs = tabulated (signatureAt (now (a .arities)) (now (a .counts)) (now (a .kinds)) (now (a .sizes))) (a .s .families) 0 in
+    let s = scopeFull (a .s) (now (a .families)) (now (a .kinds)) (now (a .sizes)) (now (a .lows)) (now (a .highs)) in
+    let fs = tabulated (signatureAt (now (a .families)) (now (a .kinds)) (now (a .sizes))) (a .s .families) 0 in
     let n = c .before .before .wide .result in
-    let e = one-byte from (a .next) p (c .before .before .before .before .if1 .left) (c .before .before .before .before .before .before .before .before .before .pre .0 .1) ∙ ap (λ (x : ℕ). x ∷ slice (from + 1) (a .next) p) (sym (c .before .before .wide .ensures)) in
-    call-beyond s (a .at) content n p (a .next) e (row-none (signatureAt (now (a .arities)) (now (a .counts)) (now (a .kinds)) (now (a .sizes))) (a .s .families) 0 n (c .if2 .taken))
+    let e = one-byte from (a .next) p (c .before .before .before .before .if1 .left) (c .before .before .before .before .before .before .before .pre .0 .1) ∙ ap (λ (x : ℕ). x ∷ slice (from + 1) (a .next) p) (sym (c .before .before .wide .ensures)) in
+    call-beyond s (a .at) content n p (a .next) e (row-none (signatureAt (now (a .families)) (now (a .kinds)) (now (a .sizes))) (a .s .families) 0 n (c .if2 .taken))
 
--- src/lib.rt:659:18
-shared-slice-read-wide-2 : tie.Need-shared-slice-read-wide-2
-shared-slice-read-wide-2 c = search needs
+-- src/lib.rt:763:18
+mul-family : tie.Need-mul-family
+mul-family c =
+    let d = c .before .before .before .before .before .before .before .pre .1 .1 .enough in
+    let h = c .if2 .left in
+    omega (arith, c .before .before .before .before .before .before .before .good)
 
--- src/lib.rt:659:9
-wide-requires-2 : tie.Need-wide-requires-2
-wide-requires-2 c κs = search needs
+-- src/lib.rt:763:18
+shared-slice-copy-out-family : tie.Need-shared-slice-copy-out-family
+shared-slice-copy-out-family c =
+    let d = c .before .before .before .before .before .before .before .pre .1 .1 .enough in
+    let h = c .if2 .left in
+    omega (arith, c .before .before .before .before .before .before .before .good)
 
--- src/lib.rt:660:22
-shared-slice-read-wide-3 : tie.Need-shared-slice-read-wide-3
-shared-slice-read-wide-3 c = search needs
+-- src/lib.rt:764:13
+array-read-m : tie.Need-array-read-m
+array-read-m c = search needs
 
--- src/lib.rt:660:9
-wide-requires-3 : tie.Need-wide-requires-3
-wide-requires-3 c κs = search needs
+-- src/lib.rt:765:17
+array-read-count : tie.Need-array-read-count
+array-read-count c = search needs
 
--- src/lib.rt:661:17
+-- src/lib.rt:766:17
+array-read-first : tie.Need-array-read-first
+array-read-first c = search needs
+
+-- src/lib.rt:767:17
 add-inner : tie.Need-add-inner
 add-inner c = search needs
 
--- src/lib.rt:662:17
-mul-first : tie.Need-mul-first
-mul-first c = search needs
-
--- src/lib.rt:664:9
+-- src/lib.rt:769:9
 call-forms-requires : tie.Need-call-forms-requires
 call-forms-requires c κs =
-    let r = c .before .before .before .before .before .before .before .before .before .before .before .before .before .before .pre .1 .0 in
-    let d = c .before .before .before .before .before .before .before .before .before .before .before .before .before .before .pre .1 .1 .few (c .before .before .before .before .before .before .before .wide .result) (c .before .before .before .before .before .if2 .left) in
-    let z = c .before .before .before .wide2 .ensures in
-    (c .before .before .before .before .before .before .before .before .before .before .before .before .before .before .pre .0 .1, (omega arith, (record { few = r .few; nested = r .nested; lowRows = r .lowRows; highRows = r .highRows }, four-rows)))
+    let r = c .before .before .before .before .before .before .before .before .before .pre .1 .0 in
+    let d = c .before .before .before .before .before .before .before .before .before .pre .1 .1 .each (c .before .before .before .before .wide .result) (c .before .before .if2 .left) in
+    (c .before .before .before .before .before .before .before .before .before .pre .0 .1, (d .few, (record { few = r .few; nested = r .nested; lowRows = r .lowRows; highRows = r .highRows }, four-rows)))
 
--- src/lib.rt:665:20
+-- src/lib.rt:770:20
 enum-known-r : tie.Need-enum-known-r
 enum-known-r c = search needs
 
--- src/lib.rt:666:9
+-- src/lib.rt:771:9
 enum-told : tie.Need-enum-told
 enum-told c = search needs
 
--- src/lib.rt:666:9
+-- src/lib.rt:771:9
 returns-3 : tie.Need-returns-3
 returns-3 c =
-    let a = c .before .before .before .before .before .before .before .before .before .before .before .before .before .before .before .before .before .args in
+    let a = c .before .before .before .before .before .before .before .before .before .before .before .before .args in
     let p = now (a .program) in
     let from = a .at + 3 in
     let content = slice from (a .next) p in
-    let s = scopeFull (a .s) (now (a .arities)) (now (a .counts)) (now (a .kinds)) (now (a .sizes)) (now (a .lows)) (now (a .highs)) in
-    let fs = tabulated (signatureAt (now (a .arities)) (now (a .counts)) (now (a .kinds)) (now (a .sizes))) (a .s .families) 0 in
-    let n = c .before .before .before .before .before .before .before .before .before .before .wide .result in
-    let e = one-byte from (a .next) p (c .before .before .before .before .before .before .before .before .before .before .before .before .if1 .left) (c .before .before .before .before .before .before .before .before .before .before .before .before .before .before .before .before .before .pre .0 .1) ∙ ap (λ (x : ℕ). x ∷ slice (from + 1) (a .next) p) (sym (c .before .before .before .before .before .before .before .before .before .before .wide .ensures)) in
-    let f = signatureAt (now (a .arities)) (now (a .counts)) (now (a .kinds)) (now (a .sizes)) n in
-    let get = row-get (signatureAt (now (a .arities)) (now (a .counts)) (now (a .kinds)) (now (a .sizes))) (a .s .families) 0 n (c .before .before .before .before .before .before .before .before .if2 .left) ∙ ap (λ (k : ℕ). some (signatureAt (now (a .arities)) (now (a .counts)) (now (a .kinds)) (now (a .sizes)) k)) (zero-add n) in
+    let s = scopeFull (a .s) (now (a .families)) (now (a .kinds)) (now (a .sizes)) (now (a .lows)) (now (a .highs)) in
+    let fs = tabulated (signatureAt (now (a .families)) (now (a .kinds)) (now (a .sizes))) (a .s .families) 0 in
+    let n = c .before .before .before .before .before .before .before .wide .result in
+    let e = one-byte from (a .next) p (c .before .before .before .before .before .before .before .before .before .if1 .left) (c .before .before .before .before .before .before .before .before .before .before .before .before .pre .0 .1) ∙ ap (λ (x : ℕ). x ∷ slice (from + 1) (a .next) p) (sym (c .before .before .before .before .before .before .before .wide .ensures)) in
+    let f = signatureAt (now (a .families)) (now (a .kinds)) (now (a .sizes)) n in
+    let get = row-get (signatureAt (now (a .families)) (now (a .kinds)) (now (a .sizes))) (a .s .families) 0 n (c .before .before .before .before .before .if2 .left) ∙ ap (λ (k : ℕ). some (signatureAt (now (a .families)) (now (a .kinds)) (now (a .sizes)) k)) (zero-add n) in
     let ks = kindsAt (a .s .count) (a .s .first) (now (a .kinds)) (now (a .sizes)) in
     let l = c .before .before .call-forms .last .1 .1 .1 .1 .1 .1 .1 .1 .0 in
-    call-stops s (a .at) content n p (a .next) e f (get) (c .before .before .call-forms .result) l (c .before .before .before .before .before .before .wide2 .result) (c .before .before .before .before .before .before .wide2 .ensures) (c .before .before .call-forms .ensures .0 fs ks) (c .before .match .keys2)
+    let m = getD (getD (now (a .families)) n []) 0 0 in
+    call-stops s (a .at) content n p (a .next) e f (get) (c .before .before .call-forms .result) l m refl (c .before .before .call-forms .ensures .0 fs ks) (c .before .match .keys2)
 
--- src/lib.rt:668:5
+-- src/lib.rt:773:5
 call-operands-requires : tie.Need-call-operands-requires
 call-operands-requires c κs =
-    let d = c .before .before .before .before .before .before .before .before .before .before .before .before .before .before .before .before .before .before .before .pre .1 .1 .few (c .before .before .before .before .before .before .before .before .before .before .before .before .wide .result) (c .before .before .before .before .before .before .before .before .before .before .if2 .left) in
-    let g = c .before .before .before .before .before .before .before .before .before .before .before .before .before .before .before .before .before .before .before .pre .1 .1 .some (c .before .before .before .before .before .before .before .before .before .before .before .before .wide .result) (c .before .before .before .before .before .before .before .before .before .before .if2 .left) in
-    let b = c .before .before .before .before .before .before .before .before .before .before .before .before .before .before .before .before .before .before .before .pre .1 .1 .below in
-    let z = c .before .before .before .before .before .before .before .before .wide2 .ensures in
-    let y = c .before .before .before .before .before .before .wide3 .ensures in
-    let h = c .before .before .before .before .before .before .before .before .before .before .if2 .left in
-    (c .before .before .before .before .before .before .before .before .before .before .before .before .before .before .before .before .before .before .before .pre .0 .1, (omega arith, (c .before .before .before .before .call-forms .ensures .1 .1, (omega arith, c .before .before .before .before .before .before .before .before .before .before .before .before .before .before .before .before .before .before .before .pre .1 .0))))
+    let d = c .before .before .before .before .before .before .before .before .before .before .before .before .before .before .pre .1 .1 .each (c .before .before .before .before .before .before .before .before .before .wide .result) (c .before .before .before .before .before .before .before .if2 .left) in
+    (c .before .before .before .before .before .before .before .before .before .before .before .before .before .before .pre .0 .1, (d .few, (c .before .before .before .before .call-forms .ensures .1 .1, (d .inside, c .before .before .before .before .before .before .before .before .before .before .before .before .before .before .pre .1 .0))))
 
--- src/lib.rt:634:1
+-- src/lib.rt:739:1
 returns-4 : tie.Need-returns-4
 returns-4 c =
-    let a = c .before .before .before .before .before .before .before .before .before .before .before .before .before .before .before .before .before .before .before .before .args in
+    let a = c .before .before .before .before .before .before .before .before .before .before .before .before .before .before .before .args in
     let p = now (a .program) in
     let from = a .at + 3 in
     let content = slice from (a .next) p in
-    let s = scopeFull (a .s) (now (a .arities)) (now (a .counts)) (now (a .kinds)) (now (a .sizes)) (now (a .lows)) (now (a .highs)) in
-    let fs = tabulated (signatureAt (now (a .arities)) (now (a .counts)) (now (a .kinds)) (now (a .sizes))) (a .s .families) 0 in
-    let n = c .before .before .before .before .before .before .before .before .before .before .before .before .before .wide .result in
-    let e = one-byte from (a .next) p (c .before .before .before .before .before .before .before .before .before .before .before .before .before .before .before .if1 .left) (c .before .before .before .before .before .before .before .before .before .before .before .before .before .before .before .before .before .before .before .before .pre .0 .1) ∙ ap (λ (x : ℕ). x ∷ slice (from + 1) (a .next) p) (sym (c .before .before .before .before .before .before .before .before .before .before .before .before .before .wide .ensures)) in
-    let f = signatureAt (now (a .arities)) (now (a .counts)) (now (a .kinds)) (now (a .sizes)) n in
-    let get = row-get (signatureAt (now (a .arities)) (now (a .counts)) (now (a .kinds)) (now (a .sizes))) (a .s .families) 0 n (c .before .before .before .before .before .before .before .before .before .before .before .if2 .left) ∙ ap (λ (k : ℕ). some (signatureAt (now (a .arities)) (now (a .counts)) (now (a .kinds)) (now (a .sizes)) k)) (zero-add n) in
+    let s = scopeFull (a .s) (now (a .families)) (now (a .kinds)) (now (a .sizes)) (now (a .lows)) (now (a .highs)) in
+    let fs = tabulated (signatureAt (now (a .families)) (now (a .kinds)) (now (a .sizes))) (a .s .families) 0 in
+    let n = c .before .before .before .before .before .before .before .before .before .before .wide .result in
+    let e = one-byte from (a .next) p (c .before .before .before .before .before .before .before .before .before .before .before .before .if1 .left) (c .before .before .before .before .before .before .before .before .before .before .before .before .before .before .before .pre .0 .1) ∙ ap (λ (x : ℕ). x ∷ slice (from + 1) (a .next) p) (sym (c .before .before .before .before .before .before .before .before .before .before .wide .ensures)) in
+    let f = signatureAt (now (a .families)) (now (a .kinds)) (now (a .sizes)) n in
+    let get = row-get (signatureAt (now (a .families)) (now (a .kinds)) (now (a .sizes))) (a .s .families) 0 n (c .before .before .before .before .before .before .before .before .if2 .left) ∙ ap (λ (k : ℕ). some (signatureAt (now (a .families)) (now (a .kinds)) (now (a .sizes)) k)) (zero-add n) in
     let ks = kindsAt (a .s .count) (a .s .first) (now (a .kinds)) (now (a .sizes)) in
     let l = c .before .before .before .before .before .call-forms .last .1 .1 .1 .1 .1 .1 .1 .1 .0 in
+    let m = getD (getD (now (a .families)) n []) 0 0 in
     let mid = c .before .before .before .r .given .0 .0 in
-    let b = count-upto p (a .at + 4) (a .next) (c .before .before .before .before .before .before .before .before .before .wide2 .result) (c .before .before .before .before .before .call-forms .result) mid (c .before .before .before .r .given .1) (c .before .before .before .before .before .call-forms .ensures .1 .0) in
+    let b = count-upto p (a .at + 4) (a .next) m (c .before .before .before .before .before .call-forms .result) mid (c .before .before .before .r .given .1) (c .before .before .before .before .before .call-forms .ensures .1 .0) in
     c .call-operands .ensures .0 fs
-    ∙ ap (λ (x : ℕ). callOperands s (a .at) (formsOf (c .before .before .before .before .before .before .before .before .before .wide2 .result) l) (kindsAt x (8 * n) (now (a .kinds)) (now (a .sizes))) (map readArgument (fieldsAt p mid (a .next)))) (c .before .before .before .before .before .before .before .wide3 .ensures)
-    ∙ call-good s (a .at) content n p (a .next) e f (get) (c .before .before .before .before .before .call-forms .result) l (c .before .before .before .before .before .before .before .before .before .wide2 .result) (c .before .before .before .before .before .before .before .before .before .wide2 .ensures) (c .before .before .before .before .before .call-forms .ensures .0 fs ks) mid (c .before .before .before .r .given .1) b
+    ∙ call-good s (a .at) content n p (a .next) e f (get) (c .before .before .before .before .before .call-forms .result) l m refl (c .before .before .before .before .before .call-forms .ensures .0 fs ks) mid (c .before .before .before .r .given .1) b
 
 pub call-spec : {M : Type 1} → statement M
 call-spec =
@@ -164,12 +165,12 @@ call-spec =
     shared-slice-read-wide
     wide-requires
     returns-2
-    shared-slice-read-wide-2
-    wide-requires-2
-    shared-slice-read-wide-3
-    wide-requires-3
+    mul-family
+    shared-slice-copy-out-family
+    array-read-m
+    array-read-count
+    array-read-first
     add-inner
-    mul-first
     call-forms-requires
     enum-known-r
     enum-told

@@ -25,87 +25,87 @@ use Rattle.checker.specs.Tops.{kept}
 use Rattle.checker.proofs.Stating.{part-goes, passes-upto}
 use Rattle.checker.proofs.Topping.{kept-is, kept-stops, if-none, if-large, if-bit, bit, rest}
 
--- src/lib.rt:892:16
+-- src/lib.rt:1046:16
 add-from : tie.Need-add-from
 add-from c = search needs
 
--- src/lib.rt:894:9
+-- src/lib.rt:1048:9
 returns : tie.Need-returns
 unfolding kept
 returns c =
-    let a = c .before .before .before .before .before .args in
+    let a = c .before .before .before .args in
     let p = now (a .program) in
     let from = a .at + 3 in
     let content = slice from (a .next) p in
-    let fs = tabulated (signatureAt (now (a .arities)) (now (a .counts)) (now (a .kinds)) (now (a .sizes))) (a .s .families) 0 in
+    let fs = tabulated (signatureAt (now (a .families)) (now (a .kinds)) (now (a .sizes))) (a .s .families) 0 in
     λ d q. if-none d (a .at) content (slice-none from (a .next) p (c .if1 .taken))
 
--- src/lib.rt:896:22
+-- src/lib.rt:1050:22
 shared-slice-read-wide : tie.Need-shared-slice-read-wide
 shared-slice-read-wide c = search needs
 
--- src/lib.rt:896:9
+-- src/lib.rt:1050:9
 wide-requires : tie.Need-wide-requires
 wide-requires c κs = search needs
 
--- src/lib.rt:898:9
+-- src/lib.rt:1052:9
 returns-2 : tie.Need-returns-2
 unfolding kept
 returns-2 c =
-    let a = c .before .before .before .before .before .before .before .before .args in
+    let a = c .before .before .before .before .before .before .args in
     let p = now (a .program) in
     let from = a .at + 3 in
     let content = slice from (a .next) p in
-    let fs = tabulated (signatureAt (now (a .arities)) (now (a .counts)) (now (a .kinds)) (now (a .sizes))) (a .s .families) 0 in
+    let fs = tabulated (signatureAt (now (a .families)) (now (a .kinds)) (now (a .sizes))) (a .s .families) 0 in
     let v = c .before .wide .result in
-    let e = one-byte from (a .next) p (c .before .before .before .if1 .left) (c .before .before .before .before .before .before .before .before .pre .0 .1) ∙ ap (λ (x : ℕ). x ∷ slice (from + 1) (a .next) p) (sym (c .before .wide .ensures)) in
+    let e = one-byte from (a .next) p (c .before .before .before .if1 .left) (c .before .before .before .before .before .before .pre .0 .1) ∙ ap (λ (x : ℕ). x ∷ slice (from + 1) (a .next) p) (sym (c .before .wide .ensures)) in
     λ d q. if-large d (a .at) content v p (a .next) e (c .if2 .taken)
 
--- src/lib.rt:901:17
+-- src/lib.rt:1055:17
 add-inner : tie.Need-add-inner
 add-inner c = search needs
 
--- src/lib.rt:902:9
+-- src/lib.rt:1056:9
 operand-requires : tie.Need-operand-requires
 operand-requires c κs = search needs
 
--- src/lib.rt:903:20
+-- src/lib.rt:1069:20
 enum-known-r : tie.Need-enum-known-r
 enum-known-r c = search needs
 
--- src/lib.rt:904:9
+-- src/lib.rt:1070:9
 enum-told : tie.Need-enum-told
 enum-told c = search needs
 
--- src/lib.rt:904:9
+-- src/lib.rt:1070:9
 returns-3 : tie.Need-returns-3
 unfolding wantedOf
 returns-3 c =
+    let a = c .before .before .before .before .before .before .before .before .before .before .before .before .args in
+    let p = now (a .program) in
+    let from = a .at + 3 in
+    let content = slice from (a .next) p in
+    let fs = tabulated (signatureAt (now (a .families)) (now (a .kinds)) (now (a .sizes))) (a .s .families) 0 in
+    let v = c .before .before .before .before .before .before .before .wide .result in
+    let e = one-byte from (a .next) p (c .before .before .before .before .before .before .before .before .before .if1 .left) (c .before .before .before .before .before .before .before .before .before .before .before .before .pre .0 .1) ∙ ap (λ (x : ℕ). x ∷ slice (from + 1) (a .next) p) (sym (c .before .before .before .before .before .before .before .wide .ensures)) in
+    λ d q. kept-stops (c .before .before .operand .result) d (bit d (a .at) content v p (a .next) e) (rest d (a .at) content v p (a .next) e (drop 1 (fieldsAt p (a .at + 4) (a .next)))) (c .before .before .operand .ensures .0 fs ∙ ap (λ (s : C.Scope). checkOperand s C.bit (due readOperand (badOperand 4 (a .at)) (fieldsAt p (a .at + 4) (a .next)))) (sym q)) (c .before .match .keys2)
+    ∙ if-bit d (a .at) content v p (a .next) e (c .before .before .before .before .before .before .if2 .left)
+
+-- src/lib.rt:1072:5
+list-requires : tie.Need-list-requires
+list-requires c κs = search needs
+
+-- src/lib.rt:1030:1
+returns-4 : tie.Need-returns-4
+unfolding wantedOf
+returns-4 c =
     let a = c .before .before .before .before .before .before .before .before .before .before .before .before .before .before .args in
     let p = now (a .program) in
     let from = a .at + 3 in
     let content = slice from (a .next) p in
-    let fs = tabulated (signatureAt (now (a .arities)) (now (a .counts)) (now (a .kinds)) (now (a .sizes))) (a .s .families) 0 in
-    let v = c .before .before .before .before .before .before .before .wide .result in
-    let e = one-byte from (a .next) p (c .before .before .before .before .before .before .before .before .before .if1 .left) (c .before .before .before .before .before .before .before .before .before .before .before .before .before .before .pre .0 .1) ∙ ap (λ (x : ℕ). x ∷ slice (from + 1) (a .next) p) (sym (c .before .before .before .before .before .before .before .wide .ensures)) in
-    λ d q. kept-stops (c .before .before .operand .result) d (bit d (a .at) content v p (a .next) e) (rest d (a .at) content v p (a .next) e (drop 1 (fieldsAt p (a .at + 4) (a .next)))) (c .before .before .operand .ensures .0 fs ∙ ap (λ (s : C.Scope). checkOperand s C.bit (due readOperand (badOperand 4 (a .at)) (fieldsAt p (a .at + 4) (a .next)))) (sym q)) (c .before .match .keys2)
-    ∙ if-bit d (a .at) content v p (a .next) e (c .before .before .before .before .before .before .if2 .left)
-
--- src/lib.rt:906:5
-list-requires : tie.Need-list-requires
-list-requires c κs = search needs
-
--- src/lib.rt:875:1
-returns-4 : tie.Need-returns-4
-unfolding wantedOf
-returns-4 c =
-    let a = c .before .before .before .before .before .before .before .before .before .before .before .before .before .before .before .before .args in
-    let p = now (a .program) in
-    let from = a .at + 3 in
-    let content = slice from (a .next) p in
-    let fs = tabulated (signatureAt (now (a .arities)) (now (a .counts)) (now (a .kinds)) (now (a .sizes))) (a .s .families) 0 in
+    let fs = tabulated (signatureAt (now (a .families)) (now (a .kinds)) (now (a .sizes))) (a .s .families) 0 in
     let v = c .before .before .before .before .before .before .before .before .before .wide .result in
-    let e = one-byte from (a .next) p (c .before .before .before .before .before .before .before .before .before .before .before .if1 .left) (c .before .before .before .before .before .before .before .before .before .before .before .before .before .before .before .before .pre .0 .1) ∙ ap (λ (x : ℕ). x ∷ slice (from + 1) (a .next) p) (sym (c .before .before .before .before .before .before .before .before .before .wide .ensures)) in
+    let e = one-byte from (a .next) p (c .before .before .before .before .before .before .before .before .before .before .before .if1 .left) (c .before .before .before .before .before .before .before .before .before .before .before .before .before .before .pre .0 .1) ∙ ap (λ (x : ℕ). x ∷ slice (from + 1) (a .next) p) (sym (c .before .before .before .before .before .before .before .before .before .wide .ensures)) in
     let mid = c .before .before .r .given .0 .0 in
     let u = passes-upto p (a .at + 4) (a .next) (c .before .before .before .before .operand .result) mid (c .before .before .r .given .1) (c .before .before .before .before .operand .ensures .1) in
     λ d q. kept-is (c .list .result) d ∙ ap (λ (x : Checked (Unit {0})). x >> good d) (c .list .ensures ∙ ap (λ (s : C.Scope). checkStatements (statementsBy (readStatement 15) (fieldsAt p mid (a .next))) s) (sym q))

@@ -8,7 +8,7 @@ use Prim.Native.Nat.{_≤_}
 use native.Mathlib.Omega.{arith}
 use denote.Ref.{now}
 use Rattle.language.specs.Check.{register}
-use Rattle.forms.specs.Flat.{asForm}
+use Rattle.forms.specs.Flat.{widened, asForm}
 use Rattle.forms.specs.Rows.{formsOf}
 use Rattle.forms.proofs.Laws.{fewer}
 use Rattle.checker.specs.Operands.{wantedOf}
@@ -19,21 +19,21 @@ returns : tie.Need-returns
 unfolding wantedOf
 returns c =
     let a = c .before .args in
-    let f = asForm (now (a .own)) in
+    let f = asForm (widened (now (a .own))) in
     let gs = formsOf (a .m) (now (a .forms)) in
     (taken-wire gs (a .kind) f (c .if1 .taken), tt)
 
 -- src/lib.rt:586:13
 put-in-requires : tie.Need-put-in-requires
 put-in-requires c κs =
-    (c .before .before .before .before .pre .0, (omega arith, fewer (c .before .before .before .before .pre .1 .1) (c .before .before .before .before .pre .1 .0)))
+    (c .before .before .before .before .pre .0, (c .before .before .before .before .pre .1 .0, fewer (c .before .before .before .before .pre .1 .1) (c .before .before .before .before .pre .1 .0)))
 
 -- src/lib.rt:587:9
 returns-2 : tie.Need-returns-2
 unfolding wantedOf
 returns-2 c =
     let a = c .before .before .before .before .before .args in
-    let f = asForm (now (a .own)) in
+    let f = asForm (widened (now (a .own))) in
     let gs = formsOf (a .m) (now (a .forms)) in
     (ap register (c .put-in .ensures .0) ∙ taken-register gs (a .kind) f (c .before .before .before .if2 .taken), c .put-in .ensures .1)
 
@@ -42,7 +42,7 @@ returns-3 : tie.Need-returns-3
 unfolding wantedOf
 returns-3 c =
     let a = c .before .before .args in
-    let f = asForm (now (a .own)) in
+    let f = asForm (widened (now (a .own))) in
     let gs = formsOf (a .m) (now (a .forms)) in
     (taken-bit gs (a .kind) f (c .before .if1 .left) (c .if2 .left), tt)
 

@@ -20,11 +20,11 @@ use Rattle.checker.specs.Operands.{told, kindBy, kindAt, kindsAt, scopeW
 use Rattle.forms.proofs.Laws.{fewer}
 use Rattle.checker.proofs.Operating.{whole-none, whole-beyond, whole-long, whole-good, kinds-get, kinds-none}
 
--- src/lib.rt:382:16
+-- src/lib.rt:410:16
 add-from : tie.Need-add-from
 add-from c = search needs
 
--- src/lib.rt:384:9
+-- src/lib.rt:412:9
 returns : tie.Need-returns
 unfolding told
 returns c =
@@ -35,15 +35,15 @@ returns c =
     let d = wantedOf (a .wanted) (now (a .size)) in
     (λ fs. whole-none (scopeAt fs (a .s) (now (a .kinds)) (now (a .sizes)) (now (a .lows)) (now (a .highs))) d (a .at) (slice from (a .next) p) (slice-none from (a .next) p (c .if1 .taken)), tt)
 
--- src/lib.rt:386:18
+-- src/lib.rt:414:18
 shared-slice-read-wide : tie.Need-shared-slice-read-wide
 shared-slice-read-wide c = search needs
 
--- src/lib.rt:386:9
+-- src/lib.rt:414:9
 wide-requires : tie.Need-wide-requires
 wide-requires c κs = search needs
 
--- src/lib.rt:388:9
+-- src/lib.rt:416:9
 returns-2 : tie.Need-returns-2
 unfolding told
 returns-2 c =
@@ -59,11 +59,11 @@ returns-2 c =
     let h = length-slice (from + 1) (a .next) p (c .before .before .before .before .before .before .before .pre .0 .1) in
     (λ fs. whole-beyond (scopeAt fs (a .s) (now (a .kinds)) (now (a .sizes)) (now (a .lows)) (now (a .highs))) d (a .at) (slice from (a .next) p) n more e (kinds-none (a .s .count) (a .s .first) n (now (a .kinds)) (now (a .sizes)) (let q = c .if2 .taken in omega arith)), tt)
 
--- src/lib.rt:390:8
+-- src/lib.rt:418:8
 sub-if3 : tie.Need-sub-if3
 sub-if3 c = search needs
 
--- src/lib.rt:391:9
+-- src/lib.rt:419:9
 returns-3 : tie.Need-returns-3
 unfolding told
 returns-3 c =
@@ -82,31 +82,46 @@ returns-3 c =
     let t = c .if3 .taken in
     (λ fs. whole-long (scopeAt fs (a .s) (now (a .kinds)) (now (a .sizes)) (now (a .lows)) (now (a .highs))) d (a .at) (slice from (a .next) p) n more e k get (λ z. t (omega arith)), tt)
 
--- src/lib.rt:393:15
+-- src/lib.rt:421:15
 add-row : tie.Need-add-row
 add-row c = search needs
 
--- src/lib.rt:394:30
+-- src/lib.rt:425:9
 shared-slice-read-whole-fits : tie.Need-shared-slice-read-whole-fits
-shared-slice-read-whole-fits c = search needs
+shared-slice-read-whole-fits c =
+    let r = c .before .before .before .before .before .before .before .before .before .before .pre .1 .1 in
+    let t = r .sizeRows .enough in
+    let b = r .kindRows in
+    let q = c .before .before .before .if2 .left in
+    omega (arith, c .before .before .before .before .before .before .before .before .before .before .good)
 
--- src/lib.rt:394:42
+-- src/lib.rt:426:9
 mul-whole-fits : tie.Need-mul-whole-fits
-mul-whole-fits c = search needs
+mul-whole-fits c =
+    let r = c .before .before .before .before .before .before .before .before .before .before .pre .1 .1 in
+    let t = r .sizeRows .enough in
+    let b = r .kindRows in
+    let q = c .before .before .before .if2 .left in
+    omega (arith, c .before .before .before .before .before .before .before .before .before .before .good)
 
--- src/lib.rt:394:42
+-- src/lib.rt:426:9
 shared-slice-element-whole-fits : tie.Need-shared-slice-element-whole-fits
-shared-slice-element-whole-fits c = search needs
+shared-slice-element-whole-fits c =
+    let r = c .before .before .before .before .before .before .before .before .before .before .pre .1 .1 in
+    let t = r .sizeRows .enough in
+    let b = r .kindRows in
+    let q = c .before .before .before .if2 .left in
+    omega (arith, c .before .before .before .before .before .before .before .before .before .before .good)
 
--- src/lib.rt:394:5
+-- src/lib.rt:422:5
 whole-fits-requires : tie.Need-whole-fits-requires
 whole-fits-requires c κs =
     let r = c .before .before .before .before .before .before .before .before .before .before .before .pre .1 .1 in
     let f = r .few in
     let g = r .nested in
-    (c .before .before .before .before .before .before .before .before .before .before .before .pre .1 .0, (r .sizeRows .each (c .before .before .before .before .before .before .before .before .before .before .before .args .s .first + c .before .before .before .before .before .before .wide .result) (let q = c .before .before .before .before .if2 .left in omega arith), (omega arith, (fewer (r .lowRows) g, fewer (r .highRows) g))))
+    (c .before .before .before .before .before .before .before .before .before .before .before .pre .1 .0, (r .sizeRows .each (c .before .before .before .before .before .before .before .before .before .before .before .args .s .first + c .before .before .before .before .before .before .wide .result) (let q = c .before .before .before .before .if2 .left in let b = r .kindRows in omega arith), (omega arith, (fewer (r .lowRows) g, fewer (r .highRows) g))))
 
--- src/lib.rt:364:1
+-- src/lib.rt:392:1
 returns-4 : tie.Need-returns-4
 returns-4 c =
     let a = c .before .before .before .before .before .before .before .before .before .before .before .before .args in

@@ -7,7 +7,7 @@ use Rattle.checker.proofs.large_enough.Reads as large-enough-reads
 use mathlib.Core.Path.{_≡_, refl, sym, ap, _∙_}
 use denote.Ref.{now}
 use Rattle.language.specs.Check.{wholeFits}
-use Rattle.forms.specs.Flat.{asForm}
+use Rattle.forms.specs.Flat.{widened, asForm}
 use Rattle.forms.specs.Rows.{loopsOf}
 use Rattle.checker.specs.declared.Wanted.{Wanted}
 use Rattle.checker.specs.declared.Wanted.the-variants.{Wire, Bit, Register}
@@ -24,7 +24,7 @@ unfolding told
 returns c =
     let a = c .before .before .before .args in
     let ls = loopsOf (a .loops) (now (a .lows)) (now (a .highs)) in
-    let f = asForm (now (a .own)) in
+    let f = asForm (widened (now (a .own))) in
     let l = now (a .size) in
     (λ fs ks. wire-good (a .at) (scopeWith fs ks (a .variables) ls) (a .kind) f l (c .if1 .taken) ∙ ap (λ (w : Wanted). wholeFits (a .at) (scopeWith fs ks (a .variables) ls) (wantedOf w l) (kindBy (a .kind) f)) (sym (c .before .enum-told .given .1)), refl)
 
@@ -46,7 +46,7 @@ returns-2 : tie.Need-returns-2
 returns-2 c =
     let a = c .before .before .before .before .before .args in
     let ls = loopsOf (a .loops) (now (a .lows)) (now (a .highs)) in
-    let f = asForm (now (a .own)) in
+    let f = asForm (widened (now (a .own))) in
     let l = now (a .size) in
     (λ fs ks. c .large-enough .ensures .0 ∙ register-good (a .at) (scopeWith fs ks (a .variables) ls) (a .kind) f (c .before .before .before .wanted .given .0 .0) l (c .before .if2 .taken) ∙ ap (λ (w : Wanted). wholeFits (a .at) (scopeWith fs ks (a .variables) ls) (wantedOf w l) (kindBy (a .kind) f)) (sym (c .before .before .before .wanted .given .1)), c .large-enough .ensures .1)
 
@@ -56,7 +56,7 @@ unfolding told
 returns-3 c =
     let a = c .before .before .before .args in
     let ls = loopsOf (a .loops) (now (a .lows)) (now (a .highs)) in
-    let f = asForm (now (a .own)) in
+    let f = asForm (widened (now (a .own))) in
     let l = now (a .size) in
     (λ fs ks. wire-bad (a .at) (scopeWith fs ks (a .variables) ls) (a .kind) f l (c .if1 .left) ∙ ap (λ (w : Wanted). wholeFits (a .at) (scopeWith fs ks (a .variables) ls) (wantedOf w l) (kindBy (a .kind) f)) (sym (c .before .enum-told .given .1)), tt)
 
@@ -66,7 +66,7 @@ unfolding told
 returns-4 c =
     let a = c .before .before .args in
     let ls = loopsOf (a .loops) (now (a .lows)) (now (a .highs)) in
-    let f = asForm (now (a .own)) in
+    let f = asForm (widened (now (a .own))) in
     let l = now (a .size) in
     (λ fs ks. bit-bad (a .at) (scopeWith fs ks (a .variables) ls) (a .kind) f l (kindBy (a .kind) f) ∙ ap (λ (w : Wanted). wholeFits (a .at) (scopeWith fs ks (a .variables) ls) (wantedOf w l) (kindBy (a .kind) f)) (sym (c .enum-told2 .given .1)), tt)
 
@@ -76,7 +76,7 @@ unfolding told
 returns-5 c =
     let a = c .before .before .before .before .args in
     let ls = loopsOf (a .loops) (now (a .lows)) (now (a .highs)) in
-    let f = asForm (now (a .own)) in
+    let f = asForm (widened (now (a .own))) in
     let l = now (a .size) in
     (λ fs ks. register-bad (a .at) (scopeWith fs ks (a .variables) ls) (a .kind) f (c .before .before .wanted .given .0 .0) l (c .if2 .left) ∙ ap (λ (w : Wanted). wholeFits (a .at) (scopeWith fs ks (a .variables) ls) (wantedOf w l) (kindBy (a .kind) f)) (sym (c .before .before .wanted .given .1)), tt)
 

@@ -13,126 +13,127 @@ use borrow.Author.Needs.{needs}
 use lib.IntN.{ℤ, pos}
 use lib.ListN.{getD, drop, length}
 use Rattle.language.specs.Form.{Form, Built, inRange, multipleOf, sumOf, _thenBuild_, constantForm, putIn, termsPutIn}
-use Rattle.forms.specs.Flat.{Kept, asForm, builtOf}
+use Rattle.forms.specs.Flat.{Kept, widened, asForm, builtOf}
 use Rattle.forms.specs.Rows.{formsOf}
 use Rattle.language.proofs.Integers.{range-back, clash}
-use Rattle.forms.proofs.Lists.{kept-at, head-flat, rest-long, term-flat}
+use Rattle.forms.proofs.Lists.{head-flat, rest-long, term-flat, short-kept, short-at, short-range}
 use Rattle.forms.proofs.Laws.{put-step, put-end}
 
 abbrev Inv-loop : tie.InvT-loop
 Inv-loop f₀ size forms m z j₀ f j =
-    (j ≤ m) × Kept f × (putIn (asForm size) (formsOf m forms) ≡ termsPutIn (drop j (asForm size .coefficients)) (drop j (formsOf m forms)) (asForm f))
+    (j ≤ m) × Kept f × (putIn (asForm (widened size)) (formsOf m forms) ≡ termsPutIn (drop j (asForm (widened size) .coefficients)) (drop j (formsOf m forms)) (asForm f))
 
 abbrev μ-loop : tie.MeasureT-loop
 μ-loop f₀ size forms m z j₀ f j =
     m - j
 
--- src/lib.rt:216:13
+-- src/lib.rt:245:13
 element-copy-out-z : tie.Need-element-copy-out-z Inv-loop μ-loop
 element-copy-out-z c =
     search needs
 
--- src/lib.rt:217:5
+-- src/lib.rt:246:5
 set-constant-requires : tie.Need-set-constant-requires Inv-loop μ-loop
 set-constant-requires c κs =
-    let q = kept-at (c .before .before .args .size .now) 0 (omega arith) (c .before .before .pre .0) in
+    let q = short-range (c .before .before .args .size .now) 0 (omega arith) (c .before .before .pre .0) in
     rw (range-back q) q
 
--- src/lib.rt:218:5
+-- src/lib.rt:247:5
 loop-holds : tie.Need-loop-holds Inv-loop μ-loop
 unfolding putIn
 loop-holds c =
     let a = c .before .before .before .args in
-    let k = c .before .before .before .pre .0 in
-    let q = kept-at (a .size .now) 0 (omega arith) k in (
+    let k = short-kept (a .size .now) (c .before .before .before .pre .0) in
+    let q = short-range (a .size .now) 0 (omega arith) (c .before .before .before .pre .0) in (
       omega arith,
       c .set-constant .ensures .1,
-      ap (λ (z : Form). termsPutIn (asForm (a .size .now) .coefficients) (formsOf (a .m) (a .forms .now)) z)
-          (ap constantForm (head-flat (a .size .now) k ∙ sym (range-back q)) ∙ sym (c .set-constant .ensures .0)),
+      ap (λ (z : Form). termsPutIn (asForm (widened (a .size .now)) .coefficients) (formsOf (a .m) (a .forms .now)) z)
+          (ap constantForm (head-flat (widened (a .size .now)) k ∙ short-at (a .size .now) 0 (omega arith) (c .before .before .before .pre .0) ∙ sym (range-back q)) ∙ sym (c .set-constant .ensures .0)),
     )
 
--- src/lib.rt:219:22
+-- src/lib.rt:248:22
 add-k : tie.Need-add-k Inv-loop μ-loop
 add-k c =
     search needs
 
--- src/lib.rt:219:17
+-- src/lib.rt:248:17
 mul-k : tie.Need-mul-k Inv-loop μ-loop
 mul-k c =
     search needs
 
--- src/lib.rt:219:17
+-- src/lib.rt:248:17
 element-copy-out-k : tie.Need-element-copy-out-k Inv-loop μ-loop
 element-copy-out-k c =
     search needs
 
--- src/lib.rt:220:29
+-- src/lib.rt:249:29
 mul-add-scaled : tie.Need-mul-add-scaled Inv-loop μ-loop
 mul-add-scaled c =
     search needs
 
--- src/lib.rt:220:29
+-- src/lib.rt:249:29
 shared-slice-element-add-scaled : tie.Need-shared-slice-element-add-scaled Inv-loop μ-loop
 shared-slice-element-add-scaled c =
     search needs
 
--- src/lib.rt:220:12
+-- src/lib.rt:249:12
 add-scaled-requires : tie.Need-add-scaled-requires Inv-loop μ-loop
 add-scaled-requires c κs =
     let a = c .before .before .before .before .before .before .before .before .args in
-    let q = kept-at (a .size .now) (c .before .before .before .before .loop .j + 1) (omega arith) (c .before .before .before .before .before .before .before .before .pre .0) in
+    let q = short-range (a .size .now) (c .before .before .before .before .loop .j + 1) (omega arith) (c .before .before .before .before .before .before .before .before .pre .0) in
     (c .before .before .before .before .loop .inv .1, (rw (range-back q) q, c .before .before .before .before .before .before .before .before .pre .1 .1 .each (c .before .before .before .before .loop .j) (c .before .before .before .loop-test .taken)))
 
--- src/lib.rt:221:13
+-- src/lib.rt:250:13
 returns : tie.Need-returns Inv-loop μ-loop
 unfolding _thenBuild_
 returns c =
     let a = c .before .before .before .before .before .before .before .before .before .before .args in
     let i = c .before .before .before .before .before .before .loop in
-    let k = c .before .before .before .before .before .before .before .before .before .before .pre .0 in
-    let q = kept-at (a .size .now) (i .j + 1) (omega arith) k in
-    let e : (c .before .before .before .before .before .before .before .before .before .before .pre .1 .0) ≡ (c .before .before .before .before .before .before .before .before .before .before .pre .1 .0) = refl in
+    let k = short-kept (a .size .now) (c .before .before .before .before .before .before .before .before .before .before .pre .0) in
+    let q = short-range (a .size .now) (i .j + 1) (omega arith) (c .before .before .before .before .before .before .before .before .before .before .pre .0) in
+    let w = short-at (a .size .now) (i .j + 1) (omega arith) (c .before .before .before .before .before .before .before .before .before .before .pre .0) in
     let n = c .before .before .before .before .before .before .before .before .before .before .pre .1 .1 .enough in
-    let t = rest-long (a .size .now) k in
-    let s = put-step (a .m) (i .j) (asForm (a .size .now) .coefficients) (a .forms .now) (asForm (i .f)) (c .before .before .before .before .before .loop-test .taken) n (omega arith) in
-    let g = term-flat (a .size .now) (i .j) k in
+    let t = rest-long (widened (a .size .now)) k in
+    let s = put-step (a .m) (i .j) (asForm (widened (a .size .now)) .coefficients) (a .forms .now) (asForm (i .f)) (c .before .before .before .before .before .loop-test .taken) n (omega arith) in
+    let g = term-flat (widened (a .size .now)) (i .j) k ∙ w in
     let r = c .before .add-scaled .ensures .0 ∙ ap (λ (v : ℤ). multipleOf v (asForm (getD (a .forms .now) (i .j) [])) thenBuild sumOf (asForm (i .f))) (range-back q ∙ sym g) in
-    (sym (i .inv .2 ∙ s ∙ ap (λ (b : Built). b thenBuild termsPutIn (drop (i .j + 1) (asForm (a .size .now) .coefficients)) (drop (i .j + 1) (formsOf (a .m) (a .forms .now)))) (sym r ∙ ap (λ (u : Bool). builtOf u (c .before .add-scaled .last .0)) (c .if1 .left))), (λ x. absurd (clash (sym x))))
+    (sym (i .inv .2 ∙ s ∙ ap (λ (b : Built). b thenBuild termsPutIn (drop (i .j + 1) (asForm (widened (a .size .now)) .coefficients)) (drop (i .j + 1) (formsOf (a .m) (a .forms .now)))) (sym r ∙ ap (λ (u : Bool). builtOf u (c .before .add-scaled .last .0)) (c .if1 .left))), (λ x. absurd (clash (sym x))))
 
--- src/lib.rt:218:9
+-- src/lib.rt:247:9
 add-j : tie.Need-add-j Inv-loop μ-loop
 add-j c =
     search needs
 
--- src/lib.rt:218:5
+-- src/lib.rt:247:5
 loop-less : tie.Need-loop-less Inv-loop μ-loop
 loop-less c =
     search needs
 
--- src/lib.rt:218:5
+-- src/lib.rt:247:5
 loop-again : tie.Need-loop-again Inv-loop μ-loop
 unfolding _thenBuild_
 loop-again c =
     let a = c .before .before .before .before .before .before .before .before .before .before .args in
     let i = c .before .before .before .before .before .before .loop in
-    let k = c .before .before .before .before .before .before .before .before .before .before .pre .0 in
-    let q = kept-at (a .size .now) (i .j + 1) (omega arith) k in
+    let k = short-kept (a .size .now) (c .before .before .before .before .before .before .before .before .before .before .pre .0) in
+    let q = short-range (a .size .now) (i .j + 1) (omega arith) (c .before .before .before .before .before .before .before .before .before .before .pre .0) in
+    let w = short-at (a .size .now) (i .j + 1) (omega arith) (c .before .before .before .before .before .before .before .before .before .before .pre .0) in
     let n = c .before .before .before .before .before .before .before .before .before .before .pre .1 .1 .enough in
-    let t = rest-long (a .size .now) k in
-    let s = put-step (a .m) (i .j) (asForm (a .size .now) .coefficients) (a .forms .now) (asForm (i .f)) (c .before .before .before .before .before .loop-test .taken) n (omega arith) in
-    let g = term-flat (a .size .now) (i .j) k in
+    let t = rest-long (widened (a .size .now)) k in
+    let s = put-step (a .m) (i .j) (asForm (widened (a .size .now)) .coefficients) (a .forms .now) (asForm (i .f)) (c .before .before .before .before .before .loop-test .taken) n (omega arith) in
+    let g = term-flat (widened (a .size .now)) (i .j) k ∙ w in
     let r = c .before .add-scaled .ensures .0 ∙ ap (λ (v : ℤ). multipleOf v (asForm (getD (a .forms .now) (i .j) [])) thenBuild sumOf (asForm (i .f))) (range-back q ∙ sym g) in (
       omega arith,
       c .before .add-scaled .ensures .1 (c .if1 .taken),
-      i .inv .2 ∙ s ∙ ap (λ (b : Built). b thenBuild termsPutIn (drop (i .j + 1) (asForm (a .size .now) .coefficients)) (drop (i .j + 1) (formsOf (a .m) (a .forms .now)))) (sym r ∙ ap (λ (u : Bool). builtOf u (c .before .add-scaled .last .0)) (c .if1 .taken)),
+      i .inv .2 ∙ s ∙ ap (λ (b : Built). b thenBuild termsPutIn (drop (i .j + 1) (asForm (widened (a .size .now)) .coefficients)) (drop (i .j + 1) (formsOf (a .m) (a .forms .now)))) (sym r ∙ ap (λ (u : Bool). builtOf u (c .before .add-scaled .last .0)) (c .if1 .taken)),
     )
 
--- src/lib.rt:209:1
+-- src/lib.rt:238:1
 returns-2 : tie.Need-returns-2 Inv-loop μ-loop
 returns-2 c =
     let a = c .before .before .before .before .before .args in
     let i = c .before .loop in
-    (sym (i .inv .2 ∙ put-end (a .m) (i .j) (asForm (a .size .now) .coefficients) (a .forms .now) (asForm (i .f)) (c .loop-test .left)), (λ _. i .inv .1))
+    (sym (i .inv .2 ∙ put-end (a .m) (i .j) (asForm (widened (a .size .now)) .coefficients) (a .forms .now) (asForm (i .f)) (c .loop-test .left)), (λ _. i .inv .1))
 
 pub put-in-spec : {M : Type 1} → statement M
 put-in-spec =

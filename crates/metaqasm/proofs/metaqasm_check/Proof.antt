@@ -4,8 +4,7 @@ use Rattle.metaqasm.proofs.metaqasm_check.Tie as tie
 use Rattle.metaqasm.proofs.metaqasm_check.Reads as reads
 use Rattle.metaqasm.proofs.metaqasm_check.Lts as lts
 use Rattle.program_check.proofs.check_program.Reads as check-program-reads
-use mathlib.Core.Path.{_≡_, refl, sym, ap, _∙_}
-use Prim.Native.Nat.{ℕ, _≤_}
+use mathlib.Core.Path.{sym, ap, _∙_}
 use native.Mathlib.Omega.{arith}
 use denote.Ref.{now}
 use Rattle.program_check.specs.Declaring.{resultTold}

@@ -4,40 +4,36 @@ use Rattle.program_check.proofs.check_program.Tie as tie
 use Rattle.program_check.proofs.check_program.Reads as reads
 use Rattle.program_check.proofs.check_program.Lts as lts
 use Rattle.program_check.proofs.top_fields.Reads as top-fields-reads
-use mathlib.Core.Path.{_≡_, refl, sym, ap, _∙_}
+use mathlib.Core.Path.{_∙_}
 use denote.Ref.{now}
 use Rattle.program_check.proofs.Checking.{zeros-hold, program-long, program-short}
 
--- src/lib.rt:423:9
+-- src/lib.rt:445:9
 returns : tie.Need-returns
 returns c =
     program-long (now (c .before .before .args .program)) (c .if1 .taken)
 
--- src/lib.rt:429:25
+-- src/lib.rt:450:25
 slice-aggregate-top-fields : tie.Need-slice-aggregate-top-fields
 slice-aggregate-top-fields c = search needs
 
--- src/lib.rt:429:39
+-- src/lib.rt:450:40
 slice-aggregate-top-fields-2 : tie.Need-slice-aggregate-top-fields-2
 slice-aggregate-top-fields-2 c = search needs
 
--- src/lib.rt:429:52
+-- src/lib.rt:450:52
 slice-aggregate-top-fields-3 : tie.Need-slice-aggregate-top-fields-3
 slice-aggregate-top-fields-3 c = search needs
 
--- src/lib.rt:429:64
-slice-aggregate-top-fields-4 : tie.Need-slice-aggregate-top-fields-4
-slice-aggregate-top-fields-4 c = search needs
-
--- src/lib.rt:429:5
+-- src/lib.rt:450:5
 top-fields-requires : tie.Need-top-fields-requires
 top-fields-requires c κs =
     zeros-hold
 
--- src/lib.rt:419:1
+-- src/lib.rt:441:1
 returns-2 : tie.Need-returns-2
 returns-2 c =
-    c .before .before .before .before .top-fields .ensures ∙ program-short (now (c .before .before .before .before .before .before .before .before .before .before .before .args .program)) (c .before .before .before .before .before .before .before .before .before .if1 .left)
+    c .before .before .before .top-fields .ensures ∙ program-short (now (c .before .before .before .before .before .before .before .before .before .args .program)) (c .before .before .before .before .before .before .before .if1 .left)
 
 pub check-program-spec : {M : Type 1} → statement M
 check-program-spec =
@@ -47,6 +43,5 @@ check-program-spec =
     slice-aggregate-top-fields
     slice-aggregate-top-fields-2
     slice-aggregate-top-fields-3
-    slice-aggregate-top-fields-4
     top-fields-requires
     returns-2)

@@ -5,121 +5,120 @@ use Rattle.program_check.proofs.family_body.Reads as reads
 use Rattle.program_check.proofs.family_body.Lts as lts
 use Rattle.checker.proofs.list.Reads as list-reads
 use Rattle.program_check.proofs.parameter_types.Reads as parameter-types-reads
-use mathlib.Core.Path.{_≡_, refl, sym, ap, _∙_}
-use mathlib.Core.List.{List, []}
-use Prim.Native.Nat.{ℕ, _+_, _*_, _≤_, _<_}
+use mathlib.Core.Path.{refl}
+use mathlib.Core.List.{[]}
+use Prim.Native.Nat.{_+_}
 use native.Mathlib.Omega.{arith}
 use denote.Ref.{now}
 use lib.IntN.{pos}
-use lib.ListN.{length, replicate}
+use lib.ListN.{replicate}
 use Rattle.language.specs.Check.{familyScope}
 use Rattle.checker.proofs.Stating.{count-upto}
 use Rattle.program_check.specs.Declaring.{declaredAt}
 use Rattle.program_check.proofs.Declaring.{eight-rows, scope-right, scope-declares}
 use Rattle.program_check.proofs.Entering.{familyRows, body-stops, body-goes}
 
--- src/lib.rt:171:16
+-- src/lib.rt:173:16
 add-from : tie.Need-add-from
 add-from c = search needs
 
--- src/lib.rt:172:17
-mul-first : tie.Need-mul-first
-mul-first c = search needs
-
--- src/lib.rt:173:9
+-- src/lib.rt:175:9
 parameter-types-requires : tie.Need-parameter-types-requires
 parameter-types-requires c κs =
-    let a = c .before .before .before .before .before .before .before .args in
+    let a = c .before .before .before .before .args in
     let l = now (a .program) in
-    let h = c .before .before .before .before .before .before .before .pre .1 .1 .1 .1 in
-    let few = c .before .before .before .before .before .before .before .pre .1 .0 in
-    let most = c .before .before .before .before .before .before .before .pre .1 .1 .0 in
-    let room = c .before .before .before .before .before .before .before .pre .1 .1 .1 .0 in
-    let long = c .before .before .before .before .before .before .before .pre .0 .1 in
+    let h = c .before .before .before .before .pre .1 .1 .1 .1 in
+    let few = c .before .before .before .before .pre .1 .0 in
+    let most = c .before .before .before .before .pre .1 .1 .0 in
+    let room = c .before .before .before .before .pre .1 .1 .1 .0 in
+    let rows = h .mostRows in
+    let long = c .before .before .before .before .pre .0 .1 in
     let none = replicate 8 (replicate 13 (pos 0)) in
     (long, (few, (omega arith, h .table)))
 
--- src/lib.rt:174:20
+-- src/lib.rt:176:20
 enum-known-r : tie.Need-enum-known-r
 enum-known-r c = search needs
 
--- src/lib.rt:175:9
+-- src/lib.rt:177:9
 enum-told : tie.Need-enum-told
 enum-told c = search needs
 
--- src/lib.rt:175:9
+-- src/lib.rt:177:9
 same-length : tie.Need-same-length
 same-length c = search needs
 
--- src/lib.rt:175:9
+-- src/lib.rt:177:9
 same-length-2 : tie.Need-same-length-2
 same-length-2 c = search needs
 
--- src/lib.rt:175:9
+-- src/lib.rt:177:9
 returns : tie.Need-returns
 unfolding familyScope
 returns c =
-    let a = c .before .before .before .before .before .before .before .before .before .before .before .before .before .args in
+    let a = c .before .before .before .before .before .before .before .before .before .before .args in
     let l = now (a .program) in
-    let h = c .before .before .before .before .before .before .before .before .before .before .before .before .before .pre .1 .1 .1 .1 in
-    let few = c .before .before .before .before .before .before .before .before .before .before .before .before .before .pre .1 .0 in
-    let most = c .before .before .before .before .before .before .before .before .before .before .before .before .before .pre .1 .1 .0 in
-    let room = c .before .before .before .before .before .before .before .before .before .before .before .before .before .pre .1 .1 .1 .0 in
-    let long = c .before .before .before .before .before .before .before .before .before .before .before .before .before .pre .0 .1 in
+    let h = c .before .before .before .before .before .before .before .before .before .before .pre .1 .1 .1 .1 in
+    let few = c .before .before .before .before .before .before .before .before .before .before .pre .1 .0 in
+    let most = c .before .before .before .before .before .before .before .before .before .before .pre .1 .1 .0 in
+    let room = c .before .before .before .before .before .before .before .before .before .before .pre .1 .1 .1 .0 in
+    let rows = h .mostRows in
+    let long = c .before .before .before .before .before .before .before .before .before .before .pre .0 .1 in
     let none = replicate 8 (replicate 13 (pos 0)) in
     let kinds = c .before .before .before .before .before .parameter-types .last .1 .1 .1 .1 .1 .1 .1 .0 in
     let sizes = c .before .before .before .before .before .parameter-types .last .1 .1 .1 .1 .1 .1 .1 .1 .0 in
-    let d = declaredAt (a .t) (now (a .arities)) (now (a .counts)) (now (a .kinds)) (now (a .sizes)) in
-    (body-stops (a .t) (now (a .arities)) (now (a .counts)) (a .at) (a .m) (a .p) l (a .at + 5) (a .next) h (c .before .before .before .before .before .parameter-types .ensures .1 .1) (c .before .before .before .before .before .parameter-types .result) (c .before .before .before .before .before .parameter-types .ensures .0 (d .families) []) (c .before .match .keys2), c .before .before .before .before .before .parameter-types .ensures .1 .1)
+    let d = declaredAt (a .t) (now (a .families)) (now (a .kinds)) (now (a .sizes)) in
+    (body-stops (a .t) (now (a .families)) (a .at) (a .m) (a .p) l (a .at + 5) (a .next) h (c .before .before .before .before .before .parameter-types .ensures .1 .1) (c .before .before .before .before .before .parameter-types .result) (c .before .before .before .before .before .parameter-types .ensures .0 (d .families) []) (c .before .match .keys2), c .before .before .before .before .before .parameter-types .ensures .1 .1)
 
--- src/lib.rt:185:5
+-- src/lib.rt:187:5
 list-requires : tie.Need-list-requires
 list-requires c κs =
-    let a = c .before .before .before .before .before .before .before .before .before .before .before .before .before .before .before .before .before .before .args in
+    let a = c .before .before .before .before .before .before .before .before .before .before .before .before .before .before .before .args in
     let l = now (a .program) in
-    let h = c .before .before .before .before .before .before .before .before .before .before .before .before .before .before .before .before .before .before .pre .1 .1 .1 .1 in
-    let few = c .before .before .before .before .before .before .before .before .before .before .before .before .before .before .before .before .before .before .pre .1 .0 in
-    let most = c .before .before .before .before .before .before .before .before .before .before .before .before .before .before .before .before .before .before .pre .1 .1 .0 in
-    let room = c .before .before .before .before .before .before .before .before .before .before .before .before .before .before .before .before .before .before .pre .1 .1 .1 .0 in
-    let long = c .before .before .before .before .before .before .before .before .before .before .before .before .before .before .before .before .before .before .pre .0 .1 in
+    let h = c .before .before .before .before .before .before .before .before .before .before .before .before .before .before .before .pre .1 .1 .1 .1 in
+    let few = c .before .before .before .before .before .before .before .before .before .before .before .before .before .before .before .pre .1 .0 in
+    let most = c .before .before .before .before .before .before .before .before .before .before .before .before .before .before .before .pre .1 .1 .0 in
+    let room = c .before .before .before .before .before .before .before .before .before .before .before .before .before .before .before .pre .1 .1 .1 .0 in
+    let rows = h .mostRows in
+    let long = c .before .before .before .before .before .before .before .before .before .before .before .before .before .before .before .pre .0 .1 in
     let none = replicate 8 (replicate 13 (pos 0)) in
     let kinds = c .before .before .before .before .before .before .before .before .before .before .parameter-types .last .1 .1 .1 .1 .1 .1 .1 .0 in
     let sizes = c .before .before .before .before .before .before .before .before .before .before .parameter-types .last .1 .1 .1 .1 .1 .1 .1 .1 .0 in
-    (long, (scope-right (familyRows (a .t) (a .m) (a .p)) kinds sizes none none (c .before .before .before .before .before .before .before .before .before .before .parameter-types .ensures .1 .1 .table) eight-rows eight-rows few (omega arith) (omega arith), scope-declares (familyRows (a .t) (a .m) (a .p)) (a .t) (now (a .arities)) (now (a .counts)) (now (a .kinds)) (now (a .sizes)) h refl (omega arith)))
+    (long, (scope-right (familyRows (a .t) (a .m) (a .p)) kinds sizes none none (c .before .before .before .before .before .before .before .before .before .before .parameter-types .ensures .1 .1 .table) eight-rows eight-rows few (omega arith) (omega arith), scope-declares (familyRows (a .t) (a .m) (a .p)) (a .t) (now (a .families)) kinds sizes h (c .before .before .before .before .before .before .before .before .before .before .parameter-types .ensures .1 .1 .table) refl))
 
--- src/lib.rt:151:1
+-- src/lib.rt:154:1
 same-length-3 : tie.Need-same-length-3
 same-length-3 c = search needs
 
--- src/lib.rt:151:1
+-- src/lib.rt:154:1
 same-length-4 : tie.Need-same-length-4
 same-length-4 c = search needs
 
--- src/lib.rt:151:1
+-- src/lib.rt:154:1
 returns-2 : tie.Need-returns-2
 unfolding familyScope
 returns-2 c =
-    let a = c .before .before .before .before .before .before .before .before .before .before .before .before .before .before .before .before .before .before .before .args in
+    let a = c .before .before .before .before .before .before .before .before .before .before .before .before .before .before .before .before .args in
     let l = now (a .program) in
-    let h = c .before .before .before .before .before .before .before .before .before .before .before .before .before .before .before .before .before .before .before .pre .1 .1 .1 .1 in
-    let few = c .before .before .before .before .before .before .before .before .before .before .before .before .before .before .before .before .before .before .before .pre .1 .0 in
-    let most = c .before .before .before .before .before .before .before .before .before .before .before .before .before .before .before .before .before .before .before .pre .1 .1 .0 in
-    let room = c .before .before .before .before .before .before .before .before .before .before .before .before .before .before .before .before .before .before .before .pre .1 .1 .1 .0 in
-    let long = c .before .before .before .before .before .before .before .before .before .before .before .before .before .before .before .before .before .before .before .pre .0 .1 in
+    let h = c .before .before .before .before .before .before .before .before .before .before .before .before .before .before .before .before .pre .1 .1 .1 .1 in
+    let few = c .before .before .before .before .before .before .before .before .before .before .before .before .before .before .before .before .pre .1 .0 in
+    let most = c .before .before .before .before .before .before .before .before .before .before .before .before .before .before .before .before .pre .1 .1 .0 in
+    let room = c .before .before .before .before .before .before .before .before .before .before .before .before .before .before .before .before .pre .1 .1 .1 .0 in
+    let rows = h .mostRows in
+    let long = c .before .before .before .before .before .before .before .before .before .before .before .before .before .before .before .before .pre .0 .1 in
     let none = replicate 8 (replicate 13 (pos 0)) in
     let kinds = c .before .before .before .before .before .before .before .before .before .before .before .parameter-types .last .1 .1 .1 .1 .1 .1 .1 .0 in
     let sizes = c .before .before .before .before .before .before .before .before .before .before .before .parameter-types .last .1 .1 .1 .1 .1 .1 .1 .1 .0 in
-    let d = declaredAt (a .t) (now (a .arities)) (now (a .counts)) (now (a .kinds)) (now (a .sizes)) in
+    let d = declaredAt (a .t) (now (a .families)) (now (a .kinds)) (now (a .sizes)) in
     let mid = c .before .before .before .before .before .before .r .given .0 .0 in
     let b = count-upto l (a .at + 5) (a .next) (a .p) (c .before .before .before .before .before .before .before .before .before .before .before .parameter-types .result) mid (c .before .before .before .before .before .before .r .given .1) (c .before .before .before .before .before .before .before .before .before .before .before .parameter-types .ensures .1 .0) in
-    (body-goes (a .t) (now (a .arities)) (now (a .counts)) (a .at) (a .m) (a .p) l (a .at + 5) (a .next) h (c .before .before .before .before .before .before .before .before .before .before .before .parameter-types .ensures .1 .1) (c .before .before .before .before .before .before .before .before .before .before .before .parameter-types .result) (c .before .before .before .before .before .before .before .before .before .before .before .parameter-types .ensures .0 (d .families) []) mid (c .before .before .before .before .before .before .r .given .1) b (c .list .result) none none (c .list .ensures), c .before .before .before .before .before .before .before .before .before .before .before .parameter-types .ensures .1 .1)
+    (body-goes (a .t) (now (a .families)) (a .at) (a .m) (a .p) l (a .at + 5) (a .next) h (c .before .before .before .before .before .before .before .before .before .before .before .parameter-types .ensures .1 .1) (c .before .before .before .before .before .before .before .before .before .before .before .parameter-types .result) (c .before .before .before .before .before .before .before .before .before .before .before .parameter-types .ensures .0 (d .families) []) mid (c .before .before .before .before .before .before .r .given .1) b (c .list .result) none none (c .list .ensures), c .before .before .before .before .before .before .before .before .before .before .before .parameter-types .ensures .1 .1)
 
 pub family-body-spec : {M : Type 1} → statement M
 family-body-spec =
     tie.close
     (tie.spec
     add-from
-    mul-first
     parameter-types-requires
     enum-known-r
     enum-told

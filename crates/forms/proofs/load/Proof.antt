@@ -1,0 +1,72 @@
+use borrow.Author.Needs.{needs}
+use Rattle.forms.proofs.load.Statement.{statement}
+use Rattle.forms.proofs.load.Tie as tie
+use Rattle.forms.proofs.load.Reads as reads
+use Rattle.forms.proofs.load.Lts as lts
+use native.Mathlib.Omega.{arith}
+use denote.Ref.{now}
+use Rattle.language.proofs.Integers.{range-back}
+use Rattle.forms.proofs.Lists.{short-range, load-wide, load-kept}
+
+-- src/lib.rt:215:12
+element-copy-out-f : tie.Need-element-copy-out-f
+element-copy-out-f c = search needs
+
+-- src/lib.rt:215:5
+element-set-from-f : tie.Need-element-set-from-f
+element-set-from-f c = search needs
+
+-- src/lib.rt:216:12
+element-copy-out-f-2 : tie.Need-element-copy-out-f-2
+element-copy-out-f-2 c = search needs
+
+-- src/lib.rt:216:5
+element-set-from-f-2 : tie.Need-element-set-from-f-2
+element-set-from-f-2 c = search needs
+
+-- src/lib.rt:217:12
+element-copy-out-f-3 : tie.Need-element-copy-out-f-3
+element-copy-out-f-3 c = search needs
+
+-- src/lib.rt:217:5
+element-set-from-f-3 : tie.Need-element-set-from-f-3
+element-set-from-f-3 c = search needs
+
+-- src/lib.rt:218:12
+element-copy-out-f-4 : tie.Need-element-copy-out-f-4
+element-copy-out-f-4 c = search needs
+
+-- src/lib.rt:218:5
+element-set-from-f-4 : tie.Need-element-set-from-f-4
+element-set-from-f-4 c = search needs
+
+-- src/lib.rt:219:12
+element-copy-out-f-5 : tie.Need-element-copy-out-f-5
+element-copy-out-f-5 c = search needs
+
+-- src/lib.rt:219:5
+element-set-from-f-5 : tie.Need-element-set-from-f-5
+element-set-from-f-5 c = search needs
+
+-- src/lib.rt:209:1
+returns : tie.Need-returns
+returns c =
+    let l = now (c .before .before .before .before .before .before .args .row) in
+    let s = c .before .before .before .before .before .before .pre in
+    rw (range-back (short-range l 0 (omega arith) s), range-back (short-range l 1 (omega arith) s), range-back (short-range l 2 (omega arith) s), range-back (short-range l 3 (omega arith) s), range-back (short-range l 4 (omega arith) s)) (load-wide l s, load-kept l s)
+
+pub load-spec : {M : Type 1} → statement M
+load-spec =
+    tie.close
+    (tie.spec
+    element-copy-out-f
+    element-set-from-f
+    element-copy-out-f-2
+    element-set-from-f-2
+    element-copy-out-f-3
+    element-set-from-f-3
+    element-copy-out-f-4
+    element-set-from-f-4
+    element-copy-out-f-5
+    element-set-from-f-5
+    returns)

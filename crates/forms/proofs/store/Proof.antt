@@ -1,0 +1,72 @@
+use borrow.Author.Needs.{needs}
+use Rattle.forms.proofs.store.Statement.{statement}
+use Rattle.forms.proofs.store.Tie as tie
+use Rattle.forms.proofs.store.Reads as reads
+use Rattle.forms.proofs.store.Lts as lts
+use native.Mathlib.Omega.{arith}
+use denote.Ref.{now}
+use Rattle.language.proofs.Integers.{range-back}
+use Rattle.forms.proofs.Lists.{kept-at, store-wide, store-short}
+
+-- src/lib.rt:230:14
+element-copy-out-row : tie.Need-element-copy-out-row
+element-copy-out-row c = search needs
+
+-- src/lib.rt:230:5
+element-set-from-row : tie.Need-element-set-from-row
+element-set-from-row c = search needs
+
+-- src/lib.rt:231:14
+element-copy-out-row-2 : tie.Need-element-copy-out-row-2
+element-copy-out-row-2 c = search needs
+
+-- src/lib.rt:231:5
+element-set-from-row-2 : tie.Need-element-set-from-row-2
+element-set-from-row-2 c = search needs
+
+-- src/lib.rt:232:14
+element-copy-out-row-3 : tie.Need-element-copy-out-row-3
+element-copy-out-row-3 c = search needs
+
+-- src/lib.rt:232:5
+element-set-from-row-3 : tie.Need-element-set-from-row-3
+element-set-from-row-3 c = search needs
+
+-- src/lib.rt:233:14
+element-copy-out-row-4 : tie.Need-element-copy-out-row-4
+element-copy-out-row-4 c = search needs
+
+-- src/lib.rt:233:5
+element-set-from-row-4 : tie.Need-element-set-from-row-4
+element-set-from-row-4 c = search needs
+
+-- src/lib.rt:234:14
+element-copy-out-row-5 : tie.Need-element-copy-out-row-5
+element-copy-out-row-5 c = search needs
+
+-- src/lib.rt:234:5
+element-set-from-row-5 : tie.Need-element-set-from-row-5
+element-set-from-row-5 c = search needs
+
+-- src/lib.rt:223:1
+returns : tie.Need-returns
+returns c =
+    let l = now (c .before .before .before .before .before .before .args .f) in
+    let k = c .before .before .before .before .before .before .pre .0 in
+    rw (range-back (kept-at l 0 (omega arith) k), range-back (kept-at l 1 (omega arith) k), range-back (kept-at l 2 (omega arith) k), range-back (kept-at l 3 (omega arith) k), range-back (kept-at l 4 (omega arith) k)) (store-wide l k (c .before .before .before .before .before .before .pre .1), store-short l k)
+
+pub store-spec : {M : Type 1} → statement M
+store-spec =
+    tie.close
+    (tie.spec
+    element-copy-out-row
+    element-set-from-row
+    element-copy-out-row-2
+    element-set-from-row-2
+    element-copy-out-row-3
+    element-set-from-row-3
+    element-copy-out-row-4
+    element-set-from-row-4
+    element-copy-out-row-5
+    element-set-from-row-5
+    returns)

@@ -1,0 +1,142 @@
+-- Top fields by their tags, as runs of the machine. Assumes nothing.
+use Prim.Native.Nat.{ℕ, zero, suc, _+_, _*_, _-_, _≤_, _<_}
+use native.Mathlib.Omega.{arith}
+use mathlib.Core.Path.{_≡_, refl, sym, ap, _∙_, fun-ext}
+use mathlib.Core.List.{List, [], _∷_}
+use mathlib.Core.Bool.{Bool, true, false, cond}
+use mathlib.Core.Logic.{_⊎_, inl, inr}
+use borrow.Author.Tests.{ne-eqb, eqb-true, eqb-false}
+use lib.Dec.{eqb}
+use lib.ListN.{length, take, drop, getD}
+use Rattle.language.specs.Tree.{Place, Top, family, qreg, creg, measure, reset, if, statement, badTop}
+use Rattle.language.specs.Read.{Reader, field, fields, read, choose, readTop, readIf, ifOf, measureOf, resetOf, readStatement, statementsBy}
+use Rattle.language.specs.Machine as m
+use Rattle.language.specs.Machine.{Outcome, Run, Frame, forward, always, endAt, Globals, Family, give, after, step, write, wireOf, bitOf, topFrame, inCondition, whenBit, doMeasure, doReset, noMeaning, runTop, runStatement, runStatements, _>>=_, _>>_}
+use Rattle.language.proofs.Runs.{after-after}
+use types.Run.{OneOf}
+use denote.Enum.Declared.{tagOf}
+use Rattle.fields.specs.declared.Header.the-variants.{Whole}
+use Rattle.fields.proofs.Header.{the-type}
+use Rattle.fields.proofs.Parts.{look, when-part}
+use Rattle.operands.specs.declared.Scope.{Scope}
+use Rattle.operands.specs.declared.Bit.{Bit}
+use Rattle.operands.specs.declared.Bitten.{Bitten}
+use Rattle.operands.specs.declared.Bitten.the-variants.{Is, Over, Stuck}
+use Rattle.operands.proofs.Naming.{bit-none}
+use Rattle.emit.specs.declared.Condition.{Condition}
+use Rattle.operands.specs.Stand.{theBit, bitten, BitAt, registersOf, operandsOf}
+use Rattle.emit.specs.Squares.{conditionOf}
+use Rattle.gates.specs.Gates.{directionOf, frameIn}
+use Rattle.tops.specs.Tops.{resetRun, measureRun}
+use Rattle.runs.specs.Acting.{acting, globalsIn, topMode, underMode, ifRun}
+use Rattle.runs.proofs.Acting.{Acts}
+
+then-assoc : {B : Type 0} (x y : Run (Unit {0})) (z : Run B) → ((x >> y) >> z) ≡ (x >> (y >> z))
+unfolding _>>_
+then-assoc x y z = fun-ext (λ s. after-after (x s) (λ u. y) (λ u. z))
+
+bind-assoc : {A B : Type 0} (x : Run A) (f : A → Run (Unit {0})) (z : Run B) → ((x >>= f) >> z) ≡ (x >>= (λ a. f a >> z))
+unfolding _>>_ _>>=_
+bind-assoc x f z = fun-ext (λ s. after-after (x s) f (λ u. z))
+
+nothing-then : {B : Type 0} (z : Run B) → (noMeaning >> z) ≡ noMeaning
+unfolding _>>_ after
+nothing-then z = refl
+
+-- the globals are given on
+pub acting-is : (limit room : ℕ) (x : Top) (g : Globals) → Acts x → runTop limit room x g ≡ (acting limit room x g >> give g)
+unfolding runTop acting
+acting-is limit room (measure p o c e) g h = sym (then-assoc (step limit room p) _ (give g)
+    ∙ ap (λ (r : Run Globals). step limit room p >> r) (bind-assoc (wireOf p (topFrame g) o) _ (give g)
+    ∙ ap (λ f. wireOf p (topFrame g) o >>= f) (fun-ext (λ w. bind-assoc (bitOf p (topFrame g) c) _ (give g)))))
+acting-is limit room (reset p o e) g h = sym (then-assoc (step limit room p) _ (give g)
+    ∙ ap (λ (r : Run Globals). step limit room p >> r) (bind-assoc (wireOf p (topFrame g) o) _ (give g)))
+acting-is limit room (if p v o ss) g h = sym (then-assoc (step limit room p) _ (give g)
+    ∙ ap (λ (r : Run Globals). step limit room p >> r) (bind-assoc (bitOf p (topFrame g) o) _ (give g)))
+acting-is limit room (statement x) g h = refl
+acting-is limit room (family p k n types body) g h = absurd h
+acting-is limit room (qreg p n e) g h = absurd h
+acting-is limit room (creg p n e) g h = absurd h
+acting-is limit room (badTop n p) g h = sym (nothing-then (give g))
+
+-- ---- by tag
+
+module _ (limit room seen : ℕ) (program regs : List ℕ) (q b : ℕ) (scope : Scope) (top : scope .top ≡ true) where
+  abbrev g : Globals
+  g = globalsIn limit room program seen regs q b
+
+  -- the frame at the top
+  pub top-frame : frameIn (topMode limit room seen) [] scope regs ≡ topFrame g
+  unfolding topFrame directionOf conditionOf operandsOf
+  top-frame = rw top refl
+
+  pub measure-acts : (p : Place) (l : List ℕ) → acting limit room (readTop (field p 4 l)) g ≡ (step limit room p >> measureRun (topMode limit room seen) p l (frameIn (topMode limit room seen) [] scope regs))
+  unfolding acting readTop choose measureOf measureRun
+  measure-acts p l = rw top-frame refl
+
+  pub reset-acts : (p : Place) (l : List ℕ) → acting limit room (readTop (field p 5 l)) g ≡ (step limit room p >> resetRun (topMode limit room seen) p l (frameIn (topMode limit room seen) [] scope regs))
+  unfolding acting readTop choose resetOf resetRun
+  reset-acts p l = rw top-frame refl
+
+  pub if-acts : (p : Place) (l : List ℕ) → 1 ≤ length l → acting limit room (readTop (field p 6 l)) g ≡ (step limit room p >> ifRun limit room p l (g .families) (frameIn (topMode limit room seen) [] scope regs))
+  unfolding acting readTop choose readIf ifOf ifRun
+  if-acts p [] h = absurd (omega arith)
+  if-acts p (v ∷ rest) h = rw top-frame refl
+
+  pub statement-acts : (p tag : ℕ) (l : List ℕ) → (tag ≡ 1 → ⊥) × (tag ≡ 2 → ⊥) × (tag ≡ 3 → ⊥) → (tag ≡ 4 → ⊥) × (tag ≡ 5 → ⊥) × (tag ≡ 6 → ⊥)
+      → acting limit room (readTop (field p tag l)) g ≡ runStatement limit room (readStatement 16 (field p tag l)) (g .families) (frameIn (topMode limit room seen) [] scope regs)
+  unfolding acting readTop choose
+  statement-acts p tag l h k = rw (ne-eqb tag 1 (h .0), ne-eqb tag 2 (h .1), ne-eqb tag 3 (h .2), ne-eqb tag 4 (k .0), ne-eqb tag 5 (k .1), ne-eqb tag 6 (k .2), top-frame) refl
+
+  -- measure, reset and if take a step first
+  pub timed : (p tag : ℕ) (l : List ℕ) → 3 < tag → tag ≤ 6 → (tag ≡ 6 → 1 ≤ length l) → (next : Run (Unit {0})) × (acting limit room (readTop (field p tag l)) g ≡ (step limit room p >> next))
+  timed p tag l h k i = go (eqb tag 4) (eqb tag 5) (eqb-true tag 4) (eqb-true tag 5) (eqb-false tag 4) (eqb-false tag 5)
+    where
+      at : (t : ℕ) → tag ≡ t → (next : Run (Unit {0})) × (acting limit room (readTop (field p t l)) g ≡ (step limit room p >> next))
+          → (next : Run (Unit {0})) × (acting limit room (readTop (field p tag l)) g ≡ (step limit room p >> next))
+      at t e x = (x .0, ap (λ (n : ℕ). acting limit room (readTop (field p n l)) g) e ∙ x .1)
+
+      go : (a c : Bool) → (a ≡ true → tag ≡ 4) → (c ≡ true → tag ≡ 5) → (a ≡ false → tag ≡ 4 → ⊥) → (c ≡ false → tag ≡ 5 → ⊥)
+          → (next : Run (Unit {0})) × (acting limit room (readTop (field p tag l)) g ≡ (step limit room p >> next))
+      go true c f u v w = at 4 (f refl) (_, measure-acts p l)
+      go false true f u v w = at 5 (u refl) (_, reset-acts p l)
+      go false false f u v w =
+          let e : tag ≡ 6 = (let x = v refl in let y = w refl in omega arith) in
+          at 6 e (_, if-acts p l (i e))
+
+-- a tag that is none of a top field's own
+pub outside : (tag : ℕ) → (tag < 1) ⊎ (6 < tag) → ((tag ≡ 1 → ⊥) × (tag ≡ 2 → ⊥) × (tag ≡ 3 → ⊥)) × ((tag ≡ 4 → ⊥) × (tag ≡ 5 → ⊥) × (tag ≡ 6 → ⊥))
+outside tag (inl h) = (((λ e. omega arith), (λ e. omega arith), (λ e. omega arith)), ((λ e. omega arith), (λ e. omega arith), (λ e. omega arith)))
+outside tag (inr h) = (((λ e. omega arith), (λ e. omega arith), (λ e. omega arith)), ((λ e. omega arith), (λ e. omega arith), (λ e. omega arith)))
+
+-- ---- an if whose bit is known
+
+module _ (limit room seen : ℕ) (regs : List ℕ) (scope : Scope) (p : Place) (l : List ℕ) (fs : List Family) (r : Bitten) (bit : BitAt l 1 [] (operandsOf scope regs) r) where
+  abbrev frame : Frame
+  frame = frameIn (topMode limit room seen) [] scope regs
+
+  if-is : ifRun limit room p l fs frame ≡ (bitten p r >>= (λ b. runStatements limit room (statementsBy (readStatement 15) (drop 1 (fields (p + 4) (drop 1 l)))) fs (inCondition frame (whenBit b (getD l 0 0)))))
+  unfolding ifRun directionOf conditionOf
+  if-is = ap (λ (x : Run _). x >>= (λ b. runStatements limit room (statementsBy (readStatement 15) (drop 1 (fields (p + 4) (drop 1 l)))) fs (inCondition frame (whenBit b (getD l 0 0))))) (sym (bit p p (p + 4) forward always))
+
+  pub if-over : r ≡ Over → ifRun limit room p l fs frame ≡ endAt 24 p
+  unfolding bitten _>>=_ after
+  if-over e = if-is ∙ rw e refl
+
+  pub if-stuck : r ≡ Stuck → ifRun limit room p l fs frame ≡ noMeaning
+  unfolding bitten _>>=_ after
+  if-stuck e = if-is ∙ rw e refl
+
+  pub if-bit : (b : Bit) (c : Condition) (tag mid : ℕ) → r ≡ Is b → conditionOf c ≡ whenBit (theBit (b .0)) (getD l 0 0) → look l 1 ≡ Whole tag mid
+      → ifRun limit room p l fs frame ≡ runStatements limit room (statementsBy (readStatement 15) (fields (p + 3 + mid) (drop mid l))) fs (frameIn (underMode limit room seen c) [] scope regs)
+  unfolding bitten _>>=_ after inCondition
+  if-bit b c tag mid e k h =
+      let w = when-part l 1 tag mid h in
+      let i : p + 4 + (mid - 1) ≡ p + 3 + mid = omega (arith, w .low) in
+      let q : drop 1 (fields (p + 4) (drop 1 l)) ≡ fields (p + 3 + mid) (drop mid l) = ap (drop 1) (w .first (p + 4)) ∙ rw i refl in
+      if-is ∙ rw (e, q, k) refl
+
+-- an if whose bit is due where no field is has none
+pub if-none : (limit room seen : ℕ) (regs : List ℕ) (scope : Scope) (p : Place) (l : List ℕ) (fs : List Family) → OneOf (1 ∷ 2 ∷ []) (tagOf the-type (look l 1))
+    → ifRun limit room p l fs (frameIn (topMode limit room seen) [] scope regs) ≡ noMeaning
+if-none limit room seen regs scope p l fs h = if-stuck limit room seen regs scope p l fs Stuck (bit-none l 1 [] (operandsOf scope regs) h) refl

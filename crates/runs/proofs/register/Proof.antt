@@ -1,0 +1,103 @@
+use borrow.Author.Needs.{needs}
+use Rattle.runs.proofs.register.Statement.{statement}
+use Rattle.runs.proofs.register.Tie as tie
+use Rattle.runs.proofs.register.Reads as reads
+use Rattle.runs.proofs.register.Lts as lts
+use Rattle.fields.proofs.two_bytes.Reads as two-bytes-reads
+use Rattle.operands.proofs.declare.Reads as declare-reads
+use Prim.Native.Nat.{_*_, _+_}
+use mathlib.Core.Path.{_≡_, refl, sym, ap, _∙_}
+use mathlib.Core.List.{List, [], _∷_, _++_}
+use native.Mathlib.Omega.{arith}
+use denote.Ref.{now}
+use lib.ListN.{take}
+use Rattle.language.specs.Machine.{Meaning}
+use Rattle.operands.specs.Stand.{registersOf}
+use Rattle.runs.proofs.Declaring.{quantum-fits, classical-fits, quantum-more, classical-more, quantum-row, classical-row}
+
+-- src/lib.rt:25:9
+two-bytes-requires : tie.Need-two-bytes-requires
+two-bytes-requires c κs = search needs
+
+-- src/lib.rt:27:21
+add-registers : tie.Need-add-registers
+add-registers c = search needs
+
+-- src/lib.rt:30:43
+cast-declare : tie.Need-cast-declare
+cast-declare c =
+    let a = c .before .before .before .before .before .args in
+    omega (arith, quantum-fits (a .quantum) (a .t) (now (a .p)) (c .before .before .before .before .before .pre .0) (c .before .before .two-bytes .result) (c .before .before .two-bytes .ensures .0) (c .before .if1 .taken), c .before .before .two-bytes .ensures .1)
+
+-- src/lib.rt:30:57
+cast-declare-2 : tie.Need-cast-declare-2
+cast-declare-2 c = search needs
+
+-- src/lib.rt:30:9
+declare-requires : tie.Need-declare-requires
+declare-requires c κs = search needs
+
+-- src/lib.rt:31:22
+add-qubits : tie.Need-add-qubits
+add-qubits c =
+    let a = c .before .before .before .before .before .before .before .before .args in
+    omega (arith, quantum-fits (a .quantum) (a .t) (now (a .p)) (c .before .before .before .before .before .before .before .before .pre .0) (c .before .before .before .before .before .two-bytes .result) (c .before .before .before .before .before .two-bytes .ensures .0) (c .before .before .before .before .if1 .taken), c .before .before .before .before .before .two-bytes .ensures .1)
+
+-- src/lib.rt:32:9
+same-length : tie.Need-same-length
+same-length c = search needs
+
+-- src/lib.rt:32:9
+returns : tie.Need-returns
+returns c =
+    let a = c .before .before .before .before .before .before .before .before .args in
+    (quantum-more (a .quantum) (a .t) (now (a .p)) (c .before .before .before .before .before .before .before .before .pre .0) (c .before .before .before .before .before .two-bytes .result) (c .before .before .before .before .before .two-bytes .ensures .0) (c .before .before .before .before .if1 .taken), (c .before .before .declare .ensures .0 ∙ c .before .before .before .before .before .before .before .before .pre .1, c .before .before .declare .ensures .1 ∙ ap (λ (m : Meaning). registersOf (take (3 * a .t .registers) (now (a .regs))) ++ (m ∷ [])) (quantum-row (a .quantum) (a .t) (now (a .p)) (c .before .before .before .before .before .before .before .before .pre .0) (c .before .before .before .before .before .two-bytes .result) (c .before .before .before .before .before .two-bytes .ensures .0) (c .before .before .before .before .if1 .taken))))
+
+-- src/lib.rt:40:39
+cast-declare-3 : tie.Need-cast-declare-3
+cast-declare-3 c =
+    let a = c .before .before .before .before .before .args in
+    omega (arith, classical-fits (a .quantum) (a .t) (now (a .p)) (c .before .before .before .before .before .pre .0) (c .before .before .two-bytes .result) (c .before .before .two-bytes .ensures .0) (c .before .if1 .left), c .before .before .two-bytes .ensures .1)
+
+-- src/lib.rt:40:53
+cast-declare-4 : tie.Need-cast-declare-4
+cast-declare-4 c = search needs
+
+-- src/lib.rt:40:5
+declare-requires-2 : tie.Need-declare-requires-2
+declare-requires-2 c κs = search needs
+
+-- src/lib.rt:41:16
+add-bits : tie.Need-add-bits
+add-bits c =
+    let a = c .before .before .before .before .before .before .before .before .args in
+    omega (arith, classical-fits (a .quantum) (a .t) (now (a .p)) (c .before .before .before .before .before .before .before .before .pre .0) (c .before .before .before .before .before .two-bytes .result) (c .before .before .before .before .before .two-bytes .ensures .0) (c .before .before .before .before .if1 .left), c .before .before .before .before .before .two-bytes .ensures .1)
+
+-- src/lib.rt:18:1
+same-length-2 : tie.Need-same-length-2
+same-length-2 c = search needs
+
+-- src/lib.rt:18:1
+returns-2 : tie.Need-returns-2
+returns-2 c =
+    let a = c .before .before .before .before .before .before .before .before .args in
+    (classical-more (a .quantum) (a .t) (now (a .p)) (c .before .before .before .before .before .before .before .before .pre .0) (c .before .before .before .before .before .two-bytes .result) (c .before .before .before .before .before .two-bytes .ensures .0) (c .before .before .before .before .if1 .left), (c .before .before .declare2 .ensures .0 ∙ c .before .before .before .before .before .before .before .before .pre .1, c .before .before .declare2 .ensures .1 ∙ ap (λ (m : Meaning). registersOf (take (3 * a .t .registers) (now (a .regs))) ++ (m ∷ [])) (classical-row (a .quantum) (a .t) (now (a .p)) (c .before .before .before .before .before .before .before .before .pre .0) (c .before .before .before .before .before .two-bytes .result) (c .before .before .before .before .before .two-bytes .ensures .0) (c .before .before .before .before .if1 .left))))
+
+pub register-spec : {M : Type 1} → statement M
+register-spec =
+    tie.close
+    (tie.spec
+    two-bytes-requires
+    add-registers
+    cast-declare
+    cast-declare-2
+    declare-requires
+    add-qubits
+    same-length
+    returns
+    cast-declare-3
+    cast-declare-4
+    declare-requires-2
+    add-bits
+    same-length-2
+    returns-2)

@@ -1,0 +1,65 @@
+-- What the top fields that declare nothing do.
+use Prim.Native.Nat.{ℕ, _+_, _≤_}
+use mathlib.Core.Path.{_≡_}
+use mathlib.Core.List.{List, []}
+use mathlib.Core.Bool.{false}
+use lib.ListN.{length, take, drop, getD}
+use Rattle.language.specs.Limits.{deepest, longestProgram}
+use Rattle.language.specs.Tree.{Place, Top, family, qreg, creg, measure, reset, if, statement, badTop}
+use Rattle.language.specs.Read.{fields, read, operandDue, readStatement, statementsBy}
+use Rattle.language.specs.Machine.{Run, Frame, Family, Globals, allDeclared, step, write, wireOf, bitOf, topFrame, inCondition, whenBit, doMeasure, doReset, noMeaning, runStatement, runStatements, _>>=_, _>>_}
+use Rattle.operands.specs.Stand.{registersOf}
+use Rattle.emit.specs.declared.Condition.{Condition}
+use Rattle.emit.specs.declared.Condition.the-variants.{Always}
+use Rattle.gates.specs.declared.Mode.{Mode}
+
+-- a top field without the globals that it gives on
+unfoldable pub acting : (limit room : ℕ) → Top → Globals → Run (Unit {0})
+acting limit room (measure p o c e) g = do
+  step limit room p
+  w ← wireOf p (topFrame g) o
+  b ← bitOf p (topFrame g) c
+  write limit room p (topFrame g) (doMeasure w b)
+acting limit room (reset p o e) g = do
+  step limit room p
+  w ← wireOf p (topFrame g) o
+  write limit room p (topFrame g) (doReset w)
+acting limit room (if p v o ss) g = do
+  step limit room p
+  b ← bitOf p (topFrame g) o
+  runStatements limit room ss (g .families) (inCondition (topFrame g) (whenBit b v))
+acting limit room (statement x) g = runStatement limit room x (g .families) (topFrame g)
+acting limit room (family p m n types body) g = noMeaning
+acting limit room (qreg p n e) g = noMeaning
+acting limit room (creg p n e) g = noMeaning
+acting limit room (badTop n p) g = noMeaning
+
+-- what statements at the top see: so many families, and the registers of a table
+abbrev pub globalsIn : (limit room : ℕ) → (program : List ℕ) → (seen : ℕ) → (regs : List ℕ) → (qubits bits : ℕ) → Globals
+globalsIn limit room program seen regs qubits bits = record
+    { families = take seen (allDeclared limit room (read program) []); registers = registersOf regs; qubits = qubits; bits = bits }
+
+-- how statements at the top, and under a condition, are run
+abbrev pub topMode : (limit room seen : ℕ) → Mode
+topMode limit room seen = record { limit = limit; room = room; seen = seen; levels = deepest; back = false; cond = Always }
+
+abbrev pub underMode : (limit room seen : ℕ) → Condition → Mode
+underMode limit room seen c = record { limit = limit; room = room; seen = seen; levels = 15; back = false; cond = c }
+
+-- the if with the content l, whose step is taken
+unfoldable pub ifRun : (limit room : ℕ) → Place → (l : List ℕ) → List Family → Frame → Run (Unit {0})
+ifRun limit room p l fs f =
+    bitOf p f (operandDue p 0 (fields (p + 4) (drop 1 l))) >>= (λ b.
+    runStatements limit room (statementsBy (readStatement 15) (drop 1 (fields (p + 4) (drop 1 l)))) fs (inCondition f (whenBit b (getD l 0 0))))
+
+-- the content of an if at p: it begins with a value that a bit can have
+pub record IfReady (l : List ℕ) (p : Place) : Type 0 where
+  pub long : 1 ≤ length l
+  pub value : getD l 0 0 ≤ 1
+  pub near : p + 3 + length l ≤ longestProgram
+
+-- the content of a field at p that declares nothing
+pub record ActReady (tag : ℕ) (l : List ℕ) (p : Place) : Type 0 where
+  pub apart : (tag ≡ 1 → ⊥) × (tag ≡ 2 → ⊥) × (tag ≡ 3 → ⊥)
+  pub near : p + 3 + length l ≤ longestProgram
+  pub ready : tag ≡ 6 → IfReady l p
