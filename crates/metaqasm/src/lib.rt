@@ -1,7 +1,12 @@
 // The library's calls from C.
 ghost use mathlib.Core.Path.{_≡_};
-ghost use Rattle.language.specs.Result.{checkResult};
-ghost use Rattle.metaqasm.specs.Answers.{answered};
+ghost use mathlib.Core.List.{List};
+ghost use Prim.Native.Nat.{ℕ, _*_, _≤_};
+ghost use lib.ListN.{length};
+ghost use Rattle.language.specs.Result.{finished, checkResult, instanceOutcome, runOutcome};
+ghost use Rattle.runs.specs.Concluded.{concluded};
+ghost use Rattle.metaqasm.specs.Answers.{answered, Told};
+use emit::Answer;
 use program_check::Outcome;
 
 // The answer of a call: number (0 for done), place, records and steps.
@@ -14,8 +19,7 @@ pub struct MetaqasmResult {
 }
 
 // The check of a program.
-#[no_mangle]
-pub extern "C" fn metaqasm_check(program: &[u8]) -> MetaqasmResult
+fn checked(program: &[u8]) -> MetaqasmResult
     ensures { λ r. ⌜ answered r ≡ checkResult (now (program .entry)) ⌝ }
 {
     match program_check::check_program(program) {
@@ -35,4 +39,81 @@ pub extern "C" fn metaqasm_check(program: &[u8]) -> MetaqasmResult
             }
         }
     }
+}
+
+// The result of a run that came to an answer.
+fn told(a: Answer) -> MetaqasmResult
+    requires { ⌜ Told a ⌝ }
+    ensures { λ r. ⌜ ((output : List ℕ) → concluded output a ≡ finished (record { result = answered r; output = output })) ⌝ }
+{
+    match a {
+        Answer::Going(s) => MetaqasmResult {
+            number: 0,
+            place: 0,
+            records: (s.at / 8) as u64,
+            steps: s.steps,
+        },
+        Answer::Ended(n, p, s) => MetaqasmResult {
+            number: n as u32,
+            place: p as u32,
+            records: (s.at / 8) as u64,
+            steps: s.steps,
+        },
+        Answer::Stuck => MetaqasmResult {
+            number: 0,
+            place: 0,
+            records: 0,
+            steps: 0,
+        },
+    }
+}
+
+// Checks a program.
+#[no_mangle]
+pub extern "C" fn metaqasm_check(program: &[u8]) -> MetaqasmResult
+    ensures { λ r. ⌜ answered r ≡ checkResult (now (program .entry)) ⌝ }
+{
+    checked(program)
+}
+
+// Writes the gate list of the whole program. The first promise rules out that the machine is stuck (run-sound); the others
+// are parts of it that callers need: the records fit the output, and no more steps are taken than the limit allows. What the
+// records name is said by run-sound.
+#[no_mangle]
+pub extern "C" fn metaqasm_run(program: &[u8], limit: u64, output: &mut [u8]) -> MetaqasmResult
+    ensures { λ r. ⌜ runOutcome (now (program .entry)) limit (now (output .entry)) ≡ finished (record { result = answered r; output = now (output .exit) }) ⌝ }
+    ensures { λ r. ⌜ 8 * r .records ≤ length (now (output .exit)) ⌝ }
+    ensures { λ r. ⌜ r .steps ≤ limit ⌝ }
+{
+    let first = checked(program);
+    if first.number != 0 {
+        return first;
+    }
+    told(runs::run(program, limit, output))
+}
+
+fn wide(n: u32) -> usize
+    ensures { λ r. ⌜ r ≡ n ⌝ }
+{
+    n as usize
+}
+
+// Writes the gate list of one family at given sizes. What the records name is said by instance-sound.
+#[no_mangle]
+pub extern "C" fn metaqasm_instance(
+    program: &[u8],
+    family: u32,
+    sizes: &[u8],
+    limit: u64,
+    output: &mut [u8],
+) -> MetaqasmResult
+    ensures { λ r. ⌜ instanceOutcome (now (program .entry)) family (now (sizes .entry)) limit (now (output .entry)) ≡ finished (record { result = answered r; output = now (output .exit) }) ⌝ }
+    ensures { λ r. ⌜ 8 * r .records ≤ length (now (output .exit)) ⌝ }
+    ensures { λ r. ⌜ r .steps ≤ limit ⌝ }
+{
+    let first = checked(program);
+    if first.number != 0 {
+        return first;
+    }
+    told(runs::instance(program, wide(family), sizes, limit, output))
 }

@@ -1,8 +1,8 @@
 use borrow.Author.Needs.{needs}
-use Rattle.metaqasm.proofs.metaqasm_check.Statement.{statement}
-use Rattle.metaqasm.proofs.metaqasm_check.Tie as tie
-use Rattle.metaqasm.proofs.metaqasm_check.Reads as reads
-use Rattle.metaqasm.proofs.metaqasm_check.Lts as lts
+use Rattle.metaqasm.proofs.checked.Statement.{statement}
+use Rattle.metaqasm.proofs.checked.Tie as tie
+use Rattle.metaqasm.proofs.checked.Reads as reads
+use Rattle.metaqasm.proofs.checked.Lts as lts
 use Rattle.program_check.proofs.check_program.Reads as check-program-reads
 use mathlib.Core.Path.{sym, ap, _∙_}
 use native.Mathlib.Omega.{arith}
@@ -40,7 +40,7 @@ unfolding resultTold
 returns-2 c =
     sym (ap resultTold (c .before .number .given .1)) ∙ c .before .before .before .check-program .ensures
 
-pub metaqasm-check-spec : {M : Type 1} → statement M
-metaqasm-check-spec =
+pub checked-spec : {M : Type 1} → statement M
+checked-spec =
     tie.close
     (tie.spec check-program-requires enum-told enum-known-number cast-narrow returns returns-2)

@@ -1,0 +1,83 @@
+use borrow.Author.Needs.{needs}
+use Rattle.metaqasm.proofs.metaqasm_instance.Statement.{statement}
+use Rattle.metaqasm.proofs.metaqasm_instance.Tie as tie
+use Rattle.metaqasm.proofs.metaqasm_instance.Reads as reads
+use Rattle.metaqasm.proofs.metaqasm_instance.Lts as lts
+use Rattle.metaqasm.proofs.checked.Reads as checked-reads
+use Rattle.metaqasm.proofs.told.Reads as told-reads
+use Rattle.metaqasm.proofs.wide.Reads as wide-reads
+use Rattle.runs.proofs.instance.Reads as instance-reads
+use Prim.Native.Nat.{ℕ, _*_}
+use mathlib.Core.Path.{_≡_, refl, sym, ap, _∙_}
+use native.Mathlib.Omega.{arith}
+use denote.Ref.{now}
+use lib.ListN.{length}
+use Rattle.language.specs.Result.{Result}
+use Rattle.metaqasm.specs.Answers.{answered}
+use Rattle.metaqasm.proofs.Telling.{acceptable, instance-told, instance-answers, refused-instance, refused-counts}
+
+-- src/lib.rt:114:9
+checked-requires : tie.Need-checked-requires
+checked-requires c κs =
+    search needs
+
+-- src/lib.rt:116:9
+returns : tie.Need-returns
+returns c =
+    let a = c .before .before .before .before .before .before .args in
+    let l = now (a .program) in
+    let lent = now (a .output) in
+    let x = answered (c .before .before .checked .result) in
+    let n = refused-counts l x (c .before .before .checked .ensures) (c .if1 .taken) in
+    (refused-instance l x (c .before .before .checked .ensures) (c .if1 .taken) (a .family) (now (a .sizes)) (a .limit) lent, (omega (arith, n .0), omega (arith, n .1)))
+
+-- src/lib.rt:118:34
+wide-requires : tie.Need-wide-requires
+wide-requires c κs =
+    search needs
+
+-- src/lib.rt:118:10
+instance-requires : tie.Need-instance-requires
+instance-requires c κs =
+    let a = c .before .before .before .before .before .before .before .before .args in
+    let l = now (a .program) in
+    let lent = now (a .output) in
+    let e = sym (ap (λ (r : Result). r .number) (c .before .before .before .before .checked .ensures)) ∙ c .before .before .if1 .left in
+    acceptable l e
+
+-- src/lib.rt:118:5
+told-requires : tie.Need-told-requires
+told-requires c κs =
+    let a = c .before .before .before .before .before .before .before .before .before .before .before .args in
+    let l = now (a .program) in
+    let lent = now (a .output) in
+    let e = sym (ap (λ (r : Result). r .number) (c .before .before .before .before .before .before .before .checked .ensures)) ∙ c .before .before .before .before .before .if1 .left in
+    instance-told l (a .family) (now (a .sizes)) (a .limit) lent e (c .before .before .instance .last .1 .1 .1 .1 .0) (c .before .before .instance .result) (rw (c .before .before .before .before .wide .ensures) at (c .before .before .instance .ensures))
+
+-- src/lib.rt:102:1
+same-length : tie.Need-same-length
+same-length c =
+    search needs
+
+-- src/lib.rt:102:1
+returns-2 : tie.Need-returns-2
+returns-2 c =
+    let a = c .before .before .before .before .before .before .before .before .before .before .before .before .args in
+    let l = now (a .program) in
+    let lent = now (a .output) in
+    let e = sym (ap (λ (r : Result). r .number) (c .before .before .before .before .before .before .before .before .checked .ensures)) ∙ c .before .before .before .before .before .before .if1 .left in
+    let out = c .before .before .before .instance .last .1 .1 .1 .1 .0 in
+    let t = instance-answers l (a .family) (now (a .sizes)) (a .limit) lent e out (c .before .before .before .instance .result) (answered (c .told .result)) (rw (c .before .before .before .before .before .wide .ensures) at (c .before .before .before .instance .ensures)) (c .told .ensures out) in
+    (t .0, (t .1, t .2))
+
+pub metaqasm-instance-spec : {M : Type 1} → statement M
+metaqasm-instance-spec =
+    tie.close
+    (tie.spec
+    checked-requires
+    returns
+    wide-requires
+    instance-requires
+    told-requires
+    same-length
+    returns-2)

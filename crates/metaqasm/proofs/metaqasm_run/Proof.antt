@@ -1,0 +1,69 @@
+use borrow.Author.Needs.{needs}
+use Rattle.metaqasm.proofs.metaqasm_run.Statement.{statement}
+use Rattle.metaqasm.proofs.metaqasm_run.Tie as tie
+use Rattle.metaqasm.proofs.metaqasm_run.Reads as reads
+use Rattle.metaqasm.proofs.metaqasm_run.Lts as lts
+use Rattle.metaqasm.proofs.checked.Reads as checked-reads
+use Rattle.metaqasm.proofs.told.Reads as told-reads
+use Rattle.runs.proofs.run.Reads as run-reads
+use Prim.Native.Nat.{ℕ, _*_}
+use mathlib.Core.Path.{_≡_, refl, sym, ap, _∙_}
+use native.Mathlib.Omega.{arith}
+use denote.Ref.{now}
+use lib.ListN.{length}
+use Rattle.language.specs.Result.{Result}
+use Rattle.metaqasm.specs.Answers.{answered}
+use Rattle.metaqasm.proofs.Telling.{acceptable, run-told, run-answers, refused-run, refused-counts}
+
+-- src/lib.rt:88:9
+checked-requires : tie.Need-checked-requires
+checked-requires c κs =
+    search needs
+
+-- src/lib.rt:90:9
+returns : tie.Need-returns
+returns c =
+    let a = c .before .before .before .before .before .args in
+    let l = now (a .program) in
+    let lent = now (a .output) in
+    let x = answered (c .before .before .checked .result) in
+    let n = refused-counts l x (c .before .before .checked .ensures) (c .if1 .taken) in
+    (refused-run l x (c .before .before .checked .ensures) (c .if1 .taken) (a .limit) lent, (omega (arith, n .0), omega (arith, n .1)))
+
+-- src/lib.rt:92:10
+run-requires : tie.Need-run-requires
+run-requires c κs =
+    let a = c .before .before .before .before .before .before .args in
+    let l = now (a .program) in
+    let lent = now (a .output) in
+    let e = sym (ap (λ (r : Result). r .number) (c .before .before .before .checked .ensures)) ∙ c .before .if1 .left in
+    acceptable l e
+
+-- src/lib.rt:92:5
+told-requires : tie.Need-told-requires
+told-requires c κs =
+    let a = c .before .before .before .before .before .before .before .before .before .args in
+    let l = now (a .program) in
+    let lent = now (a .output) in
+    let e = sym (ap (λ (r : Result). r .number) (c .before .before .before .before .before .before .checked .ensures)) ∙ c .before .before .before .before .if1 .left in
+    run-told l (a .limit) lent e (c .before .before .run .last .1 .1 .0) (c .before .before .run .result) (c .before .before .run .ensures)
+
+-- src/lib.rt:82:1
+same-length : tie.Need-same-length
+same-length c =
+    search needs
+
+-- src/lib.rt:82:1
+returns-2 : tie.Need-returns-2
+returns-2 c =
+    let a = c .before .before .before .before .before .before .before .before .before .before .args in
+    let l = now (a .program) in
+    let lent = now (a .output) in
+    let e = sym (ap (λ (r : Result). r .number) (c .before .before .before .before .before .before .before .checked .ensures)) ∙ c .before .before .before .before .before .if1 .left in
+    let out = c .before .before .before .run .last .1 .1 .0 in
+    let t = run-answers l (a .limit) lent e out (c .before .before .before .run .result) (answered (c .told .result)) (c .before .before .before .run .ensures) (c .told .ensures out) in
+    (t .0, (t .1, t .2))
+
+pub metaqasm-run-spec : {M : Type 1} → statement M
+metaqasm-run-spec =
+    tie.close (tie.spec checked-requires returns run-requires told-requires same-length returns-2)
