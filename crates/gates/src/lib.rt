@@ -262,13 +262,13 @@ pub fn deeper(m: Mode, back: bool) -> Mode
 pub fn entered(m: Mode, n: u16) -> Mode
     ensures { λ r. ⌜ r ≡ enteredOf m n ⌝ }
 {
-    let cond = m.cond;
+    let kept = m.cond;
     Mode {
         limit: m.limit,
         room: m.room,
         seen: n,
         levels: 16,
         back: m.back,
-        cond,
+        cond: kept,
     }
 }

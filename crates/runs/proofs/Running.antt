@@ -11,10 +11,13 @@ use borrow.Author.Tests.{eqb-true, eqb-false}
 use lib.ListN.{length, take}
 use lib.Seq.{slice}
 use Rattle.language.specs.Limits.{mostRegisters}
-use Rattle.language.specs.Read.{field, readTop}
+use Rattle.language.specs.Read.{Field, field, fields, readTop}
 use Rattle.language.specs.Machine.{Run, Globals, runTops}
 use Rattle.fields.specs.declared.Header.the-variants.{Whole, End, Cut}
+use Rattle.fields.specs.Header.{fieldsAt}
 use Rattle.fields.proofs.Parts.{look}
+use Rattle.fields.proofs.Reading.{when-whole, fields-whole, fields-end}
+use Rattle.fields.proofs.Listing.{whole-past}
 use Rattle.emit.specs.declared.State.{State}
 use Rattle.emit.specs.declared.Answer.{Answer}
 use Rattle.emit.specs.declared.Answer.the-variants.{Going, Ended, Stuck}
@@ -29,6 +32,15 @@ use Rattle.runs.proofs.Reaching.{zero-totals, Reached, reached-start}
 use Rattle.runs.proofs.Declaring.{registerTag, register-room, register-reached, register-runs, family-room, family-reached, family-runs}
 use Rattle.runs.proofs.Acting.{acting-reached}
 use Rattle.runs.proofs.Looping.{Onward, onward-same, wholeRun, starts, at-end, at-cut, acts-then, acts-other, act-ready, seen-few}
+
+-- the bytes of one field, read alone
+pub field-alone : (l : List ℕ) (at tag next : ℕ) → look l at ≡ Whole tag next → fields at (slice at next l) ≡ (field at tag (slice (at + 3) next l) ∷ [])
+unfolding fieldsAt
+field-alone l at tag next e =
+    let w = when-whole l at (length l) tag next (omega arith) e in
+    let p = whole-past l at tag next e in
+    let v = fields-whole l at next (w .low) (w .high) (omega arith) in
+    v .first ∙ rw (← p, ← (w .byte)) (ap (λ (fs : List Field). field at tag (slice (at + 3) next l) ∷ fs) (fields-end l next next (omega arith)))
 
 module _ (limit : ℕ) (l out₀ : List ℕ) where
   abbrev room : ℕ

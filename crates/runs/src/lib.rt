@@ -7,7 +7,7 @@ ghost use mathlib.Core.Option.{some};
 ghost use Prim.Native.Nat.{ℕ, _+_, _*_, _≤_, _<_};
 ghost use lib.ListN.{length, take, getD, getElem?};
 ghost use Rattle.language.specs.Tree.{Place};
-ghost use Rattle.language.specs.Read.{field, read, readTop};
+ghost use Rattle.language.specs.Read.{field, fields, read, readTop};
 ghost use Rattle.language.specs.Machine.{whenBit, runTops, runProgram, nothingYet, allDeclared, instanceRun};
 ghost use Rattle.language.specs.Result.{conclusionOf, instanceOf};
 ghost use Rattle.operands.specs.Stand.{theBit, registersOf};
@@ -170,9 +170,11 @@ fn conditional(
     }
 }
 
-// Runs the statement with this tag and content, whose tag is at `base`, at the top.
+// Runs the statement with this tag and content, whose field f is at `base`, at the top: a list of one field, so that the
+// cycle has one way in.
 fn statement_at_top(
     p: &[u8],
+    f: &[u8],
     base: usize,
     tag: u8,
     seen: u16,
@@ -183,7 +185,8 @@ fn statement_at_top(
     st: State,
     out: &mut [u8],
 ) -> Answer
-    requires { ⌜ base + 3 + length (now p) ≤ 65535 ⌝ }
+    requires { ⌜ fields base (now f) ≡ (field base tag (now p) ∷ []) ⌝ }
+    requires { ⌜ base + length (now f) ≤ 65535 ⌝ }
     requires { ⌜ Tabled (now program) (now table) seen ⌝ }
     requires { ⌜ (tag < 1) ⊎ (6 < tag) ⌝ }
     ensures { λ r. ⌜ ((q b : ℕ) → Does (now (out .entry)) st (now (out .exit)) r (acting limit (length (now (out .entry))) (readTop (field base tag (now (p .entry)))) (globalsIn limit (length (now (out .entry))) (now (program .entry)) seen (now (regs .entry)) q b))) ⌝ }
@@ -192,12 +195,13 @@ fn statement_at_top(
     let vars = &none[..0];
     let scope = top_scope();
     let m = top_mode(limit, out.len(), seen);
-    unroller::one(p, base, tag, vars, scope, regs, program, table, m, st, out)
+    unroller::list(f, base, vars, scope, regs, program, table, m, st, out)
 }
 
-// Runs the top field with this tag and content, whose tag is at `base` and which declares nothing.
+// Runs the top field f with this tag and content, which is at `base` and declares nothing.
 fn act(
     p: &[u8],
+    f: &[u8],
     base: usize,
     tag: u8,
     seen: u16,
@@ -209,14 +213,16 @@ fn act(
     out: &mut [u8],
 ) -> Answer
     requires { ⌜ ActReady tag (now p) base ⌝ }
+    requires { ⌜ fields base (now f) ≡ (field base tag (now p) ∷ []) ⌝ }
+    requires { ⌜ base + length (now f) ≤ 65535 ⌝ }
     requires { ⌜ Tabled (now program) (now table) seen ⌝ }
     ensures { λ r. ⌜ ((q b : ℕ) → Does (now (out .entry)) st (now (out .exit)) r (acting limit (length (now (out .entry))) (readTop (field base tag (now (p .entry)))) (globalsIn limit (length (now (out .entry))) (now (program .entry)) seen (now (regs .entry)) q b))) ⌝ }
 {
     if tag == 0 {
-        return statement_at_top(p, base, tag, seen, regs, program, table, limit, st, out);
+        return statement_at_top(p, f, base, tag, seen, regs, program, table, limit, st, out);
     }
     if 6 < tag {
-        return statement_at_top(p, base, tag, seen, regs, program, table, limit, st, out);
+        return statement_at_top(p, f, base, tag, seen, regs, program, table, limit, st, out);
     }
     let steps = st.steps;
     if limit <= steps {
@@ -310,6 +316,7 @@ fn top_fields(program: &[u8], table: &[u16], regs: &mut [u16], limit: u64, out: 
             Header::Whole(tag, next) => {
                 let from = at + 3;
                 let p = &program[from..next];
+                let f = &program[at..next];
                 if is_declaring(tag) {
                     t = declare(p, tag, t, regs);
                     at = next;
@@ -319,6 +326,7 @@ fn top_fields(program: &[u8], table: &[u16], regs: &mut [u16], limit: u64, out: 
                 let seen = narrow(t.families);
                 let r = act(
                     p,
+                    f,
                     at,
                     tag,
                     seen,

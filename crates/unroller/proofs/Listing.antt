@@ -198,3 +198,9 @@ walk-start l back h = go back (counted (fields 0 l)) refl h
     go true (Many n) e h = record { start = refl; end = ends-there n l e; few = omega arith; kept = λ j i. absurd (omega arith) }
     go true Broken e h = absurd (clash h)
     go false c e h = record { whole = refl }
+
+-- a list of one statement
+pub list-single : (m : Mode) (base tag : ℕ) (p content program : List ℕ) (f : Frame) → fields base p ≡ (field base tag content ∷ []) → listRun m base p program f ≡ oneRun m base tag content program f
+unfolding statementsBy runStatements
+list-single m base tag p content program f e =
+    ap (λ (fs : List Field). runStatements (m .limit) (m .room) (statementsBy (readStatement (m .levels)) fs) (familiesIn m program) f) e ∙ alone-is (oneRun m base tag content program f) (f .direction)

@@ -34,7 +34,7 @@ fn tell(sizes: [i64; 4])
 {}
 
 // Runs the statement with this tag and content, whose tag is at `base`.
-pub fn one(
+fn one(
     p: &[u8],
     base: usize,
     tag: u8,

@@ -177,3 +177,133 @@ pub fn each_cell() -> Vec<Field> {
     let body = vec![repeat(literal(1), variable(0), round)];
     vec![family(1, vec![qbits(variable(0))], body)]
 }
+
+/// How the families of a deepest program are nested.
+#[derive(Clone, Copy, Debug)]
+pub struct Shape {
+    pub name: &'static str,
+    /// Whether the loops stand around the reversals, inside them, or in turn.
+    pub order: Order,
+    pub loops: usize,
+    pub reversals: usize,
+    /// The index variables of each family, 1 to 4.
+    pub indexes: u8,
+    /// The parameters of each family, 1 to 8.
+    pub parameters: u8,
+}
+
+/// In which order loops and reversals are nested.
+#[derive(Clone, Copy, Debug)]
+pub enum Order {
+    LoopsOutside,
+    LoopsInside,
+    InTurn,
+}
+
+/// Shapes of 16 levels, or of as many loops as there may be.
+pub const SHAPES: [Shape; 6] = [
+    shape("15 reversals", Order::LoopsInside, [0, 15], [1, 1]),
+    shape("8 loops", Order::LoopsInside, [8, 0], [1, 1]),
+    shape("8 loops in 7 reversals", Order::LoopsInside, [8, 7], [1, 1]),
+    shape(
+        "7 reversals in 8 loops",
+        Order::LoopsOutside,
+        [8, 7],
+        [1, 1],
+    ),
+    shape("loops, reversals in turn", Order::InTurn, [8, 7], [1, 1]),
+    shape("in turn, 8 parameters", Order::InTurn, [8, 7], [4, 8]),
+];
+
+/// A shape of so many loops and reversals, index variables and parameters.
+const fn shape(
+    name: &'static str,
+    order: Order,
+    [loops, reversals]: [usize; 2],
+    [indexes, parameters]: [u8; 2],
+) -> Shape {
+    Shape {
+        name,
+        order,
+        loops,
+        reversals,
+        indexes,
+        parameters,
+    }
+}
+
+impl Shape {
+    /// Statements at the bottom of the loops and reversals.
+    fn nest(&self, statements: Vec<Field>) -> Vec<Field> {
+        let (loops, reversals) = (self.loops, self.reversals);
+        let mut is_loop: Vec<bool> = match self.order {
+            Order::LoopsOutside => (0..loops + reversals).map(|n| n < loops).collect(),
+            Order::LoopsInside => (0..loops + reversals).map(|n| n >= reversals).collect(),
+            Order::InTurn => (0..loops + reversals).map(|n| n % 2 == 0).collect(),
+        };
+        is_loop.reverse();
+        let wrap = |inner, is_loop| match is_loop {
+            true => vec![repeat(literal(1), literal(1), inner)],
+            false => vec![reverse(inner)],
+        };
+        is_loop.into_iter().fold(statements, wrap)
+    }
+
+    /// The types of a family: a register of n+1 wires, then registers of a variable's size.
+    fn types(&self) -> Vec<Field> {
+        let others = (1..self.parameters).map(|n| qbits(variable(n % self.indexes)));
+        [qbits(plus(0, 1))].into_iter().chain(others).collect()
+    }
+
+    /// A family with statements at the bottom of its body.
+    fn family(&self, statements: Vec<Field>) -> Field {
+        family(self.indexes, self.types(), self.nest(statements))
+    }
+
+    /// A call that passes all index variables and parameters on.
+    fn call(&self, number: u8) -> Field {
+        let sizes = (0..self.indexes).map(variable).collect();
+        call(number, sizes, (0..self.parameters).map(whole).collect())
+    }
+
+    /// A whole program: 255 families, each of which calls the one before from
+    /// the bottom, and a run that calls the last one from as deep.
+    pub fn deepest(&self) -> Vec<Field> {
+        let leaf = |index| t(element(0, index));
+        let mut fields = vec![self.family(vec![leaf(left_deep()), leaf(right_deep())])];
+        fields.extend((0..254).map(|number| self.family(vec![self.call(number)])));
+        fields.push(qreg(1));
+        let sizes = (0..self.indexes).map(|_| literal(0)).collect();
+        let operands = (0..self.parameters).map(|_| whole(0)).collect();
+        fields.extend(self.nest(vec![call(254, sizes, operands)]));
+        fields
+    }
+
+    /// The sizes with which the families of the program are unrolled.
+    pub fn sizes(&self) -> Vec<u8> {
+        sizes(&vec![0; self.indexes as usize])
+    }
+
+    /// Two families, of which the last one has the deepest indexes everywhere.
+    pub fn deepest_indexes(&self) -> Vec<Field> {
+        let first = self.family(vec![t(at(0, 0))]);
+        let mut sizes = vec![left_deep(), right_deep(), left_deep(), right_deep()];
+        sizes.truncate(self.indexes as usize);
+        let mut operands: Vec<Field> = (0..self.parameters).map(whole).collect();
+        operands[0] = whole(0);
+        let wires = [left_deep(), right_deep()].map(|index| element(0, index));
+        let [one, other] = wires;
+        let statements = vec![call(0, sizes, operands), cx(one, other)];
+        vec![first, self.family(statements)]
+    }
+}
+
+/// The index 0 as a sum of 16 levels to the left.
+fn left_deep() -> Field {
+    (1..16).fold(literal(0), |inner, _| sum(inner, literal(0)))
+}
+
+/// The index 0 as a sum of 16 levels to the right.
+fn right_deep() -> Field {
+    (1..16).fold(literal(0), |inner, _| sum(literal(0), inner))
+}

@@ -1,3 +1,4 @@
+-- `gates::act` meets its contract. Assumes nothing.
 use borrow.Author.Needs.{needs}
 use Rattle.gates.proofs.act.Statement.{statement}
 use Rattle.gates.proofs.act.Tie as tie
@@ -10,34 +11,28 @@ use denote.Ref.{now}
 use borrow.Author.Tests.{eq-eqb, ne-eqb}
 use Rattle.gates.specs.Gates.{actRun}
 
--- src/lib.rt:238:9
 cx-requires : tie.Need-cx-requires
 cx-requires c κs =
     c .before .before .before .before .before .pre
 
--- src/lib.rt:238:9
 same-length : tie.Need-same-length
 same-length c =
     search needs
 
--- src/lib.rt:238:9
 returns : tie.Need-returns
 unfolding actRun
 returns c =
     let a = c .before .before .before .before .before .before .before .before .args in
     rw (eq-eqb (a .tag) 35 (c .before .before .before .before .if1 .taken)) (c .before .before .cx .ensures)
 
--- src/lib.rt:240:5
 gate-requires : tie.Need-gate-requires
 gate-requires c κs =
     c .before .before .before .before .before .pre
 
--- src/lib.rt:223:1
 same-length-2 : tie.Need-same-length-2
 same-length-2 c =
     search needs
 
--- src/lib.rt:223:1
 returns-2 : tie.Need-returns-2
 unfolding actRun
 returns-2 c =

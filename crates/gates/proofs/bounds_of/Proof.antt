@@ -1,3 +1,4 @@
+-- `gates::bounds_of` meets its contract. Assumes nothing.
 use borrow.Author.Needs.{needs}
 use Rattle.gates.proofs.bounds_of.Statement.{statement}
 use Rattle.gates.proofs.bounds_of.Tie as tie
@@ -16,59 +17,48 @@ use Rattle.indexes.specs.declared.Value.the-variants.{Is}
 use Rattle.indexes.proofs.Evaluating.{index-ranged}
 use Rattle.gates.proofs.Looping.{bounds-low, bounds-none, bounds-high, bounds-cut, bounds-are}
 
--- src/lib.rt:128:9
 index-at-requires : tie.Need-index-at-requires
 index-at-requires c κs =
     search needs
 
--- src/lib.rt:129:19
 enum-known-low : tie.Need-enum-known-low
 enum-known-low c =
     search needs
 
--- src/lib.rt:130:9
 bound-requires : tie.Need-bound-requires
 bound-requires c κs =
     search needs
 
--- src/lib.rt:130:9
 returns : tie.Need-returns
 returns c =
     let a = c .before .before .before .before .args in
     rw (c .bound .ensures) (bounds-low (now (a .p)) (now (a .vars)) (c .before .before .index-at .result) (c .before .before .index-at .ensures) (c .before .match .keys2))
 
--- src/lib.rt:132:33
 header-at-requires : tie.Need-header-at-requires
 header-at-requires c κs =
     search needs
 
--- src/lib.rt:132:26
 enum-known-mid : tie.Need-enum-known-mid
 enum-known-mid c =
     search needs
 
--- src/lib.rt:133:9
 returns-2 : tie.Need-returns-2
 returns-2 c =
     let a = c .before .before .before .before .before .before .before .args in
     bounds-none (now (a .p)) (now (a .vars)) (rw (c .before .header-at .ensures) at (c .match2 .keys2))
 
--- src/lib.rt:135:9
 index-at-requires-2 : tie.Need-index-at-requires-2
 index-at-requires-2 c κs =
     search needs
 
--- src/lib.rt:136:19
 enum-known-high : tie.Need-enum-known-high
 enum-known-high c =
     search needs
 
--- src/lib.rt:137:9
 bound-requires-2 : tie.Need-bound-requires-2
 bound-requires-2 c κs =
     search needs
 
--- src/lib.rt:137:9
 returns-3 : tie.Need-returns-3
 returns-3 c =
     let a = c .before .before .before .before .before .before .before .before .before .before .before .before .args in
@@ -78,17 +68,14 @@ returns-3 c =
     let wx : IndexAt l 0 v (Is x) = rw (c .before .before .before .before .before .before .before .before .low .given .1) at (c .before .before .before .before .before .before .before .before .before .before .index-at .ensures) in
     rw (c .bound2 .ensures) (bounds-high l v x wx _ _ (sym (c .before .before .before .before .before .before .header-at .ensures) ∙ c .before .before .before .before .mid .given .1) (c .before .before .index-at2 .result) (c .before .before .index-at2 .ensures) (c .before .match3 .keys2))
 
--- src/lib.rt:139:32
 header-at-requires-2 : tie.Need-header-at-requires-2
 header-at-requires-2 c κs =
     search needs
 
--- src/lib.rt:139:26
 enum-known-to : tie.Need-enum-known-to
 enum-known-to c =
     search needs
 
--- src/lib.rt:140:9
 returns-4 : tie.Need-returns-4
 returns-4 c =
     let a = c .before .before .before .before .before .before .before .before .before .before .before .before .before .before .before .args in
@@ -98,7 +85,6 @@ returns-4 c =
     let wx : IndexAt l 0 v (Is x) = rw (c .before .before .before .before .before .before .before .before .before .before .before .low .given .1) at (c .before .before .before .before .before .before .before .before .before .before .before .before .before .index-at .ensures) in
     bounds-cut l v x wx _ _ (sym (c .before .before .before .before .before .before .before .before .before .header-at .ensures) ∙ c .before .before .before .before .before .before .before .mid .given .1) (rw (c .before .header-at2 .ensures) at (c .match4 .keys2))
 
--- src/lib.rt:125:1
 returns-5 : tie.Need-returns-5
 returns-5 c =
     let a = c .before .before .before .before .before .before .before .before .before .before .before .before .before .before .before .before .before .args in

@@ -1,3 +1,4 @@
+-- `gates::copied` meets its contract. Assumes nothing.
 use Rattle.gates.proofs.copied.Statement.{statement}
 use Rattle.gates.proofs.copied.Tie as tie
 use Rattle.gates.proofs.copied.Reads as reads
@@ -24,52 +25,43 @@ abbrev μ-loop : tie.MeasureT-loop
 μ-loop vars all₀ n i₀ all i =
     length vars - i
 
--- src/lib.rt:179:5
 tell-requires : tie.Need-tell-requires Inv-loop μ-loop
 tell-requires c κs =
     search needs
 
--- src/lib.rt:182:5
 loop-holds : tie.Need-loop-holds Inv-loop μ-loop
 loop-holds c =
     (refl, omega arith, c .tell .ensures)
 
--- src/lib.rt:183:18
 mul-all : tie.Need-mul-all Inv-loop μ-loop
 mul-all c =
     let i = c .before .loop in
     omega (arith, i .inv .1, c .before .before .before .before .pre)
 
--- src/lib.rt:183:18
 shared-slice-copy-out-all : tie.Need-shared-slice-copy-out-all Inv-loop μ-loop
 shared-slice-copy-out-all c =
     let i = c .before .loop in
     omega (arith, i .inv .1, c .before .before .before .before .pre)
 
--- src/lib.rt:183:9
 mul-t11 : tie.Need-mul-t11 Inv-loop μ-loop
 mul-t11 c =
     search needs
 
--- src/lib.rt:183:9
 element-set-from-all : tie.Need-element-set-from-all Inv-loop μ-loop
 element-set-from-all c =
     let i = c .before .before .loop in
     omega (arith, i .inv .1, c .before .before .before .before .before .pre)
 
--- src/lib.rt:184:9
 add-i : tie.Need-add-i Inv-loop μ-loop
 add-i c =
     let i = c .before .before .loop in
     omega (arith, i .inv .1, c .before .before .before .before .before .pre)
 
--- src/lib.rt:182:5
 loop-less : tie.Need-loop-less Inv-loop μ-loop
 loop-less c =
     let i = c .before .before .loop in
     omega (arith, i .inv .1, c .before .before .before .before .before .pre)
 
--- src/lib.rt:182:5
 loop-again : tie.Need-loop-again Inv-loop μ-loop
 loop-again c =
     let a = c .before .before .before .before .before .args in
@@ -77,7 +69,6 @@ loop-again c =
     let b : toZ w64 (ofZ w64 (getD (now (a .vars)) (i .i) (pos 0))) ≡ getD (now (a .vars)) (i .i) (pos 0) = toZ-ofZ w64 (getD (now (a .vars)) (i .i) (pos 0)) (record { sfits = c .all .given }) in
     (rw b (copy-next (now (a .vars)) (i .all) (i .i) (i .inv .0) (omega arith) (omega (arith, i .inv .2, c .before .before .before .before .before .pre))), omega arith, simp length-set (i .inv .2))
 
--- src/lib.rt:175:1
 returns : tie.Need-returns Inv-loop μ-loop
 returns c =
     let a = c .before .before .before .before .args in

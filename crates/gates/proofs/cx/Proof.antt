@@ -1,3 +1,4 @@
+-- `gates::cx` meets its contract. Assumes nothing.
 use borrow.Author.Needs.{needs}
 use Rattle.gates.proofs.cx.Statement.{statement}
 use Rattle.gates.proofs.cx.Tie as tie
@@ -19,17 +20,14 @@ use Rattle.language.specs.Result.{op, firstNumber, secondNumber}
 use Rattle.gates.specs.Gates.{cxRun, frameIn}
 use Rattle.gates.proofs.Acting.{does-as, cx-none, cx-first-over, cx-first-stuck, cx-second-over, cx-second-stuck, cx-same, cx-two}
 
--- src/lib.rt:88:33
 header-at-requires : tie.Need-header-at-requires
 header-at-requires c κs =
     search needs
 
--- src/lib.rt:88:26
 enum-known-mid : tie.Need-enum-known-mid
 enum-known-mid c =
     search needs
 
--- src/lib.rt:89:9
 returns : tie.Need-returns
 returns c =
     let a = c .before .before .before .before .before .args in
@@ -37,27 +35,22 @@ returns c =
     let ms = operandsOf (a .scope) (now (a .regs)) in
     does-as _ _ _ _ _ (cxRun (a .m) (a .base) (now (a .p)) f) (cx-none (a .m) (a .base) (now (a .p)) _ _ (now (a .vars)) ms (rw (c .before .header-at .ensures) at (c .match .keys2))) (does-stuck (now (a .out)) (a .st) _)
 
--- src/lib.rt:91:11
 wire-at-requires : tie.Need-wire-at-requires
 wire-at-requires c κs =
     search needs
 
--- src/lib.rt:92:19
 enum-known-x : tie.Need-enum-known-x
 enum-known-x c =
     search needs
 
--- src/lib.rt:92:31
 wire-at-requires-2 : tie.Need-wire-at-requires-2
 wire-at-requires-2 c κs =
     search needs
 
--- src/lib.rt:93:23
 enum-known-y : tie.Need-enum-known-y
 enum-known-y c =
     search needs
 
--- src/lib.rt:95:21
 returns-2 : tie.Need-returns-2
 returns-2 c =
     let a = c .before .before .before .before .before .before .before .before .before .before .before .before .before .before .before .before .before .before .args in
@@ -65,37 +58,30 @@ returns-2 c =
     let ms = operandsOf (a .scope) (now (a .regs)) in
     does-as _ _ _ _ _ (cxRun (a .m) (a .base) (now (a .p)) f) (cx-same (a .m) (a .base) (now (a .p)) _ _ (now (a .vars)) ms _ _ (sym (c .before .before .before .before .before .before .before .before .before .before .before .before .before .before .header-at .ensures) ∙ c .before .before .before .before .before .before .before .before .before .before .before .before .mid .given .1) (c .before .before .before .before .before .before .before .before .before .before .wire-at .result) (c .before .before .before .before .before .before .before .before .before .before .wire-at .ensures) (c .before .before .before .before .before .before .before .before .x .given .0 .0) (c .before .before .before .before .before .before .before .before .x .given .1) (c .before .before .before .before .before .before .wire-at2 .result) (c .before .before .before .before .before .before .wire-at2 .ensures) (c .before .before .before .before .y .given .0 .0) (c .before .before .before .before .y .given .1) (c .if1 .taken)) (does-end (now (a .out)) (a .st) 25 (a .base))
 
--- src/lib.rt:98:17
 write-record-requires : tie.Need-write-record-requires
 write-record-requires c κs =
     search needs
 
--- src/lib.rt:100:28
 enum-told : tie.Need-enum-told
 enum-told c =
     search needs
 
--- src/lib.rt:101:29
 enum-told-2 : tie.Need-enum-told-2
 enum-told-2 c =
     search needs
 
--- src/lib.rt:103:24
 enum-told-3 : tie.Need-enum-told-3
 enum-told-3 c =
     search needs
 
--- src/lib.rt:104:25
 enum-told-4 : tie.Need-enum-told-4
 enum-told-4 c =
     search needs
 
--- src/lib.rt:75:1
 same-length : tie.Need-same-length
 same-length c =
     search needs
 
--- src/lib.rt:75:1
 returns-3 : tie.Need-returns-3
 unfolding op firstNumber secondNumber
 returns-3 c =
@@ -107,7 +93,6 @@ returns-3 c =
     let d = c .before .before .write-record .ensures (a .m .limit) f act refl acts in
     does-as _ _ _ _ _ (cxRun (a .m) (a .base) (now (a .p)) f) (cx-two (a .m) (a .base) (now (a .p)) _ _ (now (a .vars)) ms _ _ (sym (c .before .before .before .before .before .before .before .before .before .before .before .before .before .before .before .before .before .before .header-at .ensures) ∙ c .before .before .before .before .before .before .before .before .before .before .before .before .before .before .before .before .mid .given .1) (c .before .before .before .before .before .before .before .before .before .before .before .before .before .before .wire-at .result) (c .before .before .before .before .before .before .before .before .before .before .before .before .before .before .wire-at .ensures) (c .before .before .before .before .before .before .before .before .before .before .before .before .x .given .0 .0) (c .before .before .before .before .before .before .before .before .before .before .before .before .x .given .1) (c .before .before .before .before .before .before .before .before .before .before .wire-at2 .result) (c .before .before .before .before .before .before .before .before .before .before .wire-at2 .ensures) (c .before .before .before .before .before .before .before .before .y .given .0 .0) (c .before .before .before .before .before .before .before .before .y .given .1) (c .before .before .before .before .if1 .left) ∙ ap (λ (n : ℕ). write (a .m .limit) n (a .base) f act) (c .before .before .before .before .before .before .before .before .before .before .before .before .before .before .before .before .before .before .before .before .before .before .pre)) d
 
--- src/lib.rt:75:1
 returns-4 : tie.Need-returns-4
 returns-4 c =
     let a = c .before .before .before .before .before .before .before .before .before .before .before .before .before .before .args in
@@ -115,7 +100,6 @@ returns-4 c =
     let ms = operandsOf (a .scope) (now (a .regs)) in
     does-as _ _ _ _ _ (cxRun (a .m) (a .base) (now (a .p)) f) (cx-second-over (a .m) (a .base) (now (a .p)) _ _ (now (a .vars)) ms _ _ (sym (c .before .before .before .before .before .before .before .before .before .before .header-at .ensures) ∙ c .before .before .before .before .before .before .before .before .mid .given .1) (c .before .before .before .before .before .before .wire-at .result) (c .before .before .before .before .before .before .wire-at .ensures) (c .before .before .before .before .x .given .0 .0) (c .before .before .before .before .x .given .1) (c .before .before .wire-at2 .result) (c .before .before .wire-at2 .ensures) (c .enum-told .given .1)) (does-end (now (a .out)) (a .st) 24 (a .base))
 
--- src/lib.rt:75:1
 returns-5 : tie.Need-returns-5
 returns-5 c =
     let a = c .before .before .before .before .before .before .before .before .before .before .before .before .before .before .args in
@@ -123,7 +107,6 @@ returns-5 c =
     let ms = operandsOf (a .scope) (now (a .regs)) in
     does-as _ _ _ _ _ (cxRun (a .m) (a .base) (now (a .p)) f) (cx-second-stuck (a .m) (a .base) (now (a .p)) _ _ (now (a .vars)) ms _ _ (sym (c .before .before .before .before .before .before .before .before .before .before .header-at .ensures) ∙ c .before .before .before .before .before .before .before .before .mid .given .1) (c .before .before .before .before .before .before .wire-at .result) (c .before .before .before .before .before .before .wire-at .ensures) (c .before .before .before .before .x .given .0 .0) (c .before .before .before .before .x .given .1) (c .before .before .wire-at2 .result) (c .before .before .wire-at2 .ensures) (c .enum-told2 .given .1)) (does-stuck (now (a .out)) (a .st) _)
 
--- src/lib.rt:75:1
 returns-6 : tie.Need-returns-6
 returns-6 c =
     let a = c .before .before .before .before .before .before .before .before .before .before .args in
@@ -131,7 +114,6 @@ returns-6 c =
     let ms = operandsOf (a .scope) (now (a .regs)) in
     does-as _ _ _ _ _ (cxRun (a .m) (a .base) (now (a .p)) f) (cx-first-over (a .m) (a .base) (now (a .p)) _ _ (now (a .vars)) ms _ _ (sym (c .before .before .before .before .before .before .header-at .ensures) ∙ c .before .before .before .before .mid .given .1) (c .before .before .wire-at .result) (c .before .before .wire-at .ensures) (c .enum-told3 .given .1)) (does-end (now (a .out)) (a .st) 24 (a .base))
 
--- src/lib.rt:75:1
 returns-7 : tie.Need-returns-7
 returns-7 c =
     let a = c .before .before .before .before .before .before .before .before .before .before .args in

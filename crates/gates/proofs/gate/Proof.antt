@@ -1,3 +1,4 @@
+-- `gates::gate` meets its contract. Assumes nothing.
 use borrow.Author.Needs.{needs}
 use Rattle.gates.proofs.gate.Statement.{statement}
 use Rattle.gates.proofs.gate.Tie as tie
@@ -18,42 +19,34 @@ use Rattle.language.specs.Machine.{write, written, noMeaning, endAt}
 use Rattle.gates.specs.Gates.{gateRun, frameIn, directionOf, gateFor}
 use Rattle.gates.proofs.Acting.{does-as, gate-acts, gate-wire, gate-over, gate-stuck}
 
--- src/lib.rt:64:11
 wire-at-requires : tie.Need-wire-at-requires
 wire-at-requires c κs =
     search needs
 
--- src/lib.rt:65:19
 enum-known-w : tie.Need-enum-known-w
 enum-known-w c =
     search needs
 
--- src/lib.rt:67:47
 code-requires : tie.Need-code-requires
 code-requires c κs =
     search needs
 
--- src/lib.rt:67:13
 write-record-requires : tie.Need-write-record-requires
 write-record-requires c κs =
     search needs
 
--- src/lib.rt:69:24
 enum-told : tie.Need-enum-told
 enum-told c =
     search needs
 
--- src/lib.rt:70:25
 enum-told-2 : tie.Need-enum-told-2
 enum-told-2 c =
     search needs
 
--- src/lib.rt:50:1
 same-length : tie.Need-same-length
 same-length c =
     search needs
 
--- src/lib.rt:50:1
 returns : tie.Need-returns
 returns c =
     let a = c .before .before .before .before .before .before .before .before .before .before .before .before .args in
@@ -66,14 +59,12 @@ returns c =
     does-as _ _ _ _ _ (gateRun (a .m) (a .tag) (a .base) (now (a .p)) f) (gate-wire (a .m) (a .base) (now (a .p)) _ _ (now (a .vars)) (operandsOf (a .scope) (now (a .regs))) (a .tag) _ w (c .before .before .before .before .before .before .before .before .wire-at .ensures) (c .before .before .before .before .before .before .w .given .1)
     ∙ ap (λ (n : ℕ). write (a .m .limit) n (a .base) f act) (c .before .before .before .before .before .before .before .before .before .before .before .before .pre)) d
 
--- src/lib.rt:50:1
 returns-2 : tie.Need-returns-2
 returns-2 c =
     let a = c .before .before .before .before .before .before .args in
     let f = frameIn (a .m) (now (a .vars)) (a .scope) (now (a .regs)) in
     does-as _ _ _ _ _ (gateRun (a .m) (a .tag) (a .base) (now (a .p)) f) (gate-over (a .m) (a .base) (now (a .p)) _ _ (now (a .vars)) (operandsOf (a .scope) (now (a .regs))) (a .tag) _ (c .before .before .wire-at .ensures) (c .enum-told .given .1)) (does-end (now (a .out)) (a .st) 24 (a .base))
 
--- src/lib.rt:50:1
 returns-3 : tie.Need-returns-3
 returns-3 c =
     let a = c .before .before .before .before .before .before .args in

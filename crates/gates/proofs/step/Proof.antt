@@ -1,3 +1,4 @@
+-- `gates::step` meets its contract. Assumes nothing.
 use borrow.Author.Needs.{needs}
 use Rattle.gates.proofs.step.Statement.{statement}
 use Rattle.gates.proofs.step.Tie as tie
@@ -11,47 +12,39 @@ use native.Mathlib.Omega.{arith}
 use Rattle.language.proofs.Integers.{clash}
 use Rattle.gates.specs.Gates.{Entered, Enterable}
 
--- src/lib.rt:200:9
 returns : tie.Need-returns
 unfolding Entered
 returns c =
     λ e. e .deep (c .if1 .taken)
 
--- src/lib.rt:203:9
 returns-2 : tie.Need-returns-2
 unfolding Entered
 returns-2 c =
     λ e. let h = e .low in omega arith
 
--- src/lib.rt:206:9
 returns-3 : tie.Need-returns-3
 unfolding Entered
 returns-3 c =
     λ e. let h = e .high in omega arith
 
--- src/lib.rt:208:8
 nameless-requires : tie.Need-nameless-requires
 nameless-requires c κs =
     search needs
 
--- src/lib.rt:209:9
 returns-4 : tie.Need-returns-4
 unfolding Entered
 returns-4 c =
     λ e. clash (sym (sym (c .before .nameless .ensures) ∙ c .if4 .taken) ∙ e .named)
 
--- src/lib.rt:213:9
 returns-5 : tie.Need-returns-5
 unfolding Entered
 returns-5 c =
     record { enterable = record { deep = c .before .before .before .before .before .before .if1 .left; low = omega arith; high = omega arith; named = sym (c .before .before .before .nameless .ensures) ∙ c .before .before .if4 .left }; none = omega arith; number = refl; place = refl; same = refl }
 
--- src/lib.rt:215:17
 add-taken : tie.Need-add-taken
 add-taken c =
     omega arith
 
--- src/lib.rt:196:1
 returns-6 : tie.Need-returns-6
 unfolding Entered
 returns-6 c =

@@ -1,3 +1,4 @@
+-- `gates::turn` meets its contract. Assumes nothing.
 use borrow.Author.Needs.{needs}
 use Rattle.gates.proofs.turn.Statement.{statement}
 use Rattle.gates.proofs.turn.Tie as tie
@@ -15,19 +16,16 @@ use Rattle.language.proofs.Integers.{range-back}
 use Rattle.gates.specs.Gates.{turnOf}
 use Rattle.gates.proofs.Looping.{turn-sum, turn-difference}
 
--- src/lib.rt:162:13
 cast-k : tie.Need-cast-k
 cast-k c =
     search needs
 
--- src/lib.rt:164:16
 sub-result : tie.Need-sub-result
 sub-result c =
     let a = c .before .args in
     let k : toZ w64 (a .i) ≡ pos (a .i) = toZ-pos w64 (a .i) (omega arith) in
     rw (range-back {z = a .y} (c .before .pre .1), k) (turn-difference (a .y) (a .i) (c .before .pre .1) (c .before .pre .2))
 
--- src/lib.rt:164:9
 returns : tie.Need-returns
 unfolding turnOf
 returns c =
@@ -35,14 +33,12 @@ returns c =
     let k : toZ w64 (a .i) ≡ pos (a .i) = toZ-pos w64 (a .i) (omega arith) in
     rw (range-back {z = a .y} (c .before .pre .1), k, c .if1 .taken, toZ-ofZ w64 (a .y -ℤ pos (a .i)) (turn-difference (a .y) (a .i) (c .before .pre .1) (c .before .pre .2)))
 
--- src/lib.rt:166:5
 add-result : tie.Need-add-result
 add-result c =
     let a = c .before .args in
     let k : toZ w64 (a .i) ≡ pos (a .i) = toZ-pos w64 (a .i) (omega arith) in
     rw (range-back {z = a .x} (c .before .pre .0), k) (turn-sum (a .x) (a .i) (c .before .pre .0) (c .before .pre .2))
 
--- src/lib.rt:158:1
 returns-2 : tie.Need-returns-2
 unfolding turnOf
 returns-2 c =

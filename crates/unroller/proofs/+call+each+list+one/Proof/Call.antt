@@ -41,17 +41,14 @@ use Rattle.unroller.proofs.Listing.{list-broken, walk-start, walk-turn,
 use Rattle.unroller.proofs.Rounding.{rounds-done, rounds-more, rounds-start, body-is, turn-fits, one-more, take-before}
 
 module _ (t : ℕ) where
-  -- src/lib.rt:188:13
   pub shared-slice-read-n : lts.Need-shared-slice-read-n (calls t) (at t) Post
   shared-slice-read-n c =
       omega (arith, c .before .before .before .before .before .before .pre .1 .1 .1)
 
-  -- src/lib.rt:189:9
   pub wider-requires : lts.Need-wider-requires (calls t) (at t) Post
   wider-requires c κs =
       search needs
 
-  -- src/lib.rt:191:9
   pub returns : lts.Need-returns (calls t) (at t) Post
   returns c =
       let a = c .before .before .before .before .before .before .before .before .before .args in
@@ -60,12 +57,10 @@ module _ (t : ℕ) where
       let f = frameIn (a .m) (now (a .vars)) (a .scope) (now (a .regs)) in
       does-as _ _ _ _ _ (callRun (a .m) (a .base) l g f) (call-none (a .m) (a .base) l g f (omega (arith, c .before .before .wider .ensures .0))) (does-stuck (now (a .out)) (a .st) _)
 
-  -- src/lib.rt:193:25
   pub wide-requires : lts.Need-wide-requires (calls t) (at t) Post
   wide-requires c κs =
       search needs
 
-  -- src/lib.rt:193:19
   pub mul-long : lts.Need-mul-long (calls t) (at t) Post
   mul-long c =
       let a = c .before .before .before .before .before .before .before .before .before .before .args in
@@ -77,7 +72,6 @@ module _ (t : ℕ) where
       let below : k < a .m .seen = omega (arith, c .before .before .before .wider .ensures .0, c .before .if1 .left) in
       omega (arith, tb .many, c .wide .ensures .0)
 
-  -- src/lib.rt:193:19
   pub shared-slice-read-long : lts.Need-shared-slice-read-long (calls t) (at t) Post
   shared-slice-read-long c =
       let a = c .before .before .before .before .before .before .before .before .before .before .before .args in
@@ -89,12 +83,10 @@ module _ (t : ℕ) where
       let below : k < a .m .seen = omega (arith, c .before .before .before .before .wider .ensures .0, c .before .before .if1 .left) in
       omega (arith, tb .many, c .before .wide .ensures .0)
 
-  -- src/lib.rt:193:9
   pub long-requires : lts.Need-long-requires (calls t) (at t) Post
   long-requires c κs =
       search needs
 
-  -- src/lib.rt:195:9
   pub arguments-requires : lts.Need-arguments-requires (calls t) (at t) Post
   arguments-requires c κs =
       let a = c .before .before .before .before .before .before .before .before .before .before .before .before .before .args in
@@ -109,27 +101,22 @@ module _ (t : ℕ) where
       let en : Entry g k at = rw there (tb .each k below) in
       (c .before .before .before .before .before .before .before .before .before .before .before .before .before .pre .1 .1 .1, head-of en)
 
-  -- src/lib.rt:198:24
   pub enum-told : lts.Need-enum-told (calls t) (at t) Post
   enum-told c =
       search needs
 
-  -- src/lib.rt:199:25
   pub enum-told-2 : lts.Need-enum-told-2 (calls t) (at t) Post
   enum-told-2 c =
       search needs
 
-  -- src/lib.rt:201:18
   pub enum-told-3 : lts.Need-enum-told-3 (calls t) (at t) Post
   enum-told-3 c =
       search needs
 
-  -- src/lib.rt:201:13
   pub tell-requires : lts.Need-tell-requires (calls t) (at t) Post
   tell-requires c κs =
       search needs
 
-  -- src/lib.rt:202:17
   pub body-of-requires : lts.Need-body-of-requires (calls t) (at t) Post
   body-of-requires c κs =
       let a = c .before .before .before .before .before .before .before .before .before .before .before .before .before .before .before .before .before .args in
@@ -144,7 +131,6 @@ module _ (t : ℕ) where
       let en : Entry g k at = rw there (tb .each k below) in
       head-of en
 
-  -- src/lib.rt:203:25
   pub past-requires : lts.Need-past-requires (calls t) (at t) Post
   past-requires c κs =
       let a = c .before .before .before .before .before .before .before .before .before .before .before .before .before .before .before .before .before .before .args in
@@ -159,7 +145,6 @@ module _ (t : ℕ) where
       let en : Entry g k at = rw there (tb .each k below) in
       omega (arith, en .long, en .within)
 
-  -- src/lib.rt:203:25
   pub sub-place : lts.Need-sub-place (calls t) (at t) Post
   sub-place c =
       let a = c .before .before .before .before .before .before .before .before .before .before .before .before .before .before .before .before .before .before .before .args in
@@ -174,7 +159,6 @@ module _ (t : ℕ) where
       let en : Entry g k at = rw there (tb .each k below) in
       omega (arith, (c .before .body-of .ensures) .short, c .past .ensures)
 
-  -- src/lib.rt:204:45
   pub add-wide : lts.Need-add-wide (calls t) (at t) Post
   add-wide c =
       let a = c .before .before .before .before .before .before .before .before .before .before .before .before .before .before .before .before .before .before .before .args in
@@ -189,7 +173,6 @@ module _ (t : ℕ) where
       let en : Entry g k at = rw there (tb .each k below) in
       omega (arith, en .long, en .within)
 
-  -- src/lib.rt:204:37
   pub shared-slice-read-wide : lts.Need-shared-slice-read-wide (calls t) (at t) Post
   shared-slice-read-wide c =
       let a = c .before .before .before .before .before .before .before .before .before .before .before .before .before .before .before .before .before .before .before .before .args in
@@ -204,17 +187,14 @@ module _ (t : ℕ) where
       let en : Entry g k at = rw there (tb .each k below) in
       omega (arith, en .long, en .within)
 
-  -- src/lib.rt:204:17
   pub wide-requires-2 : lts.Need-wide-requires-2 (calls t) (at t) Post
   wide-requires-2 c κs =
       search needs
 
-  -- src/lib.rt:205:17
   pub entered-requires : lts.Need-entered-requires (calls t) (at t) Post
   entered-requires c κs =
       search needs
 
-  -- src/lib.rt:206:31
   pub array-share-prefix-sizes : lts.Need-array-share-prefix-sizes (calls t) (at t) Post
   array-share-prefix-sizes c =
       let a = c .before .before .before .before .before .before .before .before .before .before .before .before .before .before .before .before .before .before .before .before .before .before .args in
@@ -235,7 +215,6 @@ module _ (t : ℕ) where
       let few = en .variables in
       omega (arith, few, many, len)
 
-  -- src/lib.rt:206:31
   pub slice-aggregate-list : lts.Need-slice-aggregate-list (calls t) (at t) Post
   slice-aggregate-list c =
       let a = c .before .before .before .before .before .before .before .before .before .before .before .before .before .before .before .before .before .before .before .before .before .before .before .args in
@@ -256,7 +235,6 @@ module _ (t : ℕ) where
       let few = en .variables in
       simp length-take (omega (arith, few, many, len))
 
-  -- src/lib.rt:206:13
   pub list-requires : lts.Need-list-requires (calls t) (at t) Post
   list-requires c κs =
       let a = c .before .before .before .before .before .before .before .before .before .before .before .before .before .before .before .before .before .before .before .before .before .before .before .before .args in
@@ -287,7 +265,6 @@ module _ (t : ℕ) where
         ),
       )
 
-  -- src/lib.rt:171:1
   pub returns-2 : lts.Need-returns-2 (calls t) (at t) Post
   returns-2 c =
       let a = c .before .before .before .before .before .before .before .before .before .before .before .before .before .before .before .before .args in
@@ -305,7 +282,6 @@ module _ (t : ℕ) where
       let args : Arguments l g at (now (a .vars)) (operandsOf (a .scope) (now (a .regs))) (now (a .regs)) sz G = c .before .before .arguments .ensures in
       does-as _ _ _ _ _ (callRun (a .m) (a .base) l g f) (call-over (a .m) (a .base) l g (now (a .vars)) (a .scope) (now (a .regs)) at below en sz G args (c .enum-told .given .1)) (does-end (now (a .out)) (a .st) 24 (a .base))
 
-  -- src/lib.rt:171:1
   pub returns-3 : lts.Need-returns-3 (calls t) (at t) Post
   returns-3 c =
       let a = c .before .before .before .before .before .before .before .before .before .before .before .before .before .before .before .before .args in
@@ -323,12 +299,10 @@ module _ (t : ℕ) where
       let args : Arguments l g at (now (a .vars)) (operandsOf (a .scope) (now (a .regs))) (now (a .regs)) sz G = c .before .before .arguments .ensures in
       does-as _ _ _ _ _ (callRun (a .m) (a .base) l g f) (call-stuck (a .m) (a .base) l g (now (a .vars)) (a .scope) (now (a .regs)) at below en sz G args (c .enum-told2 .given .1)) (does-stuck (now (a .out)) (a .st) _)
 
-  -- src/lib.rt:171:1
   pub same-length : lts.Need-same-length (calls t) (at t) Post
   same-length c =
       omega arith
 
-  -- src/lib.rt:171:1
   pub returns-4 : lts.Need-returns-4 (calls t) (at t) Post
   returns-4 c =
       let a = c .before .before .before .before .before .before .before .before .before .before .before .before .before .before .before .before .before .before .before .before .before .before .before .before .before .before .before .args in

@@ -49,7 +49,6 @@ abbrev pub μ-loop : lts.MeasureT-loop
     total - i
 
 module _ (t : ℕ) where
-  -- src/lib.rt:141:9
   pub tally-requires : lts.Need-tally-requires (calls t) (at t) Post Inv-loop μ-loop
   tally-requires c κs =
       let a = c .before .before .before .before .before .args in
@@ -64,22 +63,18 @@ module _ (t : ℕ) where
       let by = range-back {z = a .y} iy in
       (rw bx ix, rw by iy)
 
-  -- src/lib.rt:142:9
   pub deeper-requires : lts.Need-deeper-requires (calls t) (at t) Post Inv-loop μ-loop
   deeper-requires c κs =
       omega arith
 
-  -- src/lib.rt:144:17
   pub add-count : lts.Need-add-count (calls t) (at t) Post Inv-loop μ-loop
   add-count c =
       omega (arith, c .before .before .before .before .before .before .before .pre .1 .0 .few)
 
-  -- src/lib.rt:146:5
   pub copied-requires : lts.Need-copied-requires (calls t) (at t) Post Inv-loop μ-loop
   copied-requires c κs =
       omega (arith, c .before .before .before .before .before .before .before .before .pre .1 .0 .few)
 
-  -- src/lib.rt:149:5
   pub loop-holds : lts.Need-loop-holds (calls t) (at t) Post Inv-loop μ-loop
   loop-holds c =
       let a = c .before .before .before .before .before .before .before .before .before .args in
@@ -94,12 +89,10 @@ module _ (t : ℕ) where
       let by = range-back {z = a .y} iy in
       ((λ x r d. does-as _ _ _ _ _ _ (sym (rounds-start (a .m) (a .base) (a .place) X Y l g (now (a .vars)) (a .scope) (now (a .regs)) (c .before .before .before .tally .result) (c .before .before .before .tally .ensures .0))) d), refl, omega arith, c .copied .ensures .0, c .copied .ensures .1)
 
-  -- src/lib.rt:152:13
   pub same-length : lts.Need-same-length (calls t) (at t) Post Inv-loop μ-loop
   same-length c =
       omega arith
 
-  -- src/lib.rt:152:13
   pub returns : lts.Need-returns (calls t) (at t) Post Inv-loop μ-loop
   returns c =
       let a = c .before .before .before .before .before .before .before .before .before .before .before .before .before .args in
@@ -118,12 +111,10 @@ module _ (t : ℕ) where
       let more = rounds-more (a .m) (a .base) (a .place) X Y l g (now (a .vars)) (a .scope) (now (a .regs)) (total - i .i) (i .i) (omega arith) in
       rw (bx, by) at (i .inv .0 _ _ (does-as _ _ _ _ _ (roundsFrom (a .m) (a .base) (a .place) X Y l g f (total - i .i) (i .i)) more (step-full (a .m .limit) (a .m .room) (i .out) (i .s) (a .place) _ (omega arith))))
 
-  -- src/lib.rt:154:21
   pub add-taken : lts.Need-add-taken (calls t) (at t) Post Inv-loop μ-loop
   add-taken c =
       omega arith
 
-  -- src/lib.rt:159:21
   pub turn-requires : lts.Need-turn-requires (calls t) (at t) Post Inv-loop μ-loop
   turn-requires c κs =
       let a = c .before .before .before .before .before .before .before .before .before .before .before .before .before .args in
@@ -138,7 +129,6 @@ module _ (t : ℕ) where
       let by = range-back {z = a .y} iy in
       (rw bx ix, rw by iy, omega (arith, c .before .before .before .before .before .before .before .tally .ensures .1))
 
-  -- src/lib.rt:159:9
   pub mul-all : lts.Need-mul-all (calls t) (at t) Post Inv-loop μ-loop
   mul-all c =
       let a = c .before .before .before .before .before .before .before .before .before .before .before .before .before .before .args in
@@ -150,7 +140,6 @@ module _ (t : ℕ) where
       let n = length (now (a .vars)) in
       omega (arith, i .inv .4, c .before .before .before .before .before .before .before .before .before .before .before .before .before .before .pre .1 .0 .few, c .before .before .before .before .before .before .before .before .before .before .before .before .before .before .pre .1 .1 .1 .2)
 
-  -- src/lib.rt:159:9
   pub array-set-from-all : lts.Need-array-set-from-all (calls t) (at t) Post Inv-loop μ-loop
   array-set-from-all c =
       let a = c .before .before .before .before .before .before .before .before .before .before .before .before .before .before .args in
@@ -162,7 +151,6 @@ module _ (t : ℕ) where
       let n = length (now (a .vars)) in
       omega (arith, i .inv .4, c .before .before .before .before .before .before .before .before .before .before .before .before .before .before .pre .1 .0 .few, c .before .before .before .before .before .before .before .before .before .before .before .before .before .before .pre .1 .1 .1 .2)
 
-  -- src/lib.rt:160:31
   pub array-share-prefix-all : lts.Need-array-share-prefix-all (calls t) (at t) Post Inv-loop μ-loop
   array-share-prefix-all c =
       let a = c .before .before .before .before .before .before .before .before .before .before .before .before .before .before .args in
@@ -174,7 +162,6 @@ module _ (t : ℕ) where
       let n = length (now (a .vars)) in
       simp length-set (omega (arith, i .inv .4, c .before .before .before .before .before .before .before .before .before .before .before .before .before .before .pre .1 .0 .few, c .before .before .before .before .before .before .before .before .before .before .before .before .before .before .pre .1 .1 .1 .2))
 
-  -- src/lib.rt:160:31
   pub slice-aggregate-list : lts.Need-slice-aggregate-list (calls t) (at t) Post Inv-loop μ-loop
   slice-aggregate-list c =
       let a = c .before .before .before .before .before .before .before .before .before .before .before .before .before .before .before .args in
@@ -186,7 +173,6 @@ module _ (t : ℕ) where
       let n = length (now (a .vars)) in
       simp (length-take, length-set) (omega (arith, i .inv .4, c .before .before .before .before .before .before .before .before .before .before .before .before .before .before .before .pre .1 .0 .few, c .before .before .before .before .before .before .before .before .before .before .before .before .before .before .before .pre .1 .1 .1 .2))
 
-  -- src/lib.rt:160:13
   pub list-requires : lts.Need-list-requires (calls t) (at t) Post Inv-loop μ-loop
   list-requires c κs =
       let a = c .before .before .before .before .before .before .before .before .before .before .before .before .before .before .before .before .args in
@@ -205,17 +191,14 @@ module _ (t : ℕ) where
       let k : length (take (n + 1) (set (i .all) n (toZ w64 (ofZ w64 (c .before .before .turn .result))))) ≡ n + 1 = simp (length-take, length-set) (omega (arith, i .inv .4, c .before .before .before .before .before .before .before .before .before .before .before .before .before .before .before .before .pre .1 .0 .few, c .before .before .before .before .before .before .before .before .before .before .before .before .before .before .before .before .pre .1 .1 .1 .2)) in
       rw (c .before .before .before .before .before .before .before .before .before .deeper .ensures) (omega (arith, c .before .before .before .before .before .before .before .before .before .before .before .before .before .before .before .before .pre .0), (record { few = omega (arith, k, c .before .before .before .before .before .before .before .before .before .before .before .before .before .before .before .before .pre .1 .0 .few, c .before .before .before .before .before .before .before .before .before .before .before .before .before .before .before .before .pre .1 .1 .1 .2); whole = omega (arith, c .before .before .before .before .before .before .before .before .before .before .before .before .before .before .before .before .pre .1 .0 .whole, i .inv .1); near = c .before .before .before .before .before .before .before .before .before .before .before .before .before .before .before .before .pre .1 .0 .near }, c .before .before .before .before .before .before .before .before .before .before .before .before .before .before .before .before .pre .1 .1 .0))
 
-  -- src/lib.rt:161:27
   pub enum-known-r : lts.Need-enum-known-r (calls t) (at t) Post Inv-loop μ-loop
   enum-known-r c =
       search needs
 
-  -- src/lib.rt:162:13
   pub same-length-2 : lts.Need-same-length-2 (calls t) (at t) Post Inv-loop μ-loop
   same-length-2 c =
       omega arith
 
-  -- src/lib.rt:162:13
   pub returns-2 : lts.Need-returns-2 (calls t) (at t) Post Inv-loop μ-loop
   returns-2 c =
       let a = c .before .before .before .before .before .before .before .before .before .before .before .before .before .before .before .before .before .before .before .before .args in
@@ -241,17 +224,14 @@ module _ (t : ℕ) where
       let more = rounds-more (a .m) (a .base) (a .place) X Y l g (now (a .vars)) (a .scope) (now (a .regs)) (total - i .i) (i .i) (omega arith) in
       rw (bx, by) at (i .inv .0 _ _ (does-as _ _ _ _ _ (roundsFrom (a .m) (a .base) (a .place) X Y l g f (total - i .i) (i .i)) more (step-taken (a .m .limit) (a .m .room) (i .out) (i .s) e0 (a .place) _ _ _ (omega arith) refl refl (does-other _ _ _ _ _ _ db (c .match .keys2)))))
 
-  -- src/lib.rt:165:9
   pub add-i : lts.Need-add-i (calls t) (at t) Post Inv-loop μ-loop
   add-i c =
       omega arith
 
-  -- src/lib.rt:149:5
   pub loop-less : lts.Need-loop-less (calls t) (at t) Post Inv-loop μ-loop
   loop-less c =
       omega arith
 
-  -- src/lib.rt:149:5
   pub loop-again : lts.Need-loop-again (calls t) (at t) Post Inv-loop μ-loop
   loop-again c =
       let a = c .before .before .before .before .before .before .before .before .before .before .before .before .before .before .before .before .before .before .before .before .before .before .args in
@@ -278,12 +258,10 @@ module _ (t : ℕ) where
       let e : total - i .i - 1 ≡ total - (i .i + 1) = omega arith in
       ((λ x r d. i .inv .0 x r (does-as _ _ _ _ _ (roundsFrom (a .m) (a .base) (a .place) X Y l g f (total - i .i) (i .i)) more (step-taken (a .m .limit) (a .m .room) (i .out) (i .s) e0 (a .place) _ _ _ (omega arith) refl refl (does-then _ _ _ _ _ _ _ _ _ db (c .before .r .given .1) (rw e d))))), omega arith, omega arith, take-before n (i .all) _ ∙ i .inv .3, simp length-set (i .inv .4))
 
-  -- src/lib.rt:121:1
   pub same-length-3 : lts.Need-same-length-3 (calls t) (at t) Post Inv-loop μ-loop
   same-length-3 c =
       omega arith
 
-  -- src/lib.rt:121:1
   pub returns-3 : lts.Need-returns-3 (calls t) (at t) Post Inv-loop μ-loop
   returns-3 c =
       let a = c .before .before .before .before .before .before .before .before .before .before .before .args in

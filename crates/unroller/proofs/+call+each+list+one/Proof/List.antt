@@ -49,12 +49,10 @@ abbrev pub μ-loop : lts.MeasureT-loop
     w .to - w .at
 
 module _ (t : ℕ) where
-  -- src/lib.rt:97:8
   pub broken-requires : lts.Need-broken-requires (calls t) (at t) Post Inv-loop μ-loop
   broken-requires c κs =
       search needs
 
-  -- src/lib.rt:98:9
   pub returns : lts.Need-returns (calls t) (at t) Post Inv-loop μ-loop
   returns c =
       let a = c .before .before .before .before .before .before .before .args in
@@ -63,12 +61,10 @@ module _ (t : ℕ) where
       let f = frameIn (a .m) (now (a .vars)) (a .scope) (now (a .regs)) in
       does-as _ _ _ _ _ (listRun (a .m) (a .base) l g f) (list-broken (a .m) (a .base) l g f (a .m .back) refl (sym (c .before .broken .ensures) ∙ c .if1 .taken)) (does-stuck (now (a .out)) (a .st) _)
 
-  -- src/lib.rt:100:9
   pub whole-requires : lts.Need-whole-requires (calls t) (at t) Post Inv-loop μ-loop
   whole-requires c κs =
       search needs
 
-  -- src/lib.rt:102:5
   pub loop-holds : lts.Need-loop-holds (calls t) (at t) Post Inv-loop μ-loop
   unfolding wholeOf
   loop-holds c =
@@ -78,28 +74,23 @@ module _ (t : ℕ) where
       let f = frameIn (a .m) (now (a .vars)) (a .scope) (now (a .regs)) in
       rw (c .whole .ensures) ((λ x r d. does-as _ _ _ _ _ _ (sym (rest-start (a .m) (a .base) l g f)) d), refl, walk-start l (a .m .back) (sym (c .before .before .broken .ensures) ∙ c .before .if1 .left))
 
-  -- src/lib.rt:103:9
   pub seek-requires : lts.Need-seek-requires (calls t) (at t) Post Inv-loop μ-loop
   seek-requires c κs =
       let i = c .before .before .loop in
       (i .inv .2, c .if2 .taken, omega (arith, c .before .before .before .before .before .before .before .before .before .before .before .pre .1 .0 .near))
 
-  -- src/lib.rt:105:39
   pub header-at-requires : lts.Need-header-at-requires (calls t) (at t) Post Inv-loop μ-loop
   header-at-requires c κs =
       omega arith
 
-  -- src/lib.rt:105:27
   pub enum-known-tag : lts.Need-enum-known-tag (calls t) (at t) Post Inv-loop μ-loop
   enum-known-tag c =
       search needs
 
-  -- src/lib.rt:106:13
   pub same-length : lts.Need-same-length (calls t) (at t) Post Inv-loop μ-loop
   same-length c =
       omega arith
 
-  -- src/lib.rt:106:13
   pub returns-2 : lts.Need-returns-2 (calls t) (at t) Post Inv-loop μ-loop
   returns-2 c =
       let a = c .before .before .before .before .before .before .before .before .before .before .before .before .before .before .args in
@@ -113,7 +104,6 @@ module _ (t : ℕ) where
       let z = rw (sought .same-at, sought .same-to) at (walk-stops (a .m) (a .base) l g f (a .m .back) refl w (sought .walking) (sought .next) h (rw (c .before .header-at .ensures) at (c .match .keys2))) in
       i .inv .0 _ _ (does-as _ _ _ _ _ (restRun (a .m) (a .base) (i .w .at) (i .w .to) l g f) z (does-stuck (i .out) (i .s) _))
 
-  -- src/lib.rt:108:20
   pub add-from : lts.Need-add-from (calls t) (at t) Post Inv-loop μ-loop
   add-from c =
       let a = c .before .before .before .before .before .before .before .before .before .before .before .before .before .before .before .before .args in
@@ -128,7 +118,6 @@ module _ (t : ℕ) where
       let turn = walk-turn (a .m) (a .base) l g f (a .m .back) refl w (c .before .tag .given .0 .0) (c .before .tag .given .0 .1 .0) (sought .walking) (sought .next) h e in
       omega (arith, turn .inside, turn .within, c .before .before .before .before .before .before .before .before .before .before .before .before .before .before .before .before .pre .1 .0 .near)
 
-  -- src/lib.rt:109:21
   pub add-place : lts.Need-add-place (calls t) (at t) Post Inv-loop μ-loop
   add-place c =
       let a = c .before .before .before .before .before .before .before .before .before .before .before .before .before .before .before .before .args in
@@ -143,7 +132,6 @@ module _ (t : ℕ) where
       let turn = walk-turn (a .m) (a .base) l g f (a .m .back) refl w (c .before .tag .given .0 .0) (c .before .tag .given .0 .1 .0) (sought .walking) (sought .next) h e in
       omega (arith, turn .inside, turn .within, c .before .before .before .before .before .before .before .before .before .before .before .before .before .before .before .before .pre .1 .0 .near)
 
-  -- src/lib.rt:110:21
   pub sub-one : lts.Need-sub-one (calls t) (at t) Post Inv-loop μ-loop
   sub-one c =
       let a = c .before .before .before .before .before .before .before .before .before .before .before .before .before .before .before .before .args in
@@ -158,7 +146,6 @@ module _ (t : ℕ) where
       let turn = walk-turn (a .m) (a .base) l g f (a .m .back) refl w (c .before .tag .given .0 .0) (c .before .tag .given .0 .1 .0) (sought .walking) (sought .next) h e in
       omega (arith, turn .inside, turn .within, c .before .before .before .before .before .before .before .before .before .before .before .before .before .before .before .before .pre .1 .0 .near)
 
-  -- src/lib.rt:110:21
   pub part-one-start : lts.Need-part-one-start (calls t) (at t) Post Inv-loop μ-loop
   part-one-start c =
       let a = c .before .before .before .before .before .before .before .before .before .before .before .before .before .before .before .before .args in
@@ -173,7 +160,6 @@ module _ (t : ℕ) where
       let turn = walk-turn (a .m) (a .base) l g f (a .m .back) refl w (c .before .tag .given .0 .0) (c .before .tag .given .0 .1 .0) (sought .walking) (sought .next) h e in
       omega (arith, turn .inside, turn .within, c .before .before .before .before .before .before .before .before .before .before .before .before .before .before .before .before .pre .1 .0 .near)
 
-  -- src/lib.rt:110:21
   pub part-one-end : lts.Need-part-one-end (calls t) (at t) Post Inv-loop μ-loop
   part-one-end c =
       let a = c .before .before .before .before .before .before .before .before .before .before .before .before .before .before .before .before .args in
@@ -188,7 +174,6 @@ module _ (t : ℕ) where
       let turn = walk-turn (a .m) (a .base) l g f (a .m .back) refl w (c .before .tag .given .0 .0) (c .before .tag .given .0 .1 .0) (sought .walking) (sought .next) h e in
       omega (arith, turn .inside, turn .within, c .before .before .before .before .before .before .before .before .before .before .before .before .before .before .before .before .pre .1 .0 .near)
 
-  -- src/lib.rt:110:13
   pub one-requires : lts.Need-one-requires (calls t) (at t) Post Inv-loop μ-loop
   one-requires c κs =
       let a = c .before .before .before .before .before .before .before .before .before .before .before .before .before .before .before .before .before .before .args in
@@ -204,17 +189,14 @@ module _ (t : ℕ) where
       let k : length (take (c .before .before .before .tag .given .0 .1 .0 - (w .here + 3)) (drop (w .here + 3) l)) ≡ c .before .before .before .tag .given .0 .1 .0 - (w .here + 3) = simp (length-take, length-drop) (omega (arith, turn .within)) in
       (omega (arith, k, turn .inside, turn .within, c .before .before .before .before .before .before .before .before .before .before .before .before .before .before .before .before .before .before .pre .0), (record { few = c .before .before .before .before .before .before .before .before .before .before .before .before .before .before .before .before .before .before .pre .1 .0 .few; whole = omega (arith, c .before .before .before .before .before .before .before .before .before .before .before .before .before .before .before .before .before .before .pre .1 .0 .whole, i .inv .1); near = omega (arith, k, turn .inside, turn .within, c .before .before .before .before .before .before .before .before .before .before .before .before .before .before .before .before .before .before .pre .1 .0 .near) }, c .before .before .before .before .before .before .before .before .before .before .before .before .before .before .before .before .before .before .pre .1 .1))
 
-  -- src/lib.rt:111:27
   pub enum-known-r : lts.Need-enum-known-r (calls t) (at t) Post Inv-loop μ-loop
   enum-known-r c =
       search needs
 
-  -- src/lib.rt:112:13
   pub same-length-2 : lts.Need-same-length-2 (calls t) (at t) Post Inv-loop μ-loop
   same-length-2 c =
       omega arith
 
-  -- src/lib.rt:112:13
   pub returns-3 : lts.Need-returns-3 (calls t) (at t) Post Inv-loop μ-loop
   returns-3 c =
       let a = c .before .before .before .before .before .before .before .before .before .before .before .before .before .before .before .before .before .before .before .before .before .before .args in
@@ -230,12 +212,10 @@ module _ (t : ℕ) where
       let z = (λ j. restRun (a .m) (a .base) (sym (sought .same-at) j) (sym (sought .same-to) j) l g f) ∙ turn .runs-on in
       i .inv .0 _ _ (does-as _ _ _ _ _ (restRun (a .m) (a .base) (i .w .at) (i .w .to) l g f) z (does-other _ _ _ _ _ _ (c .before .before .before .one .ensures) (c .match2 .keys2)))
 
-  -- src/lib.rt:115:9
   pub passed-requires : lts.Need-passed-requires (calls t) (at t) Post Inv-loop μ-loop
   passed-requires c κs =
       search needs
 
-  -- src/lib.rt:102:5
   pub loop-less : lts.Need-loop-less (calls t) (at t) Post Inv-loop μ-loop
   loop-less c =
       let a = c .before .before .before .before .before .before .before .before .before .before .before .before .before .before .before .before .before .before .before .before .before .before .before .before .before .args in
@@ -250,7 +230,6 @@ module _ (t : ℕ) where
       let turn = walk-turn (a .m) (a .base) l g f (a .m .back) refl w (c .before .before .before .before .before .before .before .before .before .before .tag .given .0 .0) (c .before .before .before .before .before .before .before .before .before .before .tag .given .0 .1 .0) (sought .walking) (sought .next) h e in
       rw (c .passed .ensures) (omega (arith, turn .less, sought .same-at, sought .same-to))
 
-  -- src/lib.rt:102:5
   pub loop-again : lts.Need-loop-again (calls t) (at t) Post Inv-loop μ-loop
   loop-again c =
       let a = c .before .before .before .before .before .before .before .before .before .before .before .before .before .before .before .before .before .before .before .before .before .before .before .before .before .args in
@@ -270,12 +249,10 @@ module _ (t : ℕ) where
         rw (c .passed .ensures) (turn .walking),
       )
 
-  -- src/lib.rt:80:1
   pub same-length-3 : lts.Need-same-length-3 (calls t) (at t) Post Inv-loop μ-loop
   same-length-3 c =
       omega arith
 
-  -- src/lib.rt:80:1
   pub returns-4 : lts.Need-returns-4 (calls t) (at t) Post Inv-loop μ-loop
   returns-4 c =
       let a = c .before .before .before .before .before .before .before .before .before .before .before .args in

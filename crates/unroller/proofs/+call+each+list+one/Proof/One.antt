@@ -41,17 +41,14 @@ use Rattle.unroller.proofs.Listing.{list-broken, walk-start, walk-turn,
 use Rattle.unroller.proofs.Rounding.{rounds-done, rounds-more, rounds-start, body-is, turn-fits, one-more, take-before}
 
 module _ (t : ℕ) where
-  -- src/lib.rt:54:9
   pub step-requires : lts.Need-step-requires (calls t) (at t) Post
   step-requires c κs =
       search needs
 
-  -- src/lib.rt:55:23
   pub enum-known-r : lts.Need-enum-known-r (calls t) (at t) Post
   enum-known-r c =
       search needs
 
-  -- src/lib.rt:56:9
   pub returns : lts.Need-returns (calls t) (at t) Post
   returns c =
       let a = c .before .before .before .before .before .before .before .args in
@@ -60,17 +57,14 @@ module _ (t : ℕ) where
       let f = frameIn (a .m) (now (a .vars)) (a .scope) (now (a .regs)) in
       one-stops (a .m) (a .base) (a .tag) l g f (now (a .out)) (a .st) (c .before .step .result) (c .before .step .ensures) (c .match .keys2)
 
-  -- src/lib.rt:59:9
   pub act-requires : lts.Need-act-requires (calls t) (at t) Post
   act-requires c κs =
       c .before .before .before .before .before .before .before .before .before .before .before .pre .1 .0 .whole
 
-  -- src/lib.rt:59:9
   pub same-length : lts.Need-same-length (calls t) (at t) Post
   same-length c =
       omega arith
 
-  -- src/lib.rt:59:9
   pub returns-2 : lts.Need-returns-2 (calls t) (at t) Post
   returns-2 c =
       let a = c .before .before .before .before .before .before .before .before .before .before .before .before .before .before .args in
@@ -82,7 +76,6 @@ module _ (t : ℕ) where
       let w = q .enterable in
       does-as _ _ _ _ _ (oneRun (a .m) (a .base) (a .tag) l g f) (one-acts (a .m) (a .base) (a .tag) l g f (w .deep) (w .low) (c .before .before .before .before .if1 .taken)) (step-taken (a .m .limit) (a .m .room) (now (a .out)) (a .st) s (a .base) _ _ _ (q .left) (q .same) (q .more) (c .before .before .act .ensures))
 
-  -- src/lib.rt:62:9
   pub call-requires : lts.Need-call-requires (calls t) (at t) Post
   call-requires c κs =
       let a = c .before .before .before .before .before .before .before .before .before .before .before .before .args in
@@ -94,12 +87,10 @@ module _ (t : ℕ) where
       let w = q .enterable in
       (omega arith, (c .before .before .before .before .before .before .before .before .before .before .before .before .pre .1 .0, (c .before .before .before .before .before .before .before .before .before .before .before .before .pre .1 .1, omega (arith, nameless-not (a .tag) (length l) (w .named) (c .before .if2 .taken)))))
 
-  -- src/lib.rt:62:9
   pub same-length-2 : lts.Need-same-length-2 (calls t) (at t) Post
   same-length-2 c =
       omega arith
 
-  -- src/lib.rt:62:9
   pub returns-3 : lts.Need-returns-3 (calls t) (at t) Post
   returns-3 c =
       let a = c .before .before .before .before .before .before .before .before .before .before .before .before .before .before .before .args in
@@ -111,12 +102,10 @@ module _ (t : ℕ) where
       let w = q .enterable in
       does-as _ _ _ _ _ (oneRun (a .m) (a .base) (a .tag) l g f) (one-call (a .m) (a .base) (a .tag) l g f (w .deep) (c .before .before .before .before .if2 .taken) (nameless-not (a .tag) (length l) (w .named) (c .before .before .before .before .if2 .taken))) (step-taken (a .m .limit) (a .m .room) (now (a .out)) (a .st) s (a .base) _ _ _ (q .left) (q .same) (q .more) (c .before .before .call .ensures))
 
-  -- src/lib.rt:64:17
   pub add-inner : lts.Need-add-inner (calls t) (at t) Post
   add-inner c =
       omega (arith, c .before .before .before .before .before .before .before .before .before .before .before .pre .1 .0 .near)
 
-  -- src/lib.rt:66:13
   pub deeper-requires : lts.Need-deeper-requires (calls t) (at t) Post
   deeper-requires c κs =
       let a = c .before .before .before .before .before .before .before .before .before .before .before .before .before .args in
@@ -128,7 +117,6 @@ module _ (t : ℕ) where
       let w = q .enterable in
       omega (arith, w .deep)
 
-  -- src/lib.rt:67:9
   pub list-requires : lts.Need-list-requires (calls t) (at t) Post
   list-requires c κs =
       let a = c .before .before .before .before .before .before .before .before .before .before .before .before .before .before .before .args in
@@ -140,12 +128,10 @@ module _ (t : ℕ) where
       let w = q .enterable in
       rw (c .before .deeper .ensures) (omega arith, (record { few = omega (arith, c .before .before .before .before .before .before .before .before .before .before .before .before .before .before .before .pre .1 .0 .few); whole = c .before .before .before .before .before .before .before .before .before .before .before .before .before .before .before .pre .1 .0 .whole; near = c .before .before .before .before .before .before .before .before .before .before .before .before .before .before .before .pre .1 .0 .near }, c .before .before .before .before .before .before .before .before .before .before .before .before .before .before .before .pre .1 .1))
 
-  -- src/lib.rt:67:9
   pub same-length-3 : lts.Need-same-length-3 (calls t) (at t) Post
   same-length-3 c =
       omega arith
 
-  -- src/lib.rt:67:9
   pub returns-4 : lts.Need-returns-4 (calls t) (at t) Post
   returns-4 c =
       let a = c .before .before .before .before .before .before .before .before .before .before .before .before .before .before .before .before .before .before .args in
@@ -159,17 +145,14 @@ module _ (t : ℕ) where
       let d : Does (now (a .out)) s _ (c .before .before .list .result) (listRun n (a .base + 3) l g (frameIn n (now (a .vars)) (a .scope) (now (a .regs)))) = rw (c .before .before .before .before .deeper .ensures) at (c .before .before .list .ensures) in
       does-as _ _ _ _ _ (oneRun (a .m) (a .base) (a .tag) l g f) (one-reverse (a .m) (a .base) (a .tag) l g f (w .deep) (c .before .before .before .before .before .before .if3 .taken)) (step-taken (a .m .limit) (a .m .room) (now (a .out)) (a .st) s (a .base) _ _ _ (q .left) (q .same) (q .more) (does-as _ _ _ _ _ _ (reverse-is (a .m) (a .base) l g (now (a .vars)) (a .scope) (now (a .regs))) d))
 
-  -- src/lib.rt:69:11
   pub bounds-of-requires : lts.Need-bounds-of-requires (calls t) (at t) Post
   bounds-of-requires c κs =
       search needs
 
-  -- src/lib.rt:70:21
   pub enum-known-x : lts.Need-enum-known-x (calls t) (at t) Post
   enum-known-x c =
       search needs
 
-  -- src/lib.rt:71:24
   pub add-body : lts.Need-add-body (calls t) (at t) Post
   add-body c =
       let a = c .before .before .before .before .before .before .before .before .before .before .before .before .before .before .before .before .args in
@@ -186,7 +169,6 @@ module _ (t : ℕ) where
       let b = for-body (a .m) (a .base) (a .tag) l g (now (a .vars)) (a .scope) (now (a .regs)) (w .deep) t38 (c .before .before .before .bounds-of .result) (c .before .before .before .bounds-of .ensures) x y to (c .before .x .given .1) in
       omega (arith, c .before .before .before .before .before .before .before .before .before .before .before .before .before .before .before .before .pre .1 .0 .near, b .within)
 
-  -- src/lib.rt:72:18
   pub sub-each : lts.Need-sub-each (calls t) (at t) Post
   sub-each c =
       let a = c .before .before .before .before .before .before .before .before .before .before .before .before .before .before .before .before .args in
@@ -203,7 +185,6 @@ module _ (t : ℕ) where
       let b = for-body (a .m) (a .base) (a .tag) l g (now (a .vars)) (a .scope) (now (a .regs)) (w .deep) t38 (c .before .before .before .bounds-of .result) (c .before .before .before .bounds-of .ensures) x y to (c .before .x .given .1) in
       omega (arith, b .within)
 
-  -- src/lib.rt:72:18
   pub part-each-start : lts.Need-part-each-start (calls t) (at t) Post
   part-each-start c =
       let a = c .before .before .before .before .before .before .before .before .before .before .before .before .before .before .before .before .args in
@@ -220,7 +201,6 @@ module _ (t : ℕ) where
       let b = for-body (a .m) (a .base) (a .tag) l g (now (a .vars)) (a .scope) (now (a .regs)) (w .deep) t38 (c .before .before .before .bounds-of .result) (c .before .before .before .bounds-of .ensures) x y to (c .before .x .given .1) in
       omega (arith, b .within)
 
-  -- src/lib.rt:72:18
   pub part-each-end : lts.Need-part-each-end (calls t) (at t) Post
   part-each-end c =
       let a = c .before .before .before .before .before .before .before .before .before .before .before .before .before .before .before .before .args in
@@ -237,7 +217,6 @@ module _ (t : ℕ) where
       let b = for-body (a .m) (a .base) (a .tag) l g (now (a .vars)) (a .scope) (now (a .regs)) (w .deep) t38 (c .before .before .before .bounds-of .result) (c .before .before .before .bounds-of .ensures) x y to (c .before .x .given .1) in
       omega (arith, b .within)
 
-  -- src/lib.rt:72:13
   pub each-requires : lts.Need-each-requires (calls t) (at t) Post
   each-requires c κs =
       let a = c .before .before .before .before .before .before .before .before .before .before .before .before .before .before .before .before .before .before .args in
@@ -255,22 +234,18 @@ module _ (t : ℕ) where
       let k : length (take (length l - to) (drop to l)) ≡ length l - to = simp (length-take, length-drop) (omega arith) in
       (omega (arith, k, b .within, b .past), (record { few = c .before .before .before .before .before .before .before .before .before .before .before .before .before .before .before .before .before .before .pre .1 .0 .few; whole = c .before .before .before .before .before .before .before .before .before .before .before .before .before .before .before .before .before .before .pre .1 .0 .whole; near = omega (arith, k, b .within, c .before .before .before .before .before .before .before .before .before .before .before .before .before .before .before .before .before .before .pre .1 .0 .near) }, (c .before .before .before .before .before .before .before .before .before .before .before .before .before .before .before .before .before .before .pre .1 .1, (rw (range-back {z = x} (b .low)) (b .low), rw (range-back {z = y} (b .high)) (b .high), omega (arith, w .deep)))))
 
-  -- src/lib.rt:74:25
   pub enum-told : lts.Need-enum-told (calls t) (at t) Post
   enum-told c =
       search needs
 
-  -- src/lib.rt:75:26
   pub enum-told-2 : lts.Need-enum-told-2 (calls t) (at t) Post
   enum-told-2 c =
       search needs
 
-  -- src/lib.rt:37:1
   pub same-length-4 : lts.Need-same-length-4 (calls t) (at t) Post
   same-length-4 c =
       omega arith
 
-  -- src/lib.rt:37:1
   pub returns-5 : lts.Need-returns-5 (calls t) (at t) Post
   returns-5 c =
       let a = c .before .before .before .before .before .before .before .before .before .before .before .before .before .before .before .before .before .before .before .before .before .args in
@@ -289,7 +264,6 @@ module _ (t : ℕ) where
       let d : Does (now (a .out)) s _ (c .before .before .each .result) (eachRun (a .m) (a .base + 3 + to) (a .base) x y (drop to l) g f) = rw (range-back {z = x} (b .low), range-back {z = y} (b .high), k) at (c .before .before .each .ensures) in
       does-as _ _ _ _ _ (oneRun (a .m) (a .base) (a .tag) l g f) (for-are (a .m) (a .base) (a .tag) l g (now (a .vars)) (a .scope) (now (a .regs)) (w .deep) t38 (c .before .before .before .before .before .before .before .before .bounds-of .result) (c .before .before .before .before .before .before .before .before .bounds-of .ensures) x y to (c .before .before .before .before .before .before .x .given .1)) (step-taken (a .m .limit) (a .m .room) (now (a .out)) (a .st) s (a .base) _ _ _ (q .left) (q .same) (q .more) d)
 
-  -- src/lib.rt:37:1
   pub returns-6 : lts.Need-returns-6 (calls t) (at t) Post
   returns-6 c =
       let a = c .before .before .before .before .before .before .before .before .before .before .before .before .before .before .before .args in
@@ -302,7 +276,6 @@ module _ (t : ℕ) where
       let t38 : a .tag ≡ 38 = omega (arith, w .high) in
       does-as _ _ _ _ _ (oneRun (a .m) (a .base) (a .tag) l g f) (for-over (a .m) (a .base) (a .tag) l g (now (a .vars)) (a .scope) (now (a .regs)) (w .deep) t38 (c .before .before .bounds-of .result) (c .before .before .bounds-of .ensures) (c .enum-told .given .1)) (step-taken (a .m .limit) (a .m .room) (now (a .out)) (a .st) s (a .base) _ _ _ (q .left) (q .same) (q .more) (does-end (now (a .out)) s 24 (a .base)))
 
-  -- src/lib.rt:37:1
   pub returns-7 : lts.Need-returns-7 (calls t) (at t) Post
   returns-7 c =
       let a = c .before .before .before .before .before .before .before .before .before .before .before .before .before .before .before .args in

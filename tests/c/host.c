@@ -1,0 +1,197 @@
+/* A host: loads the paper's adder, checks it, and prints three instances and the whole run as lists of gates.
+ * Run it from the repository's root; it compares the lists with those in examples. */
+#include <metaqasm.h>
+#include <stdio.h>
+#include <string.h>
+
+#define MOST_RECORDS 1024
+
+/* What is asked: a family at sizes, or the whole run where the name is null; and the listing that is due, or null. */
+typedef struct {
+    const char *name;
+    uint32_t family;
+    uint8_t sizes[4];
+    size_t sizes_len;
+    uint64_t records;
+    const char *listing;
+} question;
+
+/* The families of the adder: 0 toffoli, 1 maj, 2 add with the index variable n. */
+static const question questions[] = {
+    {"toffoli", 0, {0}, 0, 16, NULL},
+    {"add at n = 0", 2, {0, 0, 0, 0}, 4, 18, "examples/adder.n0.list"},
+    {"add at n = 1", 2, {1, 0, 0, 0}, 4, 55, "examples/adder.n1.list"},
+    {NULL, 0, {0}, 0, 92, "examples/adder.list"},
+};
+
+static int passes = 0;
+static int failures = 0;
+
+/* Counts one expectation, and says what was not met. */
+static int expect(int met, const char *name, const char *what)
+{
+    if (met) {
+        passes++;
+    } else {
+        failures++;
+        printf("%s: expected %s\n", name, what);
+    }
+    return met;
+}
+
+/* Reads a file whole; a length over the room says that it does not fit, and -1 that it cannot be read. */
+static long load(const char *path, uint8_t *bytes, size_t room)
+{
+    FILE *file = fopen(path, "rb");
+    size_t length;
+    int bad;
+
+    if (file == NULL) {
+        printf("%s: cannot be opened; run this from the repository's root\n", path);
+        return -1;
+    }
+    length = fread(bytes, 1, room, file);
+    bad = ferror(file);
+    if (!bad && length == room && fgetc(file) != EOF) {
+        length++;
+    }
+    fclose(file);
+    if (bad) {
+        printf("%s: cannot be read\n", path);
+        return -1;
+    }
+    return (long)length;
+}
+
+/* The two-byte number at a place, low byte first. */
+static unsigned two(const uint8_t *bytes)
+{
+    return bytes[0] | (unsigned)bytes[1] << 8;
+}
+
+/* Writes the line of one record. */
+static int line(char *text, size_t room, const uint8_t *record)
+{
+    static const char *const names[] = {"?", "h", "t", "tdg", "cx", "measure", "reset"};
+    const char *name = names[record[0] <= 6 ? record[0] : 0];
+    char condition[32] = "";
+
+    if (record[1] != 0) {
+        snprintf(condition, sizeof condition, "if %u %d ", two(record + 6), record[1] - 1);
+    }
+    if (record[0] == 4 || record[0] == 5) {
+        return snprintf(text, room, "%s%s %u %u\n", condition, name, two(record + 2), two(record + 4));
+    }
+    return snprintf(text, room, "%s%s %u\n", condition, name, two(record + 2));
+}
+
+/* Writes a line for each record, then the line of the result. */
+static void list(char *text, size_t room, const uint8_t *output, metaqasm_result result)
+{
+    size_t used = 0;
+    uint64_t i;
+
+    for (i = 0; i < result.records && used < room; i++) {
+        used += (size_t)line(text + used, room - used, output + 8 * i);
+    }
+    if (used < room) {
+        snprintf(text + used, room - used, "end %u %u %llu %llu\n", result.number, result.place,
+                 (unsigned long long)result.records, (unsigned long long)result.steps);
+    }
+}
+
+/* Compares a list with the listing in a file, whose first line says how it was made. */
+static void compare(const char *name, const char *path, const char *text)
+{
+    static uint8_t bytes[65536];
+    long length = load(path, bytes, sizeof bytes - 1);
+    const char *due;
+
+    if (!expect(length >= 0 && (size_t)length < sizeof bytes, path, "a listing that can be read")) {
+        return;
+    }
+    bytes[length] = 0;
+    due = strchr((const char *)bytes, '\n');
+    expect(due != NULL && strcmp(due + 1, text) == 0, name, path);
+}
+
+/* Asks one question, prints the list and compares it. */
+static void answer(const question *asked, const uint8_t *program, size_t length)
+{
+    static uint8_t output[8 * MOST_RECORDS];
+    static char text[64 * MOST_RECORDS];
+    const char *name = asked->name != NULL ? asked->name : "the whole run";
+    metaqasm_result result;
+
+    if (asked->name != NULL) {
+        result = metaqasm_instance(program, length, asked->family, asked->sizes, asked->sizes_len, 1000000, output,
+                                   sizeof output);
+    } else {
+        result = metaqasm_run(program, length, 1000000, output, sizeof output);
+    }
+    if (!expect(result.records <= MOST_RECORDS, name, "no more records than the output holds")) {
+        return;
+    }
+    list(text, sizeof text, output, result);
+    printf("%s:\n%s\n", name, text);
+    expect(result.number == 0 && result.records == asked->records, name, "a complete list of known length");
+    if (asked->listing != NULL) {
+        compare(name, asked->listing, text);
+    }
+}
+
+/* Whether all bytes are the same one. */
+static int all(const uint8_t *bytes, size_t length, uint8_t byte)
+{
+    size_t i;
+
+    for (i = 0; i < length; i++) {
+        if (bytes[i] != byte) {
+            return 0;
+        }
+    }
+    return 1;
+}
+
+/* Whether a result is the one that is due. */
+static int is(metaqasm_result result, uint32_t number, uint32_t place, uint64_t records, uint64_t steps)
+{
+    return result.number == number && result.place == place && result.records == records && result.steps == steps;
+}
+
+/* Asks for what cannot be had: no such family, no sizes, and an output that is too small. */
+static void refusals(const uint8_t *program, size_t length)
+{
+    static const uint8_t zero[4] = {0};
+    static const uint8_t first_two[16] = {4, 0, 0, 0, 2, 0, 0, 0, 4, 0, 1, 0, 2, 0, 0, 0};
+    uint8_t output[32];
+    metaqasm_result result;
+
+    memset(output, 0xA5, sizeof output);
+    result = metaqasm_instance(program, length, 3, zero, 4, 1000000, output, sizeof output);
+    expect(is(result, 20, 0, 0, 0) && all(output, sizeof output, 0xA5), "family 3", "20 and an untouched output");
+    result = metaqasm_instance(program, length, 2, zero, 0, 1000000, output, sizeof output);
+    expect(is(result, 21, 0, 0, 0) && all(output, sizeof output, 0xA5), "add without n", "21 and an untouched output");
+    /* 20 bytes hold two records: both cx of add; the third is due at the h of toffoli, whose tag is at 14. */
+    result = metaqasm_instance(program, length, 2, zero, 4, 1000000, output, 20);
+    expect(is(result, 27, 14, 2, 4), "add into 20 bytes", "27 at place 14 with 2 records and 4 steps");
+    expect(memcmp(output, first_two, sizeof first_two) == 0, "add into 20 bytes", "the first two records");
+    expect(all(output + 16, sizeof output - 16, 0xA5), "add into 20 bytes", "untouched bytes past the records");
+}
+
+int main(void)
+{
+    static uint8_t program[65536];
+    long length = load("examples/adder.bytes", program, sizeof program);
+    size_t i;
+
+    if (expect(length >= 0 && (size_t)length <= sizeof program, "examples/adder.bytes", "a program that can be read") &&
+        expect(is(metaqasm_check(program, (size_t)length), 0, 0, 0, 0), "adder", "a program that is accepted")) {
+        for (i = 0; i < sizeof questions / sizeof questions[0]; i++) {
+            answer(&questions[i], program, (size_t)length);
+        }
+        refusals(program, (size_t)length);
+    }
+    printf("%d passed, %d failed\n", passes, failures);
+    return failures != 0;
+}

@@ -1,0 +1,130 @@
+//! Prints the smallest stack on which the library answers the deepest programs.
+//!
+//! Use: `stack`, built for release. Each call is made in a process of its own,
+//! on a thread whose stack is halved in search of the smallest that will do.
+//! `stack CALL SHAPE KIB` makes one call and fails if it does not come to 0.
+
+use compare::ask::ask_library;
+use compare::{library, Call, Question};
+use generate::build::program;
+use generate::library::{Shape, SHAPES};
+use std::io::Write;
+use std::process::{Command, ExitCode, Stdio};
+
+/// The calls by name.
+const CALLS: [&str; 3] = ["check", "instance", "run"];
+/// A page in KiB; stacks are whole pages.
+const PAGE: usize = 4;
+/// The most pages that are tried.
+const MOST: usize = 65_536 / PAGE;
+const USE: &str = "use: stack, without arguments";
+
+/// Makes a call about program bytes; fails if it does not come to 0.
+fn once(call: &str, bytes: &[u8], sizes: &[u8]) -> Result<(), String> {
+    let family = 254;
+    let question = Question {
+        program: bytes,
+        call: match call {
+            "check" => Call::Check,
+            "instance" => Call::Instance { family, sizes },
+            _ => Call::Run,
+        },
+        limit: u64::MAX,
+        length: 64,
+    };
+    match ask_library(&question, &mut [0; 64]) {
+        Some(outcome) if outcome.number == 0 => Ok(()),
+        other => Err(format!("{call} gives {other:?}")),
+    }
+}
+
+/// The bytes of a shape's program that is deepest for a call.
+fn bytes(call: &str, shape: &Shape) -> Vec<u8> {
+    match call {
+        "check" => program(&shape.deepest_indexes()),
+        _ => program(&shape.deepest()),
+    }
+}
+
+/// Makes one call on a thread with a stack of so many KiB.
+fn on_a_thread(words: &[String]) -> Result<(), String> {
+    let [call, shape, kib] = words else {
+        return Err(USE.into());
+    };
+    let shape = shape.parse().ok().and_then(|n: usize| SHAPES.get(n));
+    let (Some(shape), Ok(kib)) = (shape, kib.parse::<usize>()) else {
+        return Err(USE.into());
+    };
+    let (call, bytes, sizes) = (call.clone(), bytes(call, shape), shape.sizes());
+    let thread = std::thread::Builder::new()
+        .stack_size(kib << 10)
+        .spawn(move || once(&call, &bytes, &sizes))
+        .map_err(|error| format!("no thread: {error}"))?;
+    thread.join().map_err(|_| "the thread failed")?
+}
+
+/// Whether a call ends well on a stack of so many pages.
+fn enough(call: &str, shape: usize, pages: usize) -> Result<bool, String> {
+    let me = std::env::current_exe().map_err(|error| format!("no program: {error}"))?;
+    let words = [call, &shape.to_string(), &(pages * PAGE).to_string()];
+    let child = Command::new(me).args(words).stderr(Stdio::null()).status();
+    let status = child.map_err(|error| format!("no process: {error}"))?;
+    Ok(status.success())
+}
+
+/// The smallest stack that will do, in KiB.
+fn smallest(call: &str, shape: usize) -> Result<usize, String> {
+    let (mut less, mut will_do) = (0, MOST);
+    if !enough(call, shape, will_do)? {
+        let kib = will_do * PAGE;
+        let name = SHAPES[shape].name;
+        return Err(format!("{call} fails on {kib} KiB: {name}"));
+    }
+    while will_do - less > 1 {
+        let pages = (less + will_do) / 2;
+        match enough(call, shape, pages)? {
+            true => will_do = pages,
+            false => less = pages,
+        }
+    }
+    Ok(will_do * PAGE)
+}
+
+/// Writes one line to standard output.
+fn say(line: &str) -> Result<(), String> {
+    writeln!(std::io::stdout(), "{line}").map_err(|error| format!("standard output: {error}"))
+}
+
+/// Measures all calls of all shapes.
+fn measure() -> Result<(), String> {
+    if let [one, ..] = library::missing()[..] {
+        return Err(format!("the archive lacks the call {one}"));
+    }
+    let mut most = 0;
+    for (number, shape) in SHAPES.iter().enumerate() {
+        for call in CALLS {
+            let kib = smallest(call, number)?;
+            say(&format!("{call:8} {:26} {kib:6} KiB", shape.name))?;
+            most = most.max(kib);
+        }
+    }
+    say(&format!("stack: a call needs at most {most} KiB"))
+}
+
+fn main() -> ExitCode {
+    let words: Vec<String> = std::env::args_os()
+        .skip(1)
+        .map(|word| word.to_string_lossy().into_owned())
+        .collect();
+    let done = match words.is_empty() {
+        true => measure(),
+        false => on_a_thread(&words),
+    };
+    match done {
+        Ok(()) => ExitCode::SUCCESS,
+        Err(message) => {
+            eprintln!("stack: {message}");
+            ExitCode::FAILURE
+        }
+    }
+}
