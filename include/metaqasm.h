@@ -16,8 +16,8 @@
  *
  *     stack: a call needs at most 7564 KiB
  *
- * (measured with the deepest programs by `cargo run --release -p compare --bin stack` in tests). A check alone needs at
- * most 152 KiB.
+ * beside what the host has in use there (measured with the deepest programs by `cargo run --release -p compare --bin stack`
+ * in tests). A check alone needs at most 152 KiB.
  */
 #ifndef METAQASM_H
 #define METAQASM_H

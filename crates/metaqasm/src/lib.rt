@@ -4,9 +4,10 @@ ghost use mathlib.Core.List.{List};
 ghost use Prim.Native.Nat.{ℕ, _*_, _≤_};
 ghost use lib.ListN.{length};
 ghost use Rattle.language.specs.Result.{finished, checkResult, instanceOutcome, runOutcome};
-ghost use Rattle.runs.specs.Concluded.{concluded};
+ghost use Rattle.runs.specs.Concluded.{concluded, resultIn};
 ghost use Rattle.metaqasm.specs.Answers.{answered, Told};
 use emit::Answer;
+use emit::State;
 use program_check::Outcome;
 
 // The answer of a call: number (0 for done), place, records and steps.
@@ -41,30 +42,27 @@ fn checked(program: &[u8]) -> MetaqasmResult
     }
 }
 
+// The result of a state.
+fn result(number: u32, place: u32, s: State) -> MetaqasmResult
+    ensures { λ r. ⌜ answered r ≡ resultIn number place s ⌝ }
+{
+    MetaqasmResult {
+        number,
+        place,
+        records: (s.at / 8) as u64,
+        steps: s.steps,
+    }
+}
+
 // The result of a run that came to an answer.
 fn told(a: Answer) -> MetaqasmResult
     requires { ⌜ Told a ⌝ }
     ensures { λ r. ⌜ ((output : List ℕ) → concluded output a ≡ finished (record { result = answered r; output = output })) ⌝ }
 {
     match a {
-        Answer::Going(s) => MetaqasmResult {
-            number: 0,
-            place: 0,
-            records: (s.at / 8) as u64,
-            steps: s.steps,
-        },
-        Answer::Ended(n, p, s) => MetaqasmResult {
-            number: n as u32,
-            place: p as u32,
-            records: (s.at / 8) as u64,
-            steps: s.steps,
-        },
-        Answer::Stuck => MetaqasmResult {
-            number: 0,
-            place: 0,
-            records: 0,
-            steps: 0,
-        },
+        Answer::Going(s) => result(0, 0, s),
+        Answer::Ended(n, p, s) => result(n as u32, p as u32, s),
+        Answer::Stuck => result(0, 0, State { at: 0, steps: 0 }),
     }
 }
 

@@ -419,12 +419,12 @@ fn sized(
     requires { ⌜ Tabled (now program) (now table) k ⌝ }
     ensures { λ r. ⌜ concluded (now (out .exit)) r ≡ instanceOf (some (familyWith limit (length (now (out .entry))) (now (program .entry)) k at)) (now (sizes .entry)) (now (out .entry)) ⌝ }
 {
-    let start = State { at: 0, steps: 0 };
+    let none = State { at: 0, steps: 0 };
     let m = fields::wide(program[at + 3]);
     let mut values = [0i64; 4];
     match layout::read_sizes(sizes, m, &mut values) {
-        Sizes::WrongLength => Answer::Ended(21, 0, start),
-        Sizes::TooLarge => Answer::Ended(22, 0, start),
+        Sizes::WrongLength => Answer::Ended(21, 0, none),
+        Sizes::TooLarge => Answer::Ended(22, 0, none),
         Sizes::Fit => placed(program, at, k, table, &values[..m], limit, out),
     }
 }

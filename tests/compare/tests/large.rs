@@ -9,6 +9,8 @@ use reference::Outcome;
 compared!(deepest_calls_checked, has_check, deepest_checked);
 compared!(deepest_calls_of_an_instance, has_instance, deepest_instance);
 compared!(deepest_calls_of_a_run, has_run, deepest_run);
+compared!(deepest_shapes_of_an_instance, has_instance, shape_instances);
+compared!(deepest_shapes_of_a_run, has_run, shape_runs);
 compared!(lists_of_10000_of_an_instance, has_instance, long_instance);
 compared!(lists_of_10000_of_a_run, has_run, long_run);
 compared!(loops_from_the_smallest_number, has_run, far_loops);
@@ -101,6 +103,28 @@ fn deepest_run(tally: &mut Tally) -> Result<(), String> {
         let [calls, loops] = deepest();
         due(tally, &other(&calls, Call::Run), [0, 0, 2, 8_163])?;
         due(tally, &other(&loops, Call::Run), [0, 0, 1, 6_121])
+    };
+    on_eight_mebibytes(work, tally)
+}
+
+/// Unrolls the last family of every deepest shape.
+fn shape_instances(tally: &mut Tally) -> Result<(), String> {
+    let work = |tally: &mut Tally| {
+        library::SHAPES.iter().try_for_each(|shape| {
+            let bytes = program(&shape.deepest());
+            tally.question(&instance(&bytes, 254, &shape.sizes()))
+        })
+    };
+    on_eight_mebibytes(work, tally)
+}
+
+/// Runs every deepest shape.
+fn shape_runs(tally: &mut Tally) -> Result<(), String> {
+    let work = |tally: &mut Tally| {
+        library::SHAPES.iter().try_for_each(|shape| {
+            let bytes = program(&shape.deepest());
+            tally.question(&other(&bytes, Call::Run))
+        })
     };
     on_eight_mebibytes(work, tally)
 }

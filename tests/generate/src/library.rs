@@ -284,17 +284,14 @@ impl Shape {
         sizes(&vec![0; self.indexes as usize])
     }
 
-    /// Two families, of which the last one has the deepest indexes everywhere.
+    /// Two families, of which the last one has the deepest indexes at the bottom.
     pub fn deepest_indexes(&self) -> Vec<Field> {
         let first = self.family(vec![t(at(0, 0))]);
-        let mut sizes = vec![left_deep(), right_deep(), left_deep(), right_deep()];
-        sizes.truncate(self.indexes as usize);
-        let mut operands: Vec<Field> = (0..self.parameters).map(whole).collect();
-        operands[0] = whole(0);
-        let wires = [left_deep(), right_deep()].map(|index| element(0, index));
-        let [one, other] = wires;
-        let statements = vec![call(0, sizes, operands), cx(one, other)];
-        vec![first, self.family(statements)]
+        let sizes = (0..self.indexes).map(|_| left_deep()).collect();
+        let operands = (0..self.parameters).map(|_| whole(0)).collect();
+        let pair = cx(element(0, left_deep()), element(0, right_deep()));
+        let last = self.family(vec![call(0, sizes, operands), pair]);
+        vec![first, last]
     }
 }
 

@@ -3,56 +3,86 @@ use Rattle.metaqasm.proofs.told.Statement.{statement}
 use Rattle.metaqasm.proofs.told.Tie as tie
 use Rattle.metaqasm.proofs.told.Reads as reads
 use Rattle.metaqasm.proofs.told.Lts as lts
+use Rattle.metaqasm.proofs.result.Reads as result-reads
 use mathlib.Core.Path.{_≡_, refl, sym, ap, _∙_, subst}
+use mathlib.Core.List.{List}
+use Prim.Native.Nat.{ℕ}
 use native.Mathlib.Omega.{arith}
+use Rattle.language.specs.Result.{Result, Conclusion, finished}
 use Rattle.runs.specs.Concluded.{concluded}
 use Rattle.metaqasm.specs.Answers.{Told}
 
--- src/lib.rt:50:23
+-- src/lib.rt:63:23
 enum-known-a : tie.Need-enum-known-a
 enum-known-a c =
     search needs
 
--- src/lib.rt:56:23
+-- src/lib.rt:63:29
+result-requires : tie.Need-result-requires
+result-requires c κs =
+    search needs
+
+-- src/lib.rt:64:23
 enum-known-a-2 : tie.Need-enum-known-a-2
 enum-known-a-2 c =
     search needs
 
--- src/lib.rt:57:21
-cast-t9 : tie.Need-cast-t9
-cast-t9 c =
+-- src/lib.rt:64:42
+cast-result : tie.Need-cast-result
+cast-result c =
     let h = subst Told (c .before .a2 .given .1) (c .before .before .before .pre) in
     omega (arith, h .0, h .1)
 
--- src/lib.rt:58:20
-cast-t10 : tie.Need-cast-t10
-cast-t10 c =
+-- src/lib.rt:64:52
+cast-result-2 : tie.Need-cast-result-2
+cast-result-2 c =
     let h = subst Told (c .before .a2 .given .1) (c .before .before .before .pre) in
     omega (arith, h .0, h .1)
 
--- src/lib.rt:62:26
+-- src/lib.rt:64:35
+result-requires-2 : tie.Need-result-requires-2
+result-requires-2 c κs =
+    search needs
+
+-- src/lib.rt:65:39
 enum-told : tie.Need-enum-told
 enum-told c =
     search needs
 
--- src/lib.rt:45:1
+-- src/lib.rt:65:26
+result-requires-3 : tie.Need-result-requires-3
+result-requires-3 c κs =
+    search needs
+
+-- src/lib.rt:58:1
 returns : tie.Need-returns
 unfolding concluded
 returns c =
-    λ output. ap (concluded output) (c .before .before .a .given .1)
+    λ output. ap (concluded output) (c .before .before .a .given .1) ∙ ap (λ (x : Result). finished (record { result = x; output = output })) (sym (c .result .ensures))
 
--- src/lib.rt:45:1
+-- src/lib.rt:58:1
 returns-2 : tie.Need-returns-2
 unfolding concluded
 returns-2 c =
-    λ output. ap (concluded output) (c .before .before .a2 .given .1)
+    λ output. ap (concluded output) (c .before .before .a2 .given .1) ∙ ap (λ (x : Result). finished (record { result = x; output = output })) (sym (c .result2 .ensures))
 
--- src/lib.rt:45:1
+-- src/lib.rt:58:1
 returns-3 : tie.Need-returns-3
 returns-3 c =
-    absurd (subst Told (c .enum-told .given .1) (c .before .before .pre))
+    absurd (subst Told (c .before .enum-told .given .1) (c .before .before .before .pre))
 
 pub told-spec : {M : Type 1} → statement M
 told-spec =
     tie.close
-    (tie.spec enum-known-a enum-known-a-2 cast-t9 cast-t10 enum-told returns returns-2 returns-3)
+    (tie.spec
+    enum-known-a
+    result-requires
+    enum-known-a-2
+    cast-result
+    cast-result-2
+    result-requires-2
+    enum-told
+    result-requires-3
+    returns
+    returns-2
+    returns-3)

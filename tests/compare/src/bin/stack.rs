@@ -1,8 +1,11 @@
 //! Prints the smallest stack on which the library answers the deepest programs.
 //!
-//! Use: `stack`, built for release. Each call is made in a process of its own,
-//! on a thread whose stack is halved in search of the smallest that will do.
-//! `stack CALL SHAPE KIB` makes one call and fails if it does not come to 0.
+//! Use: `stack`. Each call is made in a process of its own, on a thread whose
+//! stack is the smallest that will do; what the thread itself takes counts too.
+//! Its last line is the one that include/metaqasm.h has.
+//!
+//! `stack CALL SHAPE KIB` makes one call (check, instance or run) about the
+//! shape with that number, and fails where it does not come to 0.
 
 use compare::ask::ask_library;
 use compare::{library, Call, Question};
@@ -11,8 +14,6 @@ use generate::library::{Shape, SHAPES};
 use std::io::Write;
 use std::process::{Command, ExitCode, Stdio};
 
-/// The calls by name.
-const CALLS: [&str; 3] = ["check", "instance", "run"];
 /// A page in KiB; stacks are whole pages.
 const PAGE: usize = 4;
 /// The most pages that are tried.
@@ -95,19 +96,25 @@ fn say(line: &str) -> Result<(), String> {
     writeln!(std::io::stdout(), "{line}").map_err(|error| format!("standard output: {error}"))
 }
 
-/// Measures all calls of all shapes.
+/// Measures a call for all shapes and gives the most that it needs, in KiB.
+fn need(call: &str) -> Result<usize, String> {
+    let mut most = 0;
+    for (number, shape) in SHAPES.iter().enumerate() {
+        let kib = smallest(call, number)?;
+        say(&format!("{call:8} {:26} {kib:6} KiB", shape.name))?;
+        most = most.max(kib);
+    }
+    Ok(most)
+}
+
+/// Measures all calls.
 fn measure() -> Result<(), String> {
     if let [one, ..] = library::missing()[..] {
         return Err(format!("the archive lacks the call {one}"));
     }
-    let mut most = 0;
-    for (number, shape) in SHAPES.iter().enumerate() {
-        for call in CALLS {
-            let kib = smallest(call, number)?;
-            say(&format!("{call:8} {:26} {kib:6} KiB", shape.name))?;
-            most = most.max(kib);
-        }
-    }
+    let [check, instance, run] = [need("check")?, need("instance")?, need("run")?];
+    let most = check.max(instance).max(run);
+    say(&format!("check alone: at most {check} KiB"))?;
     say(&format!("stack: a call needs at most {most} KiB"))
 }
 
