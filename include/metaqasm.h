@@ -14,10 +14,10 @@
  * A call uses the stack of its thread, the more the deeper the program's calls and statements are nested. For every program
  * within the limits:
  *
- *     stack: a call needs at most 7564 KiB
+ *     stack: a call needs at most 5632 KiB
  *
  * beside what the host has in use there (measured with the deepest programs by `cargo run --release -p compare --bin stack`
- * in tests). A check alone needs at most 152 KiB.
+ * in tests). A check alone needs at most 160 KiB.
  */
 #ifndef METAQASM_H
 #define METAQASM_H
