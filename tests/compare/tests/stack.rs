@@ -57,5 +57,6 @@ fn a_run_has_enough() {
     ignore = "no archive with this call; run `rt staticlib metaqasm` first"
 )]
 fn a_stack_that_is_too_small_is_noticed() {
+    assert!(enough("run", 0, stack_kib("run")));
     assert!(!enough("run", 0, 64));
 }
