@@ -17,18 +17,21 @@
  * Nothing else is asked. Every byte string, number and length has an answer and every call ends. The library keeps no state
  * between calls, and uses no heap, no files and no globals, so calls may run on any number of threads at once.
  *
- * Time. A check takes at most some 30 ns for each byte of the program, 2 ms for the longest. The step limit bounds steps, not
- * seconds: a step takes time in proportion to the indexes and operands of its own statement. Most steps take 0.1
- * microseconds or less; the slowest found takes 0.2 ms, a gate in a loop whose index fills a program of 60,000 bytes (some 3 ns
- * for each byte of the program). A call cannot be cancelled: choose what it is given so that it may be waited for, or make
- * it in a process that may be ended. (A later version may bring runs that can be left and gone on with.)
+ * Time. The figures are of a common machine of two cores. A check takes at most some 30 ns for each byte of the program, 2 ms
+ * for the longest. The step limit bounds steps, not seconds: a step takes time in proportion to the indexes and operands of
+ * its own statement (and, where a list begins to run backward, to the fields of the list). Most take 0.1 microseconds or
+ * less. The slowest found are gates in a loop with an index of 60,000 bytes, which each round evaluates: 0.06 ms a step, or
+ * 1 ns for each byte of the program, and 0.1 ms while the machine was busy. Reckon with at most 0.2 ms, or 3 ns a byte.
+ * A call cannot be cancelled: give it a limit that may be waited for, or make it in a process that may be ended. (A later
+ * version may bring runs that can be left.)
  *
  * How to choose the limit and the output's length:
- *   - Output: 8 bytes (METAQASM_RECORD_BYTES) for each gate that you are ready to load; a longer list ends with 27.
- *   - Limit: each record takes a step, and so does each call, loop, round, reversal and condition around it. A few steps for
- *     each record of room is enough for most families. Whoever writes a program to be slow has it run for the limit times
- *     the slowest step: at 1,000,000 steps some 200 s for a program of 65,535 bytes, and some 3 s for one of 1,000. So the
- *     longest that you would wait, divided by 3 ns for each byte of the program, is a limit that no program can stretch.
+ *   - Output: METAQASM_RECORD_BYTES for each gate that you are ready to load; a list that is longer ends with 27.
+ *   - Limit, for programs that you trust: each record takes a step, and so does each call, loop, round, reversal and condition
+ *     around it. Four steps for each record that the output holds are enough for most families.
+ *   - Limit, for programs that may be written to be slow: the longest that you would wait, divided by 0.1 microseconds and
+ *     3 ns more for each byte of the program. For 1 s these are some 300,000 steps at 1,000 bytes and 5,000 at 65,535.
+ *     (1,000,000 steps may take 200 s there.)
  */
 #ifndef METAQASM_H
 #define METAQASM_H
@@ -44,8 +47,9 @@ extern "C" {
 #define METAQASM_VERSION "1.0.0"
 
 /* The stack that a call needs at most, in KiB, for every program within the limits and beside what the host has in use there;
- * and what a check alone needs. Both are measured with the deepest programs (`cargo run --release -p compare --bin stack` in
- * tests prints the need beside these figures, and a test holds the library to them). */
+ * and what a check alone needs. On less, a deep program may end the process at the guard page below the stack. Both are
+ * measured with the deepest programs (`cargo run --release -p compare --bin stack` in tests prints the need beside these
+ * figures, and a test holds the library to them). */
 #define METAQASM_STACK_KIB 5632
 #define METAQASM_CHECK_STACK_KIB 160
 

@@ -4,7 +4,9 @@
 #include <string.h>
 
 /* a family with one wire x, whose body is h on x; a qreg of 1; and h on its wire */
-static const uint8_t plain[] = {1, 12, 0, 0, 1, 16, 0, 0, 32, 4, 0, 48, 1, 0, 0, 2, 2, 0, 1, 0, 32, 9, 0, 49, 6, 0, 0, 64, 2, 0, 0, 0};
+static const uint8_t plain[] = {
+    1, 12, 0, 0, 1, 16, 0, 0, 32, 4, 0, 48, 1, 0, 0, 2, 2, 0, 1, 0, 32, 9, 0, 49, 6, 0, 0, 64, 2, 0, 0, 0,
+};
 /* a family of n with x: Qbit[n] and an empty body */
 static const uint8_t sized[] = {1, 9, 0, 1, 1, 17, 4, 0, 65, 1, 0, 0};
 static const uint8_t h_0[METAQASM_RECORD_BYTES] = {METAQASM_OP_H, METAQASM_ALWAYS, 0, 0, 0, 0, 0, 0};
