@@ -4,6 +4,8 @@
  *
  *     cc -I include host.c target/staticlib/libmetaqasm.a -o host
  *
+ * A host needs this file, metaqasm_numbers.def beside it and the archive. C99 and C++11 and what came after will do.
+ *
  * What a caller owes:
  *   - Each pointer is valid for the length given with it: so many bytes can be read there, and in the output written. Where
  *     the length is 0, any pointer will do, NULL too: it is neither read nor written.
@@ -21,7 +23,7 @@
  * for the longest. The step limit bounds steps, not seconds: a step takes time in proportion to the indexes and operands of
  * its own statement (and, where a list begins to run backward, to the fields of the list). Most take 0.1 microseconds or
  * less. The slowest found are gates in a loop with an index of 60,000 bytes, which each round evaluates: 0.06 ms a step, or
- * 1 ns for each byte of the program, and 0.1 ms while the machine was busy. Reckon with at most 0.2 ms, or 3 ns a byte.
+ * 1 ns for each byte of the program, and twice that while the machine was busy. Reckon with at most 0.2 ms, or 3 ns a byte.
  * A call cannot be cancelled: give it a limit that may be waited for, or make it in a process that may be ended. (A later
  * version may bring runs that can be left.)
  *
