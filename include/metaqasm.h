@@ -1,23 +1,39 @@
-/* The calls of the metaQASM library.
+/* The calls of the metaQASM library, for C and C++ on x86-64 Linux.
  *
  * Build the archive with `rt staticlib metaqasm` (it writes target/staticlib/libmetaqasm.a) and link it:
  *
  *     cc -I include host.c target/staticlib/libmetaqasm.a -o host
  *
+ * A host needs this file, metaqasm_numbers.def beside it and the archive. C99 and C++11 and what came after will do.
+ *
  * What a caller owes:
- *   - each pointer is not null and valid for the length given with it; where the length is 0 any pointer but null will do
- *     (it is neither read nor written);
- *   - a buffer that is written (output) overlaps no other buffer of the call.
- * Nothing else is asked. Every byte string, number and length has an answer, every call ends, and the library keeps no
- * state between calls: it uses no heap, no files and no globals, so calls may run on any number of threads at once.
+ *   - Each pointer is valid for the length given with it: so many bytes can be read there, and in the output written. Where
+ *     the length is 0, any pointer will do, NULL too: it is neither read nor written.
+ *   - During the call, nobody else changes a byte of the program, the sizes or the output: no other thread, no process that
+ *     shares the memory, no signal handler, no device. So bytes that a guest can still reach are copied first, and it is the
+ *     copy that is handed over. (The program is checked and then run; one that is changed in between may be read past its
+ *     end.)
+ *   - The output overlaps neither the program nor the sizes, and no buffer of another call that is made at the same time.
+ *     Calls at the same time may share a program and sizes.
+ *   - The thread has the stack that is said at METAQASM_STACK_KIB.
+ * Nothing else is asked. Every byte string, number and length has an answer and every call ends. The library keeps no state
+ * between calls, and uses no heap, no files and no globals, so calls may run on any number of threads at once.
  *
- * A call uses the stack of its thread, the more the deeper the program's calls and statements are nested. For every program
- * within the limits:
+ * Time. The figures are of a common machine of two cores. A check takes at most some 30 ns for each byte of the program, 2 ms
+ * for the longest. The step limit bounds steps, not seconds: a step takes time in proportion to the indexes and operands of
+ * its own statement (and, where a list begins to run backward, to the fields of the list). Most take 0.1 microseconds or
+ * less. The slowest found are gates in a loop with an index of 60,000 bytes, which each round evaluates: 0.06 ms a step, or
+ * 1 ns for each byte of the program, and twice that while the machine was busy. Reckon with at most 0.2 ms, or 3 ns a byte.
+ * A call cannot be cancelled: give it a limit that may be waited for, or make it in a process that may be ended. (A later
+ * version may bring runs that can be left.)
  *
- *     stack: a call needs at most 5632 KiB
- *
- * beside what the host has in use there (measured with the deepest programs by `cargo run --release -p compare --bin stack`
- * in tests). A check alone needs at most 160 KiB.
+ * How to choose the limit and the output's length:
+ *   - Output: METAQASM_RECORD_BYTES for each gate that you are ready to load; a list that is longer ends with 27.
+ *   - Limit, for programs that you trust: each record takes a step, and so does each call, loop, round, reversal and condition
+ *     around it. Four steps for each record that the output holds are enough for most families.
+ *   - Limit, for programs that may be written to be slow: the longest that you would wait, divided by 0.1 microseconds and
+ *     3 ns more for each byte of the program. For 1 s these are some 300,000 steps at 1,000 bytes and 5,000 at 65,535.
+ *     (1,000,000 steps may take 200 s there.)
  */
 #ifndef METAQASM_H
 #define METAQASM_H
@@ -29,39 +45,65 @@
 extern "C" {
 #endif
 
+/* The version of this header and of the archive that is built beside it. */
+#define METAQASM_VERSION "1.0.0"
+
+/* The stack that a call needs at most, in KiB, for every program within the limits and beside what the host has in use there;
+ * and what a check alone needs. On less, a deep program may end the process at the guard page below the stack. Both are
+ * measured with the deepest programs (`cargo run --release -p compare --bin stack` in tests prints the need beside these
+ * figures, and a test holds the library to them). */
+#define METAQASM_STACK_KIB 5632
+#define METAQASM_CHECK_STACK_KIB 160
+
+/* Limits of a program; what goes past one is refused. */
+#define METAQASM_MOST_PROGRAM_BYTES 65535
+#define METAQASM_MOST_FAMILIES 255
+#define METAQASM_MOST_REGISTERS 255      /* qregs and cregs together */
+#define METAQASM_MOST_QUBITS 65535       /* of all qregs, or of an instance's parameters */
+#define METAQASM_MOST_BITS 65535         /* of all cregs */
+#define METAQASM_MOST_INDEX_VARIABLES 4  /* of a family */
+#define METAQASM_MOST_PARAMETERS 8       /* of a family, which has 1 at least */
+#define METAQASM_MOST_OPEN_LOOPS 8
+#define METAQASM_MOST_NESTING 16         /* of statements, and of indexes */
+#define METAQASM_MOST_INDEX 2000000000   /* of an index, above 0 and below */
+#define METAQASM_MOST_SIZE 65535         /* of an index variable that an instance is asked for */
+
+/* How many bytes a size takes, and how many a record. */
+#define METAQASM_SIZE_BYTES 4
+#define METAQASM_RECORD_BYTES 8
+
+/* The numbers that a call answers: METAQASM_DONE = 0, METAQASM_TOO_LONG = 1, .. METAQASM_NOT_SHOWN = 12, ..
+ * metaqasm_numbers.def has each of them, one to a line, with its name and what it means; programs in other languages can
+ * read it too.
+ *
+ *    0        done: the program is accepted, or the list is complete
+ *    1 to 13  from every call: the program is refused. Records and steps are 0, and the output is as it was.
+ *   20 to 23  from an instance: what is asked for cannot be had. Records and steps are 0, and the output is as it was.
+ *   24 to 27  from an instance or a run: it has ended early. The output holds the records so far, and records and steps
+ *             count what was written and taken so far. */
+enum metaqasm_number {
+#define METAQASM_NUMBER(value, name, message) METAQASM_##name = value,
+#include "metaqasm_numbers.def"
+#undef METAQASM_NUMBER
+};
+
+/* A plain sentence for a number. It is never null: a number that no call answers has a sentence that says so. */
+static inline const char *metaqasm_message(uint32_t number)
+{
+    switch (number) {
+#define METAQASM_NUMBER(value, name, message) \
+    case value: \
+        return message;
+#include "metaqasm_numbers.def"
+#undef METAQASM_NUMBER
+    default:
+        return "no call of this version answers with this number";
+    }
+}
+
 /* The answer of a call.
  *
- * number   0: done. Otherwise the program or the call is turned down, or the run has ended early:
- *
- *          For the program, from every call (records and steps are 0, and the output is as it was):
- *            1  longer than 65,535 bytes
- *            2  fewer than 3 bytes left for a field's header, or content past the enclosing end
- *            3  a tag that is not allowed there
- *            4  content ends where a part is due, or bytes are left over
- *            5  nesting past 16
- *            6  more than 255 families or registers, more than 4 index variables, parameters outside 1 to 8, or a ninth
- *               open loop
- *            7  qubits or bits past 65,535
- *            8  a family, operand or index variable that is not in scope
- *            9  wrong kind
- *           10  a product of two forms with variables
- *           11  a number of an index form out of range (2,000,000,000 either way)
- *           12  not shown to be 0 or more
- *           13  a condition's value above 1
- *
- *          For what an instance is asked for (records and steps are 0, and the output is as it was):
- *           20  no such family
- *           21  the sizes are not exactly four bytes for each index variable of the family
- *           22  a size above 65,535
- *           23  the parameters take more than 65,535 wires
- *
- *          For an instance or a run that ends early (the output holds the records so far, and records and steps count what
- *          was written and taken so far):
- *           24  the value of an index out of range (2,000,000,000 either way)
- *           25  cx on one wire
- *           26  a step is due and the limit is used up
- *           27  a record is due and fewer than 8 bytes of the output are left
- *
+ * number   0: done. Otherwise the program or the call is turned down, or the run has ended early (see above)
  * place    the offset in the program of the tag that the number is about: from 24 on that of the statement (or, where a
  *          parameter's size is out of range, of its type), for 23 that of the type; 0 where the number is 0 or 20 to 22
  * records  how many 8-byte records are written
@@ -75,34 +117,57 @@ typedef struct {
 } metaqasm_result;
 
 /* Checks a program. Number 0 says that it is accepted: then every run of it, and every instance of every family of it at
- * every sizes, comes to one of the ends above and never to anything else. Records and steps are 0, as nothing is run. */
+ * every sizes, comes to one of the ends above and never to anything else. Records and steps are 0, as nothing is run.
+ *
+ * program  the program's bytes; NULL is allowed where program_len is 0 (the empty program, which is accepted) */
 metaqasm_result metaqasm_check(const uint8_t *program, size_t program_len);
 
 /* The gate list that instance and run write is a row of records of 8 bytes each, from the output's first byte on. Two-byte
  * numbers have their low byte first, and what an operation does not use is 0:
  *
- *   byte 0       the operation: 1 h, 2 t, 3 tdg, 4 cx, 5 measure, 6 reset
- *   byte 1       the condition: 0 none, 1 if the condition bit is 0, 2 if it is 1
+ *   byte 0       the operation: one of METAQASM_OP_H to METAQASM_OP_RESET
+ *   byte 1       the condition: one of METAQASM_ALWAYS to METAQASM_IF_1
  *   bytes 2, 3   the first number: the wire (for cx the control)
  *   bytes 4, 5   the second number: for cx the target wire, for measure the bit that is written
  *   bytes 6, 7   the condition bit, where there is a condition
  *
  * Wires and bits are numbered separately, each from 0. The result says how many records there are; the output's bytes past
  * them are left as they were. Each statement entered takes one step, and each round of a loop one more. */
+enum metaqasm_op {
+    METAQASM_OP_H = 1,
+    METAQASM_OP_T = 2,
+    METAQASM_OP_TDG = 3,
+    METAQASM_OP_CX = 4,
+    METAQASM_OP_MEASURE = 5,
+    METAQASM_OP_RESET = 6
+};
+
+enum metaqasm_condition {
+    METAQASM_ALWAYS = 0, /* no condition */
+    METAQASM_IF_0 = 1,   /* if the condition bit is 0 */
+    METAQASM_IF_1 = 2    /* if the condition bit is 1 */
+};
 
 /* Checks a program and lists one of its families at given sizes.
  *
+ * program  the program's bytes; NULL is allowed where program_len is 0 (it has no family: 20)
  * family   the number of the family; families are numbered from 0 as declared
- * sizes    the values of the family's index variables in order, four bytes for each, unsigned, low byte first
+ * sizes    the values of the family's index variables in order, four bytes for each, unsigned, low byte first; NULL is
+ *          allowed where sizes_len is 0 (as it is for a family without index variables)
  * limit    the most steps that may be taken
+ * output   where the list is written; NULL is allowed where output_len is 0 (27 where a record is due)
  *
  * The parameters are laid out in order from wire 0 on: a Qbit takes one wire, a Qbit[I] as many as I's value at the sizes.
  * Number 0 says that the list is complete. */
 metaqasm_result metaqasm_instance(const uint8_t *program, size_t program_len, uint32_t family, const uint8_t *sizes,
                                   size_t sizes_len, uint64_t limit, uint8_t *output, size_t output_len);
 
-/* Checks a program and lists its whole run, with limit as the most steps that may be taken. Wires are numbered as the
- * program's qregs declare them, bits as its cregs do. Number 0 says that the list is complete. */
+/* Checks a program and lists its whole run. Wires are numbered as the program's qregs declare them, bits as its cregs do.
+ * Number 0 says that the list is complete.
+ *
+ * program  the program's bytes; NULL is allowed where program_len is 0 (the empty program, whose list is empty)
+ * limit    the most steps that may be taken
+ * output   where the list is written; NULL is allowed where output_len is 0 (27 where a record is due) */
 metaqasm_result metaqasm_run(const uint8_t *program, size_t program_len, uint64_t limit, uint8_t *output,
                              size_t output_len);
 

@@ -1,7 +1,8 @@
-/* A host: loads the paper's adder, checks it, and prints three instances and the whole run as lists of gates.
+/* A host: takes a guest's program, the paper's adder, copies it, checks it, and prints three instances and the whole run as
+ * lists of gates. After the check the guest changes its own bytes, and the lists stay what they are.
  * Run it from the repository's root; it compares the lists with those in examples. */
+#include "expect.h"
 #include <metaqasm.h>
-#include <stdio.h>
 #include <string.h>
 
 #define MOST_RECORDS 1024
@@ -10,7 +11,7 @@
 typedef struct {
     const char *name;
     uint32_t family;
-    uint8_t sizes[4];
+    uint8_t sizes[METAQASM_SIZE_BYTES];
     size_t sizes_len;
     uint64_t records;
     const char *listing;
@@ -23,21 +24,6 @@ static const question questions[] = {
     {"add at n = 1", 2, {1, 0, 0, 0}, 4, 55, "examples/adder.n1.list"},
     {NULL, 0, {0}, 0, 92, "examples/adder.list"},
 };
-
-static int passes = 0;
-static int failures = 0;
-
-/* Counts one expectation, and says what was not met. */
-static int expect(int met, const char *name, const char *what)
-{
-    if (met) {
-        passes++;
-    } else {
-        failures++;
-        printf("%s: expected %s\n", name, what);
-    }
-    return met;
-}
 
 /* Reads a file whole; a length over the room says that it does not fit, and -1 that it cannot be read. */
 static long load(const char *path, uint8_t *bytes, size_t room)
@@ -73,13 +59,13 @@ static unsigned two(const uint8_t *bytes)
 static int line(char *text, size_t room, const uint8_t *record)
 {
     static const char *const names[] = {"?", "h", "t", "tdg", "cx", "measure", "reset"};
-    const char *name = names[record[0] <= 6 ? record[0] : 0];
+    const char *name = names[record[0] <= METAQASM_OP_RESET ? record[0] : 0];
     char condition[32] = "";
 
-    if (record[1] != 0) {
-        snprintf(condition, sizeof condition, "if %u %d ", two(record + 6), record[1] - 1);
+    if (record[1] != METAQASM_ALWAYS) {
+        snprintf(condition, sizeof condition, "if %u %d ", two(record + 6), record[1] - METAQASM_IF_0);
     }
-    if (record[0] == 4 || record[0] == 5) {
+    if (record[0] == METAQASM_OP_CX || record[0] == METAQASM_OP_MEASURE) {
         return snprintf(text, room, "%s%s %u %u\n", condition, name, two(record + 2), two(record + 4));
     }
     return snprintf(text, room, "%s%s %u\n", condition, name, two(record + 2));
@@ -92,7 +78,7 @@ static void list(char *text, size_t room, const uint8_t *output, metaqasm_result
     uint64_t i;
 
     for (i = 0; i < result.records && used < room; i++) {
-        used += (size_t)line(text + used, room - used, output + 8 * i);
+        used += (size_t)line(text + used, room - used, output + METAQASM_RECORD_BYTES * i);
     }
     if (used < room) {
         snprintf(text + used, room - used, "end %u %u %llu %llu\n", result.number, result.place,
@@ -118,7 +104,7 @@ static void compare(const char *name, const char *path, const char *text)
 /* Asks one question, prints the list and compares it. */
 static void answer(const question *asked, const uint8_t *program, size_t length)
 {
-    static uint8_t output[8 * MOST_RECORDS];
+    static uint8_t output[METAQASM_RECORD_BYTES * MOST_RECORDS];
     static char text[64 * MOST_RECORDS];
     const char *name = asked->name != NULL ? asked->name : "the whole run";
     metaqasm_result result;
@@ -133,8 +119,8 @@ static void answer(const question *asked, const uint8_t *program, size_t length)
         return;
     }
     list(text, sizeof text, output, result);
-    printf("%s:\n%s\n", name, text);
-    expect(result.number == 0 && result.records == asked->records, name, "a complete list of known length");
+    printf("%s: %s\n%s\n", name, metaqasm_message(result.number), text);
+    expect(result.number == METAQASM_DONE && result.records == asked->records, name, "a complete list of known length");
     if (asked->listing != NULL) {
         compare(name, asked->listing, text);
     }
@@ -169,29 +155,61 @@ static void refusals(const uint8_t *program, size_t length)
 
     memset(output, 0xA5, sizeof output);
     result = metaqasm_instance(program, length, 3, zero, 4, 1000000, output, sizeof output);
-    expect(is(result, 20, 0, 0, 0) && all(output, sizeof output, 0xA5), "family 3", "20 and an untouched output");
+    expect(is(result, METAQASM_NO_SUCH_FAMILY, 0, 0, 0) && all(output, sizeof output, 0xA5), "family 3",
+           "20 and an untouched output");
     result = metaqasm_instance(program, length, 2, zero, 0, 1000000, output, sizeof output);
-    expect(is(result, 21, 0, 0, 0) && all(output, sizeof output, 0xA5), "add without n", "21 and an untouched output");
+    expect(is(result, METAQASM_WRONG_SIZES_LENGTH, 0, 0, 0) && all(output, sizeof output, 0xA5), "add without n",
+           "21 and an untouched output");
     /* 20 bytes hold two records: both cx of add; the third is due at the h of toffoli, whose tag is at 14. */
     result = metaqasm_instance(program, length, 2, zero, 4, 1000000, output, 20);
-    expect(is(result, 27, 14, 2, 4), "add into 20 bytes", "27 at place 14 with 2 records and 4 steps");
+    expect(is(result, METAQASM_OUTPUT_FULL, 14, 2, 4), "add into 20 bytes", "27 at place 14 with 2 records and 4 steps");
     expect(memcmp(output, first_two, sizeof first_two) == 0, "add into 20 bytes", "the first two records");
     expect(all(output + 16, sizeof output - 16, 0xA5), "add into 20 bytes", "untouched bytes past the records");
 }
 
+/* A guest's bytes, which the guest may change at any time, and the host's own copy of them. */
+typedef struct {
+    uint8_t guests[METAQASM_MOST_PROGRAM_BYTES + 1];
+    uint8_t own[METAQASM_MOST_PROGRAM_BYTES + 1];
+    size_t length;
+} arrival;
+
+/* Takes a guest's bytes: they are copied, and only the copy is handed to the library. */
+static int take(arrival *program, const char *path)
+{
+    long length = load(path, program->guests, sizeof program->guests);
+
+    if (!expect(length >= 0 && (size_t)length <= sizeof program->guests, path, "a program that can be read")) {
+        return 0;
+    }
+    program->length = (size_t)length;
+    memcpy(program->own, program->guests, program->length);
+    return 1;
+}
+
+/* What a guest may do after the check: fields that end past the program's end. */
+static void guest_changes(arrival *program)
+{
+    memset(program->guests, 0xFF, program->length);
+}
+
 int main(void)
 {
-    static uint8_t program[65536];
-    long length = load("examples/adder.bytes", program, sizeof program);
+    static arrival program;
+    metaqasm_result result;
     size_t i;
 
-    if (expect(length >= 0 && (size_t)length <= sizeof program, "examples/adder.bytes", "a program that can be read") &&
-        expect(is(metaqasm_check(program, (size_t)length), 0, 0, 0, 0), "adder", "a program that is accepted")) {
-        for (i = 0; i < sizeof questions / sizeof questions[0]; i++) {
-            answer(&questions[i], program, (size_t)length);
-        }
-        refusals(program, (size_t)length);
+    if (!take(&program, "examples/adder.bytes")) {
+        return closed();
     }
-    printf("%d passed, %d failed\n", passes, failures);
-    return failures != 0;
+    result = metaqasm_check(program.own, program.length);
+    printf("the check: %s\n\n", metaqasm_message(result.number));
+    if (expect(is(result, METAQASM_DONE, 0, 0, 0), "adder", "a program that is accepted")) {
+        guest_changes(&program);
+        for (i = 0; i < sizeof questions / sizeof questions[0]; i++) {
+            answer(&questions[i], program.own, program.length);
+        }
+        refusals(program.own, program.length);
+    }
+    return closed();
 }

@@ -58,7 +58,7 @@ fn main() {
         Err(_) => Vec::new(),
     };
     if calls.is_empty() {
-        println!("cargo::warning=no call of the library is compared: there is no archive with one");
+        println!("cargo::warning=no call of the library is compared, and the tests that do are ignored: there is no archive with one");
         return;
     }
     println!("cargo::rustc-link-search=native={}", folder.display());

@@ -64,34 +64,31 @@ impl Tally {
 /// What a test compares, counting as it goes.
 pub type Work = fn(&mut Tally) -> Result<(), String>;
 
-/// Does a test's work, with or without the library, and says what it counted.
-pub fn hold(with_library: bool, work: Work) {
+/// Does a test's work and says what it counted; it fails where an answer was
+/// not compared with the library's.
+pub fn hold(work: Work) {
     let mut tally = Tally::default();
     if let Err(message) = work(&mut tally) {
         panic!("{message}");
     }
     println!("{}", tally.line());
-    match with_library {
-        true => assert_eq!(tally.alone, 0, "all answers are compared"),
-        false => assert_eq!(tally.compared, 0, "no answer can be compared"),
-    }
+    assert_eq!(tally.alone, 0, "all answers are compared");
+    assert_ne!(tally.compared, 0, "some answers are compared");
 }
 
-/// A test whose name says whether the library's call is compared.
+/// A test that compares a call of the library; it is ignored where the archive
+/// lacks the call, and fails if it is run nevertheless.
 #[macro_export]
 macro_rules! compared {
     ($name:ident, $has:ident, $work:ident) => {
         mod $name {
-            #[cfg($has)]
             #[test]
+            #[cfg_attr(
+                not($has),
+                ignore = "no archive with this call; run `rt staticlib metaqasm` first"
+            )]
             fn compared_with_the_library() {
-                $crate::harness::hold(true, super::$work);
-            }
-
-            #[cfg(not($has))]
-            #[test]
-            fn of_the_reference_alone_as_the_archive_lacks_the_call() {
-                $crate::harness::hold(false, super::$work);
+                $crate::harness::hold(super::$work);
             }
         }
     };

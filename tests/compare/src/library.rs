@@ -51,7 +51,7 @@ pub fn status() -> String {
             "library: check, instance and run are compared with the reference".into()
         }
         missing => format!(
-            "library: NOT COMPARED, not in the archive yet: {}; the reference stands alone there",
+            "library: NOT COMPARED, not in the archive: {}; run `rt staticlib metaqasm` first",
             missing.join(", ")
         ),
     }

@@ -1,7 +1,7 @@
 //! The deepest calls, the longest lists and loops, and the most steps.
 
 use compare::harness::on_eight_mebibytes;
-use compare::{ask, compared, Call, Question, Tally, Who};
+use compare::{ask, compared, slow, Call, Question, Tally, Who};
 use generate::build::*;
 use generate::library;
 use reference::Outcome;
@@ -17,6 +17,8 @@ compared!(loops_from_the_smallest_number, has_run, far_loops);
 compared!(a_hundred_million_steps, has_run, many_steps);
 compared!(the_adder_at_8000_bits, has_instance, large_adder);
 compared!(a_full_library_of_families, has_check, full_library);
+compared!(the_slowest_check, has_check, slowest_check);
+compared!(the_slowest_steps, has_run, slowest_steps);
 
 /// Asks, and holds the reference to number, place, records and steps.
 fn due(tally: &mut Tally, question: &Question, expected: [u64; 4]) -> Result<(), String> {
@@ -213,4 +215,22 @@ fn large_adder(tally: &mut Tally) -> Result<(), String> {
 fn full_library(tally: &mut Tally) -> Result<(), String> {
     let program = program(&library::large_library());
     due(tally, &other(&program, Call::Check), [0; 4])
+}
+
+/// Checks the program that takes the longest for each byte.
+fn slowest_check(tally: &mut Tally) -> Result<(), String> {
+    let program = program(&slow::slowest_check());
+    match program.len() {
+        65_400..=65_535 => due(tally, &other(&program, Call::Check), [0; 4]),
+        length => Err(format!("{length} bytes are not a full program")),
+    }
+}
+
+/// Runs steps that evaluate an index of 60,000 bytes.
+fn slowest_steps(tally: &mut Tally) -> Result<(), String> {
+    let program = program(&slow::slowest_steps(10));
+    match program.len() {
+        60_000..=65_535 => due(tally, &other(&program, Call::Run), [0, 0, 10, 21]),
+        length => Err(format!("{length} bytes are not 60,000 and more")),
+    }
 }

@@ -5,7 +5,7 @@
 //! column is the time of a plain copy of as many output bytes.
 
 use compare::ask::{ask_library, ask_reference};
-use compare::{library, Call, Question};
+use compare::{library, slow, Call, Question};
 use generate::build::*;
 use generate::library as programs;
 use std::hint::black_box;
@@ -99,8 +99,11 @@ fn workloads() -> Vec<Workload> {
     backward.extend(calls(0, 200));
     let library = programs::large_library();
     let rounds = programs::empty_rounds();
+    let calls_in_loops = slow::slowest_check();
+    let slow_steps = slow::slowest_steps(1_000);
     vec![
         Workload::check("check, a full library", &library),
+        Workload::check("check, the slowest", &calls_in_loops),
         Workload::instance("adder, 8,000 bits", &adder, (2, 7_999), gates),
         Workload::instance("adder reversed", &adder, (3, 7_999), gates),
         Workload::instance("nested loop", &nested, (0, 700), 2 * 700 * 700),
@@ -108,6 +111,7 @@ fn workloads() -> Vec<Workload> {
         Workload::run("long list", &forward, 200 * 4_950),
         Workload::run("long list reversed", &backward, 200 * 4_950),
         Workload::run("empty rounds", &rounds, 0),
+        Workload::run("1,000 slowest steps", &slow_steps, 1_000),
     ]
 }
 

@@ -1,7 +1,8 @@
 //! Compares the library with the reference and says how much was compared.
 //!
 //! Use: `compare [FIRST_SEED [COUNT]]`. It holds both to the recorded answers
-//! and asks them about a range of generated programs.
+//! and asks them about a range of generated programs. It fails where the
+//! archive lacks a call.
 
 use compare::recorded::recorded;
 use compare::{library, Tally};
@@ -43,6 +44,9 @@ fn say(line: &str) -> Result<(), String> {
 /// Compares everything and prints what was counted.
 fn compare_all() -> Result<(), String> {
     let (first, last) = seeds()?;
+    if !library::missing().is_empty() {
+        return Err(library::status());
+    }
     say(&library::status())?;
     let mut tally = Tally::default();
     let rows = recorded();

@@ -1,14 +1,14 @@
-//! Prints the smallest stack on which the library answers the deepest programs.
+//! Prints the smallest stack on which the library answers the deepest programs,
+//! beside what include/metaqasm.h says, and fails where the header says less.
 //!
 //! Use: `stack`. Each call is made in a process of its own, on a thread whose
 //! stack is the smallest that will do; what the thread itself takes counts too.
-//! Its last line is the one that include/metaqasm.h has.
 //!
 //! `stack CALL SHAPE KIB` makes one call (check, instance or run) about the
 //! shape with that number, and fails where it does not come to 0.
 
 use compare::ask::ask_library;
-use compare::{library, Call, Question};
+use compare::{header, library, Call, Question};
 use generate::build::program;
 use generate::library::{Shape, SHAPES};
 use std::io::Write;
@@ -107,15 +107,26 @@ fn need(call: &str) -> Result<usize, String> {
     Ok(most)
 }
 
+/// Prints a need beside what the header says; fails where that is less.
+fn held(what: &str, call: &str, need: usize) -> Result<(), String> {
+    let said = header::stack_kib(call);
+    say(&format!(
+        "{what} needs at most {need} KiB; the header says {said} KiB"
+    ))?;
+    match need <= said {
+        true => Ok(()),
+        false => Err(format!("{what} needs more than the header says")),
+    }
+}
+
 /// Measures all calls.
 fn measure() -> Result<(), String> {
     if let [one, ..] = library::missing()[..] {
         return Err(format!("the archive lacks the call {one}"));
     }
     let [check, instance, run] = [need("check")?, need("instance")?, need("run")?];
-    let most = check.max(instance).max(run);
-    say(&format!("check alone: at most {check} KiB"))?;
-    say(&format!("stack: a call needs at most {most} KiB"))
+    held("a check alone", "check", check)?;
+    held("a call", "run", check.max(instance).max(run))
 }
 
 fn main() -> ExitCode {

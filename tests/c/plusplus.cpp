@@ -1,0 +1,29 @@
+// The header in C++: it compiles, its names link, and constants and messages are the ones that C has.
+#include <metaqasm.h>
+
+#include "expect.h"
+
+#include <cstring>
+#include <vector>
+
+static_assert(METAQASM_NOT_SHOWN == 12 && METAQASM_OUTPUT_FULL == 27, "constants can be used where C++ asks for one");
+
+int main()
+{
+    // a qreg of 1, and h on its wire
+    const std::vector<uint8_t> program{2, 2, 0, 1, 0, 32, 9, 0, 49, 6, 0, 0, 64, 2, 0, 0, 0};
+    const std::vector<uint8_t> none;
+    std::vector<uint8_t> output(METAQASM_RECORD_BYTES);
+    auto *run = &metaqasm_run;
+
+    expect(metaqasm_check(program.data(), program.size()).number == METAQASM_DONE, "check from C++", "0");
+    expect(metaqasm_check(none.data(), none.size()).number == METAQASM_DONE, "check of an empty vector", "0");
+    expect(metaqasm_check(nullptr, 0).number == METAQASM_DONE, "check of nullptr", "0");
+    metaqasm_result result = run(program.data(), program.size(), 1, output.data(), output.size());
+    expect(result.number == METAQASM_DONE && result.records == 1 && output[0] == METAQASM_OP_H, "run from C++", "h");
+    result = metaqasm_instance(program.data(), program.size(), 0, none.data(), none.size(), 1, nullptr, 0);
+    expect(result.number == METAQASM_NO_SUCH_FAMILY, "instance from C++", "20");
+    expect(std::strstr(metaqasm_message(result.number), "no family") != nullptr, "20", "a sentence with `no family`");
+    expect(std::strstr(metaqasm_message(14), "no call") != nullptr, "14", "a sentence that says that it is unknown");
+    return closed();
+}

@@ -1,0 +1,62 @@
+//! The slowest programs that were found: to check, and to step through.
+
+use generate::build::*;
+
+/// The most bytes of a program.
+const MOST_BYTES: usize = 65_535;
+
+/// The index v0 + v1 + v2 + v3, each times a factor.
+fn all_sizes(factor: u16) -> Field {
+    let times = |number| product(literal(factor), variable(number));
+    (1..4).fold(times(0), |sizes, number| sum(sizes, times(number)))
+}
+
+/// The family that is called: 4 index variables and 8 parameters
+/// Qbit[v0 + v1 + v2 + v3], so that each call builds and shows 8 sizes.
+fn called() -> Field {
+    let size = (1..4).fold(variable(0), |sizes, number| sum(sizes, variable(number)));
+    family(4, vec![qbits(size); 8], vec![])
+}
+
+/// Statements inside 8 loops, each bounded by the variable above, so that what
+/// is shown of the innermost variable goes through all of them.
+fn in_eight_loops(statements: Vec<Field>) -> Vec<Field> {
+    let above = |number: u8| variable(number - 1);
+    let inner = (5..12).rev().fold(statements, |inside, number| {
+        vec![repeat(above(number), above(number), inside)]
+    });
+    vec![repeat(literal(0), above(4), inner)]
+}
+
+/// A family of 4 index variables that makes so many calls inside 8 loops.
+fn calls_in_eight_loops(calls: usize) -> Vec<Field> {
+    let one = call(0, vec![variable(11); 4], vec![whole(0); 8]);
+    let body = in_eight_loops(vec![one; calls]);
+    vec![called(), family(4, vec![qbits(all_sizes(8))], body)]
+}
+
+/// The program that takes the longest to check for each byte: as many calls as
+/// fit into one.
+pub fn slowest_check() -> Vec<Field> {
+    let bytes = |calls| program(&calls_in_eight_loops(calls)).len();
+    let each = bytes(1) - bytes(0);
+    calls_in_eight_loops((MOST_BYTES - bytes(0)) / each)
+}
+
+/// The index 0 as a sum of so many literals, halved at each level.
+fn wide_index(literals: usize) -> Field {
+    match literals {
+        0 | 1 => literal(0),
+        _ => sum(
+            wide_index(literals / 2),
+            wide_index(literals - literals / 2),
+        ),
+    }
+}
+
+/// A loop of so many rounds with a gate whose index takes 60,000 bytes: each
+/// gate's step evaluates all of it.
+pub fn slowest_steps(rounds: u16) -> Vec<Field> {
+    let gate = h(element(0, wide_index(7_500)));
+    vec![qreg(1), repeat(literal(1), literal(rounds), vec![gate])]
+}
