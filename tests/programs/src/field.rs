@@ -44,6 +44,9 @@ pub struct Field {
     pub spot: Spot,
     /// How many fields lie in each other, this one counting 1.
     pub depth: usize,
+    /// The names that the text gives: a register's or a loop variable's one, or
+    /// a family's own and then its index variables' and parameters'.
+    pub names: Vec<String>,
 }
 
 impl Field {
@@ -56,7 +59,25 @@ impl Field {
             parts,
             spot,
             depth: inner + 1,
+            names: Vec::new(),
         }
+    }
+
+    /// The same field with the names that the text gives.
+    pub fn named(self, names: Vec<String>) -> Self {
+        Field { names, ..self }
+    }
+
+    /// How many bytes the field takes, its header included.
+    pub fn length(&self) -> usize {
+        let header = if self.tag.is_some() { 3 } else { 0 };
+        let parts: usize = self.parts.iter().map(Field::length).sum();
+        header + self.head.len() + parts
+    }
+
+    /// Whether bytes stand in it as they are.
+    pub fn has_bare(&self) -> bool {
+        self.tag.is_none() || self.parts.iter().any(Field::has_bare)
     }
 
     /// Bytes that stand in a list as they are.
@@ -67,6 +88,7 @@ impl Field {
             parts: Vec::new(),
             spot,
             depth: 1,
+            names: Vec::new(),
         }
     }
 }
