@@ -26,6 +26,31 @@ pub mod tags {
     pub const SUM: u8 = 66;
     pub const DIFFERENCE: u8 = 67;
     pub const PRODUCT: u8 = 68;
+
+    /// The word that starts a declaration or statement.
+    pub fn word(tag: u8) -> Option<&'static str> {
+        Some(match tag {
+            FAMILY => "family",
+            QREG => "qreg",
+            CREG => "creg",
+            MEASURE => "measure",
+            RESET => "reset",
+            IF => "if",
+            H => "h",
+            T => "t",
+            TDG => "tdg",
+            CX => "cx",
+            CALL => "call",
+            REVERSE => "reverse",
+            FOR => "for",
+            _ => return None,
+        })
+    }
+
+    /// Whether a field with this tag stands at the top only.
+    pub fn at_top_only(tag: u8) -> bool {
+        (FAMILY..=IF).contains(&tag)
+    }
 }
 
 /// How deep fields may lie in each other here; the checker's own limits are lower.

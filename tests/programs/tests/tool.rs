@@ -73,7 +73,10 @@ fn checks() {
         "end 0 0 0 0\n",
         "",
     );
-    let message = "mqasm: element-n.mq:4:7: 12: it cannot be shown that this stays in bounds\n";
+    let message =
+        "mqasm: element-n.mq:4:7: 12: an index or a size is not shown to be within its range\n  \
+        x[0]: the index 0 is 0 or more, but is not shown to be below the size n: \
+        size - 1 - index comes to n - 1, which is -1 at n = 0\n";
     gives(
         &["check", "element-n.mq"],
         "",
@@ -81,7 +84,9 @@ fn checks() {
         "end 12 15 0 0\n",
         message,
     );
-    let message = "mqasm: standard input: byte 0: 2: a field does not fit where it stands\n";
+    let message =
+        "mqasm: standard input: byte 0: 2: fewer than 3 bytes are left for a field's header, \
+        or its content goes past the enclosing end\n";
     gives(&["check", "--bytes", "-"], "h", 1, "end 2 0 0 0\n", message);
 }
 
@@ -97,7 +102,8 @@ fn lists_runs() {
         listing,
         "",
     );
-    let message = "mqasm: cx-one-wire.mq:4:1: 25: cx on a single wire\n";
+    let message = "mqasm: cx-one-wire.mq:4:1: 25: a cx has the same wire as control and target\n  \
+        both operands stand for the same wire here\n";
     gives(
         &["list", "cx-one-wire.mq"],
         "",
@@ -127,7 +133,8 @@ fn lists_instances() {
     let words = [
         "list", "loop.mq", "--family", "f", "--sizes", "3", "--limit", "1",
     ];
-    let message = "mqasm: loop.mq:5:5: 26: the step limit is used up\n";
+    let message = "mqasm: loop.mq:5:5: 26: a step is due and the step limit is used up\n  \
+        the limit is 1: allow more steps with --limit\n";
     gives(&words, "", 1, "end 26 12 0 1\n", message);
 }
 
@@ -137,24 +144,26 @@ fn families_and_sizes_that_do_not_fit() {
         let words = ["list", "loop.mq", "--family", family, "--sizes", sizes];
         gives(&words, "", 1, end, &format!("mqasm: {message}\n"));
     };
-    list("g", "3", "", "no family 'g' in loop.mq");
+    list("g", "3", "", "no family 'g' in loop.mq; it declares f");
     list(
         "1",
         "3",
         "end 20 0 0 0\n",
-        "loop.mq: 20: there is no such family",
+        "loop.mq: 20: the program declares no family of this number\n  \
+        family numbers start at 0; it declares f",
     );
     list(
         "f",
         "3,4",
         "end 21 0 0 0\n",
-        "loop.mq: 21: the sizes do not fit the family",
+        "loop.mq: 21: the sizes are not exactly four bytes for each index variable of the family\n  \
+        family 'f' takes 1 size (n), and 2 are given: write --sizes n=3",
     );
     list(
         "f",
         "70000",
         "end 22 0 0 0\n",
-        "loop.mq: 22: a size is too large",
+        "loop.mq: 22: a size is above 65,535\n  n is 70000: choose smaller sizes",
     );
 }
 
