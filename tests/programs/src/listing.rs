@@ -1,6 +1,6 @@
 //! Records and results as lines for people.
 
-use crate::operations::{Record, RECORD};
+use crate::operations::{Record, OPERATIONS, RECORD};
 use reference::Outcome;
 use std::fmt::Write;
 
@@ -33,7 +33,7 @@ pub fn end_line(outcome: &Outcome) -> String {
 }
 
 /// The line of one record.
-fn line(record: &Record) -> String {
+pub fn line(record: &Record) -> String {
     let mut text = String::new();
     if let Some((bit, value)) = record.condition {
         let _ = write!(text, "if {bit} {value} ");
@@ -47,4 +47,52 @@ fn line(record: &Record) -> String {
         let _ = write!(text, " {number}");
     }
     text
+}
+
+/// The records of a list's lines, and the number of its last line.
+pub fn read_listing(text: &str) -> Result<(Vec<Record>, u32), String> {
+    let mut records = Vec::new();
+    for (number, line) in text.lines().enumerate() {
+        let words: Vec<&str> = line.split_whitespace().collect();
+        let comment = words.first().is_none_or(|word| word.starts_with("//"));
+        if let ["end", ended, ..] = words[..] {
+            let ended = ended.parse().map_err(|_| no_line(number, line))?;
+            return Ok((records, ended));
+        }
+        if !comment {
+            records.push(record(&words).ok_or_else(|| no_line(number, line))?);
+        }
+    }
+    Err("there is no line 'end ..', so the list may be cut off".to_string())
+}
+
+/// Says that a line is none of a list.
+fn no_line(number: usize, line: &str) -> String {
+    let start: String = line.chars().take(40).collect();
+    format!("line {}: '{start}' is no line of a list", number + 1)
+}
+
+/// The record of a line's words.
+fn record(words: &[&str]) -> Option<Record> {
+    let (condition, words) = match words {
+        ["if", bit, value, rest @ ..] => {
+            let value = value.parse().ok().filter(|value| *value < 2)?;
+            (Some((bit.parse().ok()?, value)), rest)
+        }
+        _ => (None, words),
+    };
+    let (word, numbers) = words.split_first()?;
+    let operation = OPERATIONS.iter().find(|known| known.word == *word)?;
+    let mut record = Record {
+        code: operation.code,
+        condition,
+        numbers: [0; 2],
+    };
+    if numbers.len() != operation.marks.len() {
+        return None;
+    }
+    for (slot, number) in record.numbers.iter_mut().zip(numbers) {
+        *slot = number.parse().ok()?;
+    }
+    Some(record)
 }

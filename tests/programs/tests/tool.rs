@@ -1,43 +1,10 @@
 //! The `mqasm` program as people call it: output, messages and exit codes.
 
+mod common;
+
+use common::{command, examples, gives, refuses, tool};
 use std::fs;
-use std::io::Write;
-use std::path::PathBuf;
-use std::process::{Command, Output, Stdio};
-
-fn examples() -> PathBuf {
-    PathBuf::from(env!("CARGO_MANIFEST_DIR")).join("../../examples")
-}
-
-/// Runs the tool in the folder of the examples with some input.
-fn tool(words: &[&str], input: &[u8]) -> Output {
-    let mut child = Command::new(env!("CARGO_BIN_EXE_mqasm"))
-        .args(words)
-        .current_dir(examples())
-        .stdin(Stdio::piped())
-        .stdout(Stdio::piped())
-        .stderr(Stdio::piped())
-        .spawn()
-        .unwrap();
-    let _ = child.stdin.take().unwrap().write_all(input);
-    let output = child.wait_with_output().unwrap();
-    assert!(!String::from_utf8_lossy(&output.stderr).contains("panicked"));
-    output
-}
-
-/// Shows what the tool writes, says, and exits with.
-fn gives(words: &[&str], input: &str, code: i32, output: &str, message: &str) {
-    let found = tool(words, input.as_bytes());
-    assert_eq!(String::from_utf8_lossy(&found.stdout), output, "{words:?}");
-    assert_eq!(String::from_utf8_lossy(&found.stderr), message, "{words:?}");
-    assert_eq!(found.status.code(), Some(code), "{words:?}");
-}
-
-/// Shows that a command is refused with a message.
-fn refuses(words: &[&str], message: &str) {
-    let said = format!("mqasm: {message}; 'mqasm help' shows the commands\n");
-    gives(words, "", 2, "", &said);
-}
+use std::process::Stdio;
 
 #[test]
 fn help_is_shown() {
@@ -225,9 +192,7 @@ fn a_closed_output_is_no_crash() {
     let words = [
         "list", "loop.mq", "--family", "f", "--sizes", "60000", "--output", "1000000",
     ];
-    let mut child = Command::new(env!("CARGO_BIN_EXE_mqasm"))
-        .args(words)
-        .current_dir(examples())
+    let mut child = command(&words)
         .stdout(Stdio::piped())
         .stderr(Stdio::piped())
         .spawn()

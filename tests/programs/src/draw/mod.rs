@@ -9,6 +9,7 @@ mod rows;
 
 pub use rows::{numbered, parameters, registers, Rows};
 
+use crate::listing::line;
 use crate::operations::{Line, Record, CONDITION_MARKS};
 
 /// The most rows that are drawn.
@@ -63,9 +64,10 @@ impl Circuit {
 
     /// Puts one record into the first column that is free for it.
     fn add(&mut self, number: usize, record: &Record) -> Result<(), String> {
-        let gate = self.gate(record).ok_or(format!(
-            "record {number} is none that can be drawn: {record:?}"
-        ))?;
+        let gate = self.gate(record).ok_or_else(|| {
+            let line = line(record);
+            format!("record {number} cannot be drawn, as it is none of a list: {line}")
+        })?;
         let span = gate.top..=gate.bottom;
         let column = self.free[span.clone()].iter().max().copied().unwrap_or(0);
         if column == MOST_COLUMNS {

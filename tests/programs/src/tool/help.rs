@@ -33,6 +33,7 @@ Options of list and draw:
 Options of draw:
   --width COLUMNS         how wide the drawing may be (100)
   --records               FILE holds records of 8 bytes, as the library writes
+  --listing               FILE holds the lines of a list, as 'mqasm list' writes
 
 check, list and draw end with a line of number, place, records and steps. The
 exit code is 0 when the number is 0, 1 when the program is turned down, ends
@@ -107,6 +108,7 @@ left to right; gates side by side in one column do not depend on each other.
   --width COLUMNS         how wide the drawing may be (100); the rest follows
                           below, block by block
   --records               FILE holds records of 8 bytes, as the library writes
+  --listing               FILE holds the lines of a list, as 'mqasm list' writes
   --family NAME|NUMBER    draw an instance of this family
   --sizes 3,4             the sizes of the instance, in order
   --sizes n=3,m=4         or by name

@@ -4,6 +4,7 @@ use super::options::Holds;
 use super::{unreadable, Answer, Options};
 use crate::decode::decode;
 use crate::field::Field;
+use crate::listing::read_listing;
 use crate::operations::{Record, RECORD};
 use crate::scope::Scope;
 use crate::{assemble, Assembled, Spots};
@@ -82,20 +83,28 @@ pub fn read_records(file: &OsString, input: &mut dyn Read) -> Answer<Vec<Record>
     Ok(bytes.chunks_exact(RECORD).map(Record::of).collect())
 }
 
-/// Assembles a file, with its name in the message.
-pub fn assemble_file(file: &OsString, input: &mut dyn Read) -> Answer<Assembled> {
+/// Reads a text.
+fn read_text(file: &OsString, input: &mut dyn Read) -> Answer<String> {
     let bytes = read(file, MOST_TEXT, input)?;
     if bytes.len() > MOST_TEXT {
         return too_long(file, MOST_TEXT, "the text of a program needs");
     }
-    let text = match String::from_utf8(bytes) {
-        Ok(text) => text,
-        Err(error) => {
-            let place = error.utf8_error().valid_up_to();
-            return unreadable(format!("{}: no text at byte {place}", shown(file)));
-        }
-    };
+    String::from_utf8(bytes).or_else(|error| {
+        let place = error.utf8_error().valid_up_to();
+        unreadable(format!("{}: no text at byte {place}", shown(file)))
+    })
+}
+
+/// Assembles a file, with its name in the message.
+pub fn assemble_file(file: &OsString, input: &mut dyn Read) -> Answer<Assembled> {
+    let text = read_text(file, input)?;
     assemble(&text).or_else(|error| unreadable(format!("{}:{error}", shown(file))))
+}
+
+/// Reads the lines of a list: its records and the number that it ended with.
+pub fn read_list(file: &OsString, input: &mut dyn Read) -> Answer<(Vec<Record>, u32)> {
+    let text = read_text(file, input)?;
+    read_listing(&text).or_else(|error| unreadable(format!("{}: {error}", shown(file))))
 }
 
 /// A hint for a text that was read as bytes.

@@ -17,7 +17,7 @@ use crate::explain::explain;
 use crate::listing::{end_line, written};
 use crate::numbers::{meaning, version};
 use crate::{disassemble, listing, Assembled};
-use input::{assemble_file, read_bytes, read_records, shown};
+use input::{assemble_file, read_bytes, read_list, read_records, shown};
 use options::Holds;
 use reference::Outcome;
 use std::ffi::OsString;
@@ -129,8 +129,11 @@ fn work(command: Command, options: &Options, input: &mut dyn Read) -> Answer<Don
             })
         }
         Command::List => list(options, input),
-        Command::Draw if options.holds == Holds::Records => draw_records(options, input),
-        Command::Draw => draw_program(options, input),
+        Command::Draw => match options.holds {
+            Holds::Records => draw_records(options, input),
+            Holds::Listing => draw_list(options, input),
+            _ => draw_program(options, input),
+        },
     }
 }
 
@@ -216,6 +219,17 @@ fn draw_records(options: &Options, input: &mut dyn Read) -> Answer<Done> {
     let records = read_records(&options.file, input)?;
     let rows = draw::numbered(&records);
     done(drawn(options, rows, records.into_iter())?)
+}
+
+/// Draws the lines of a list.
+fn draw_list(options: &Options, input: &mut dyn Read) -> Answer<Done> {
+    let (records, number) = read_list(&options.file, input)?;
+    let rows = draw::numbered(&records);
+    let spoken = || format!("the list ended with {number}: {}", meaning(number));
+    Ok(Done {
+        content: drawn(options, rows, records.into_iter())?.into_bytes(),
+        note: (number != 0).then(|| format!("{}: {}", shown(&options.file), spoken())),
+    })
 }
 
 /// A drawing, or why there is none.

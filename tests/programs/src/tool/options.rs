@@ -41,11 +41,12 @@ const DRAWING: &[&str] = &[
     "--limit",
     "--output",
     "--records",
+    "--listing",
     "--width",
 ];
 
 /// The options that stand alone; the others take a value.
-const ALONE: [&str; 3] = ["--text", "--bytes", "--records"];
+const ALONE: [&str; 4] = ["--text", "--bytes", "--records", "--listing"];
 
 impl Command {
     /// The command of a name.
@@ -66,7 +67,10 @@ impl Command {
 pub enum Holds {
     Text,
     Bytes,
+    /// Records of 8 bytes, as the library writes them.
     Records,
+    /// The lines of a list.
+    Listing,
 }
 
 /// A size, with the name of its variable where one is given.
@@ -129,8 +133,9 @@ fn consistent(found: Options) -> Answer<Options> {
     if found.family.is_none() && !found.sizes.is_empty() {
         return misuse("--sizes needs --family");
     }
-    if found.holds == Holds::Records && found.family.is_some() {
-        return misuse("--records has no families to choose from");
+    let listed = matches!(found.holds, Holds::Records | Holds::Listing);
+    if listed && found.family.is_some() {
+        return misuse("--family chooses from a program, and not from a list");
     }
     Ok(found)
 }
@@ -161,7 +166,8 @@ fn alone(name: &str, attached: Option<OsString>) -> Answer<Holds> {
     Ok(match name {
         "--text" => Holds::Text,
         "--bytes" => Holds::Bytes,
-        _ => Holds::Records,
+        "--records" => Holds::Records,
+        _ => Holds::Listing,
     })
 }
 
