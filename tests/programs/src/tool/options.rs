@@ -7,7 +7,7 @@ use std::path::Path;
 /// The largest room for records that list takes.
 const MOST_OUTPUT: usize = 1 << 30;
 /// The widths that a drawing can have.
-const WIDTHS: std::ops::RangeInclusive<usize> = 20..=10_000;
+const WIDTHS: std::ops::RangeInclusive<usize> = 40..=10_000;
 
 /// A command that works on a file.
 #[derive(Clone, Copy, Debug, PartialEq, Eq)]
