@@ -20,7 +20,7 @@ pub const MOST_COLUMNS: usize = 300;
 /// One column: what stands on each row, and what joins it with the next row.
 #[derive(Clone)]
 struct Column {
-    marks: Vec<&'static str>,
+    marks: Vec<String>,
     links: Vec<Option<char>>,
 }
 
@@ -34,7 +34,7 @@ pub struct Circuit {
 
 /// A gate's marks, each with its row.
 struct Gate {
-    marks: Vec<(usize, &'static str)>,
+    marks: Vec<(usize, String)>,
     top: usize,
     bottom: usize,
     /// The lowest row that is a qubit of the gate; below it the bits are joined.
@@ -88,14 +88,14 @@ impl Circuit {
         let mut last_wire = 0;
         for ((line, mark), number) in operation.marks.iter().zip(record.numbers) {
             let row = self.rows.row(*line, number)?;
-            marks.push((row, *mark));
+            marks.push((row, mark.to_string()));
             if *line == Line::Wire {
                 last_wire = last_wire.max(row);
             }
         }
         if let Some((bit, value)) = record.condition {
             let mark = CONDITION_MARKS.get(usize::from(value))?;
-            marks.push((self.rows.row(Line::Bit, bit)?, *mark));
+            marks.push((self.rows.row(Line::Bit, bit)?, mark.to_string()));
         }
         marks.sort_unstable();
         if marks.windows(2).any(|pair| pair[0].0 == pair[1].0) {
@@ -113,7 +113,7 @@ impl Circuit {
     fn put(&mut self, column: usize, gate: &Gate) {
         let count = self.rows.count();
         let empty = Column {
-            marks: vec![""; count],
+            marks: vec![String::new(); count],
             links: vec![None; count],
         };
         while self.columns.len() <= column {
@@ -123,14 +123,15 @@ impl Circuit {
         for row in gate.top..gate.bottom {
             let quantum = row < gate.last_wire;
             column.links[row] = Some(if quantum { '│' } else { '║' });
-            column.marks[row] = match (quantum, self.rows.is_wire(row)) {
+            let crossing = match (quantum, self.rows.is_wire(row)) {
                 (true, _) => "┼",
                 (false, true) => "╫",
                 (false, false) => "╬",
             };
+            column.marks[row] = crossing.to_string();
         }
         for (row, mark) in &gate.marks {
-            column.marks[*row] = mark;
+            column.marks[*row] = mark.clone();
         }
     }
 }

@@ -56,7 +56,7 @@ impl Circuit {
             for column in &self.columns[columns.clone()] {
                 let wide = column.width() + 1;
                 line.push(fill);
-                line.push_str(&padded(column.marks[row], wide, fill));
+                line.push_str(&padded(&column.marks[row], wide, fill));
                 below.push(' ');
                 let link = column.links[row].map_or(String::new(), String::from);
                 below.push_str(&padded(&link, wide, ' '));

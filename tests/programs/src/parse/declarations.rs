@@ -24,7 +24,9 @@ impl Parser {
         let variables = count(self.indexes.len(), "index variables", spot)?;
         let (names, mut parts) = self.parameters()?;
         let head = vec![variables, count(names.len(), "parameters", spot)?];
-        let given = [&[name.clone()], self.indexes.list(), names.list()].concat();
+        let mut given = vec![name.clone()];
+        given.extend_from_slice(self.indexes.list());
+        given.extend_from_slice(names.list());
         let outer_parameters = self.parameters.replace(names);
         parts.extend(self.block()?);
         self.parameters = outer_parameters;

@@ -2,7 +2,7 @@
 
 use super::{field, resolve, Answer, Parser};
 use crate::field::{tags, Field};
-use crate::token::{TextError, Token, Word};
+use crate::token::{Spot, TextError, Token, Word};
 
 /// Operands and indexes.
 impl Parser {
@@ -11,10 +11,7 @@ impl Parser {
         let Token { word, spot } = self.take();
         let number = match word {
             Word::Symbol("#") => self.byte()?,
-            Word::Name(name) => match &self.parameters {
-                Some(names) => resolve(&name, names, "parameter", spot)?,
-                None => resolve(&name, &self.registers, "register", spot)?,
-            },
+            Word::Name(name) => self.operand_number(&name, spot)?,
             other => {
                 let message = format!("expected an operand, found {other}");
                 return Err(TextError::new(spot, message));
@@ -26,6 +23,19 @@ impl Parser {
         let index = self.index()?;
         self.expect("]")?;
         field(tags::ELEMENT, vec![number], vec![index], spot)
+    }
+
+    /// The number of the register or parameter of a name.
+    fn operand_number(&self, name: &str, spot: Spot) -> Answer<u8> {
+        let (names, what) = match &self.parameters {
+            Some(names) => (names, "parameter"),
+            None => (&self.registers, "register"),
+        };
+        if names.number(name).is_none() && self.indexes.number(name).is_some() {
+            let message = format!("expected an operand, and '{name}' is an index variable");
+            return Err(TextError::new(spot, message));
+        }
+        resolve(name, names, what, spot)
     }
 
     /// Sums and differences, the left ones first.

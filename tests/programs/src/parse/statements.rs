@@ -134,10 +134,18 @@ impl Parser {
         self.expect("(")?;
         while !self.accept(")") {
             self.comma(parts.len() - before)?;
-            parts.push(self.operand()?);
+            parts.push(self.call_operand(before == 0)?);
         }
         self.end_of_statement()?;
         field(tags::CALL, vec![number], parts, spot)
+    }
+
+    /// An operand of a call; a number in its place may be a size without operands.
+    fn call_operand(&mut self, first: bool) -> Answer<Field> {
+        if first && matches!(self.peek(), Word::Number(_)) {
+            return self.wrong("an operand (sizes stand before the operands, as f(3)(q))");
+        }
+        self.operand()
     }
 
     /// Whether the parenthesis that starts here is followed by another one.
