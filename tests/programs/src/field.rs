@@ -47,6 +47,16 @@ pub mod tags {
         })
     }
 
+    /// Whether a field with this tag is an index.
+    pub fn is_index(tag: u8) -> bool {
+        (LITERAL..=PRODUCT).contains(&tag)
+    }
+
+    /// Whether a field with this tag is an operand.
+    pub fn is_operand(tag: u8) -> bool {
+        matches!(tag, WHOLE | ELEMENT)
+    }
+
     /// Whether a field with this tag stands at the top only.
     pub fn at_top_only(tag: u8) -> bool {
         (FAMILY..=IF).contains(&tag)

@@ -47,7 +47,7 @@ pub fn assemble(text: &str) -> Result<Assembled, TextError> {
     let parsed = parse::parse(text)?;
     let (bytes, spots) = encode::encode(&parsed.fields)?;
     let fields = match parsed.fields.iter().any(field::Field::has_bare) {
-        true => decode::decode(&bytes).unwrap_or_default(),
+        true => decode::readable(&bytes),
         false => parsed.fields,
     };
     Ok(Assembled {

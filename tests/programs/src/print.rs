@@ -106,6 +106,7 @@ impl<'a> Printer<'a> {
     }
 
     fn call(&mut self, field: &Field) {
+        let is_index = |part: &&Field| part.tag.is_some_and(tags::is_index);
         let (indexes, operands): (Vec<_>, Vec<_>) = field.parts.iter().partition(is_index);
         let name = self.scope.family(usize::from(field.head[0]));
         let sizes = match indexes.is_empty() {
@@ -125,11 +126,6 @@ impl<'a> Printer<'a> {
         self.block(&field.parts[2..]);
         self.scope.leave(field);
     }
-}
-
-/// Whether a part of a call is an index and not an operand.
-pub fn is_index(part: &&Field) -> bool {
-    part.tag.is_some_and(|tag| tag >= tags::LITERAL)
 }
 
 /// Texts with commas between them.

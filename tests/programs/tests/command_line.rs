@@ -25,6 +25,10 @@ fn options_in_both_spellings() {
         wrote(&tool(&["draw", "adder.mq", "--width=60"], b"")),
         drawing
     );
+}
+
+#[test]
+fn values_that_are_not_taken() {
     refuses(
         &["list", "bell.mq", "--limit=x"],
         "'x' is not a number that --limit takes",

@@ -110,8 +110,11 @@ fn labels_by_name_or_number() {
     assert_eq!(wrote(&tool(&words, &bytes)), by_number);
     let text = "qreg q[1]; creg c[1]; measure q[0] -> c[0];";
     let bytes = programs::assemble(text).unwrap().bytes;
-    let by_number = "wire 0 ─M─\n        ║\nbit 0  ═╩═\nend 0 0 1 1\n";
-    assert_eq!(wrote(&tool(&["draw", "--bytes", "-"], &bytes)), by_number);
+    let by_register = "q0[0] ─M─\n       ║\nc1[0] ═╩═\nend 0 0 1 1\n";
+    assert_eq!(wrote(&tool(&["draw", "--bytes", "-"], &bytes)), by_register);
+    let list = "measure 0 0\nend 0 0 1 1\n";
+    let by_number = "wire 0 ─M─\n        ║\nbit 0  ═╩═\n";
+    gives(&["draw", "--listing", "-"], list, 0, by_number, "");
 }
 
 #[test]

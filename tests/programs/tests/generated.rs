@@ -119,15 +119,20 @@ fn marks_of_list(list: &str) -> BTreeMap<String, Vec<&'static str>> {
 /// The marks on each row of a drawing of one block, in order.
 fn marks_of_drawing(drawing: &str) -> BTreeMap<String, Vec<&str>> {
     let mut rows = BTreeMap::new();
+    let (mut wires, mut bits) = (0, 0);
     for line in drawing.lines() {
-        let Some(start) = line.find(['─', '═']).filter(|start| *start > 0) else {
-            continue;
+        let (row, count) = match line.chars().next() {
+            Some('q') => ("wire", &mut wires),
+            Some('c') => ("bit", &mut bits),
+            _ => continue,
         };
-        let marks = line[start..].split(['─', '═', '┼', '╫', '╬']);
+        let (_, line) = line.split_once(' ').unwrap();
+        let marks = line.trim().split(['─', '═', '┼', '╫', '╬']);
         let marks: Vec<&str> = marks.filter(|mark| !mark.is_empty()).collect();
         if !marks.is_empty() {
-            rows.insert(line[..start].trim().to_string(), marks);
+            rows.insert(format!("{row} {count}"), marks);
         }
+        *count += 1;
     }
     rows
 }

@@ -235,6 +235,10 @@ fn counts_and_numbers() {
         8,
         "#3 is asked for, and there is 1 register here, number 0",
     );
+}
+
+#[test]
+fn indexes_and_conditions() {
     mend(
         "family(n, m) f(x: Qbit[n*m]) {}",
         "1:25",
@@ -249,6 +253,32 @@ fn counts_and_numbers() {
         13,
         "the value is 2: write 0 or 1",
     );
+}
+
+#[test]
+fn numbers_out_of_range() {
+    mend(
+        "family(n) f(x: Qbit[65535*65535*n]) {}",
+        "1:26",
+        "end 11 11 0 0\n",
+        11,
+        "it is built by 65535 * 65535",
+    );
+    mend(
+        "family(n) f(x: Qbit[n]) { h x[40000*50000]; }",
+        "1:29",
+        "end 11 15 0 0\n",
+        11,
+        "it is built for x[40000 * 50000]",
+    );
+}
+
+#[test]
+fn details_come_from_what_can_be_read() {
+    let text = "qreg q[1]; h q[1]; bytes \"ff\";";
+    let found = tool(&["check", "-"], text.as_bytes());
+    assert!(said(&found).contains(": 12: "));
+    assert!(said(&found).contains("  q0[1]: the index 1 is 0 or more, but"));
 }
 
 #[test]

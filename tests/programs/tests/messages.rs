@@ -123,6 +123,10 @@ fn what_is_due() {
         "1:22: expected an operand, found the end of the text",
     );
     says("gate g(a: Qbit) {} g;", "1:21: expected '(', found ';'");
+}
+
+#[test]
+fn sizes_where_operands_are_due() {
     says(
         "family(n) f(x: Qbit[n]) {} f(3);",
         "1:30: expected an operand (sizes stand before the operands, as f(3)(q)), found '3'",

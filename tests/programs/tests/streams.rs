@@ -108,13 +108,14 @@ fn a_reader_that_has_gone_is_a_clean_end() {
 fn output_goes_to_a_file() {
     let bytes = Scratch::new("bell.bytes");
     gives(&["assemble", "bell.mq", "-o", bytes.path()], "", 0, "", "");
+    let list = "h 0\ncx 0 1\nend 0 0 2 2\n";
+    gives(&["list", "bell.mq", "-o", "-"], "", 0, list, "");
     let due = fs::read(examples().join("bell.bytes")).unwrap();
     assert_eq!(fs::read(&bytes.0).unwrap(), due);
     for spelling in [
         format!("-o{}", bytes.path()),
         format!("-o={}", bytes.path()),
     ] {
-        let list = "h 0\ncx 0 1\nend 0 0 2 2\n";
         gives(&["list", "bell.mq", &spelling], "", 0, "", "");
         assert_eq!(fs::read_to_string(&bytes.0).unwrap(), list);
         gives(&["text", "bell.bytes", &spelling], "", 0, "", "");

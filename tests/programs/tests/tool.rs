@@ -70,7 +70,7 @@ fn lists_runs() {
         "",
     );
     let message = "mqasm: cx-one-wire.mq:4:1: 25: a cx has the same wire as control and target\n  \
-        both operands stand for the same wire here\n";
+        q[0] and q[0] stand for the same wire in this run\n";
     gives(
         &["list", "cx-one-wire.mq"],
         "",

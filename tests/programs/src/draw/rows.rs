@@ -3,7 +3,7 @@
 use crate::field::{tags, Field};
 use crate::form::Form;
 use crate::operations::{Line, Record};
-use crate::scope::{own_variables, parameter_count, parameter_name, two_bytes};
+use crate::scope::{own_variables, parameter_count, parameter_name, two_bytes, Scope};
 use crate::tool::family_field;
 
 /// The labels of the rows: qubits first, then bits.
@@ -60,14 +60,15 @@ impl Rows {
 /// The rows of a whole run: every register of the program.
 pub fn registers(fields: &[Field]) -> Rows {
     let mut rows = Rows::default();
-    for field in fields {
+    let mut scope = Scope::default();
+    fields.iter().for_each(|field| scope.declare(field));
+    for (number, field) in scope.registers.iter().enumerate() {
         let line = match field.tag {
             Some(tags::QREG) => Line::Wire,
-            Some(tags::CREG) => Line::Bit,
-            _ => continue,
+            _ => Line::Bit,
         };
-        let name = field.names.first().map(String::as_str);
-        rows.add(line, name, usize::from(two_bytes(field)));
+        let name = scope.register(number);
+        rows.add(line, Some(&name), usize::from(two_bytes(field)));
     }
     rows
 }

@@ -34,15 +34,13 @@ pub fn explain(program: &Loaded, options: &Options, outcome: &Outcome) -> Option
             "the output has {} bytes, and a record takes 8: allow more with --output",
             options.output
         )),
-        3 if program.fields.is_empty() => shape::tag_alone(program.bytes.get(place)),
-        number => {
-            let found = locate(&program.fields, place)?;
-            match number {
-                9 => kinds::wrong_kind(&found),
-                12 => showing::not_shown(&found),
-                _ => shape::misshapen(&found, number),
-            }
-        }
+        3 => match locate(&program.fields, place) {
+            Some(found) => shape::misplaced(&found),
+            None => shape::tag_alone(program.bytes.get(place)),
+        },
+        9 => kinds::wrong_kind(&locate(&program.fields, place)?),
+        12 => showing::not_shown(&locate(&program.fields, place)?),
+        number => shape::misshapen(&locate(&program.fields, place)?, number),
     }
 }
 

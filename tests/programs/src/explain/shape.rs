@@ -2,7 +2,6 @@
 
 use super::locate::Found;
 use crate::field::{tags, Field};
-use crate::print::is_index;
 use crate::scope::{counted, own_variables, parameter_count, two_bytes, Scope};
 use crate::tool::size_names;
 
@@ -10,17 +9,24 @@ use crate::tool::size_names;
 pub fn misshapen(found: &Found, number: u32) -> Option<String> {
     let (field, scope) = (found.field(), &found.scope);
     match number {
-        3 => misplaced(found),
         4 if field.tag == Some(tags::CALL) => call(field, scope),
         6 => too_many(field, scope),
         7 => Some(too_large(field, scope)),
         8 => out_of_scope(field, scope),
+        11 if tags::is_index(field.tag?) => Some(format!("it is built by {}", scope.index(field))),
+        11 if tags::is_operand(field.tag?) => {
+            Some(format!("it is built for {}", scope.operand(field)))
+        }
         10 => Some(format!(
             "{}: one side of a product must be a number",
             scope.index(field)
         )),
         13 => Some(format!("the value is {}: write 0 or 1", field.head[0])),
-        25 => Some("both operands stand for the same wire here".to_string()),
+        25 => Some(format!(
+            "{} and {} stand for the same wire in this run",
+            scope.operand(field.parts.first()?),
+            scope.operand(field.parts.get(1)?),
+        )),
         _ => None,
     }
 }
@@ -32,7 +38,7 @@ pub fn tag_alone(tag: Option<&u8>) -> Option<String> {
 }
 
 /// A field that cannot stand where it is.
-fn misplaced(found: &Found) -> Option<String> {
+pub fn misplaced(found: &Found) -> Option<String> {
     let around = found.around()?;
     let tag = found.field().tag?;
     if around.tag == Some(tags::CALL) {
@@ -54,6 +60,7 @@ fn call(field: &Field, scope: &Scope) -> Option<String> {
     let called = scope.families.get(number)?;
     let name = scope.family(number);
     let (sizes, operands) = (own_variables(called), parameter_count(called));
+    let is_index = |part: &&Field| part.tag.is_some_and(tags::is_index);
     let given_sizes = field.parts.iter().filter(is_index).count();
     let given_operands = field.parts.len() - given_sizes;
     if given_sizes == 0 && sizes > 0 {

@@ -78,23 +78,35 @@ standard input; a path that ends in .bytes is read as bytes, anything else as
 text.
 ";
 
-const LIST: &str = "\
-mqasm list FILE [options]
-
-Lists the records of a whole run, or of one family, a line for each: the
-operation and its wires and bits, after 'if BIT VALUE' where there is a
-condition. The last line has number, place, records and steps.
-
-  --family NAME|NUMBER    list an instance of this family
+/// The options that list and draw share.
+macro_rules! listing_options {
+    () => {
+        "\
+  --family NAME|NUMBER    an instance of this family instead
   --sizes 3,4             the sizes of the instance, in order
   --sizes n=3,m=4         or by name
   --limit STEPS           stop after so many steps (1000000)
   --output BYTES          room for records, 8 bytes each (65536)
   --text, --bytes         what FILE holds, whatever it is called
   -o FILE                 write to this file instead of standard output
-";
+"
+    };
+}
 
-const DRAW: &str = "\
+const LIST: &str = concat!(
+    "\
+mqasm list FILE [options]
+
+Lists the records of a whole run, or of one family, a line for each: the
+operation and its wires and bits, after 'if BIT VALUE' where there is a
+condition. The last line has number, place, records and steps.
+
+",
+    listing_options!()
+);
+
+const DRAW: &str = concat!(
+    "\
 mqasm draw FILE [options]
 
 Draws the records of a whole run, or of one family, as a circuit. Time goes from
@@ -109,14 +121,9 @@ left to right; gates side by side in one column do not depend on each other.
                           below, block by block
   --records               FILE holds records of 8 bytes, as the library writes
   --listing               FILE holds the lines of a list, as 'mqasm list' writes
-  --family NAME|NUMBER    draw an instance of this family
-  --sizes 3,4             the sizes of the instance, in order
-  --sizes n=3,m=4         or by name
-  --limit STEPS           stop after so many steps (1000000)
-  --output BYTES          room for records, 8 bytes each (65536)
-  --text, --bytes         what FILE holds, whatever it is called
-  -o FILE                 write to this file instead of standard output
-";
+",
+    listing_options!()
+);
 
 /// The help of one command.
 pub fn of(command: Command) -> &'static str {

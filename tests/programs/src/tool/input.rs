@@ -2,7 +2,7 @@
 
 use super::options::Holds;
 use super::{unreadable, Answer, Options};
-use crate::decode::decode;
+use crate::decode::readable;
 use crate::field::Field;
 use crate::listing::read_listing;
 use crate::operations::{Record, RECORD};
@@ -120,7 +120,7 @@ pub fn looks_like_text(bytes: &[u8]) -> &'static str {
 pub fn load(options: &Options, input: &mut dyn Read) -> Answer<Loaded> {
     if options.holds == Holds::Bytes {
         let bytes = read_bytes(&options.file, input)?;
-        let fields = decode(&bytes).unwrap_or_default();
+        let fields = readable(&bytes);
         return Ok(Loaded {
             families: invented_families(&fields),
             spots: Spots::default(),

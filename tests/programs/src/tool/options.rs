@@ -193,7 +193,7 @@ fn set(options: &mut Options, name: &str, value: OsString) -> Answer<()> {
     let text = value.to_string_lossy();
     match name {
         "-o" if value.is_empty() => return misuse("-o needs a file"),
-        "-o" => options.to = Some(value),
+        "-o" => options.to = Some(value).filter(|file| file != "-"),
         "--family" => options.family = Some(text.to_string()),
         "--sizes" => options.sizes = sizes(&text)?,
         "--limit" => options.limit = number(name, &text)?,
