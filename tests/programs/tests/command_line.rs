@@ -117,6 +117,7 @@ fn every_command_has_its_help() {
         }
         assert!(programs::tool::USAGE.contains(&format!("mqasm {command} FILE")));
         assert!(help.lines().all(|line| line.chars().count() <= 80));
+        assert!(!help.lines().any(|line| line.starts_with("--")));
     }
     assert!(programs::tool::USAGE
         .lines()

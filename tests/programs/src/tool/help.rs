@@ -81,8 +81,7 @@ text.
 /// The options that list and draw share.
 macro_rules! listing_options {
     () => {
-        "\
-  --family NAME|NUMBER    an instance of this family instead
+        "  --family NAME|NUMBER    an instance of this family instead
   --sizes 3,4             the sizes of the instance, in order
   --sizes n=3,m=4         or by name
   --limit STEPS           stop after so many steps (1000000)
@@ -110,7 +109,8 @@ const DRAW: &str = concat!(
 mqasm draw FILE [options]
 
 Draws the records of a whole run, or of one family, as a circuit. Time goes from
-left to right; gates side by side in one column do not depend on each other.
+left to right, and gates in one column do not depend on each other. A drawing
+has at most 100 rows and 300 columns.
 
   ───  a qubit               ═══  a bit
   ●⊕   cx: control, target   M ╩  measure, and the bit that is written
