@@ -1,5 +1,6 @@
 //! Records and results as lines for people.
 
+use crate::names::clipped;
 use crate::operations::{Record, OPERATIONS, RECORD};
 use reference::Outcome;
 use std::fmt::Write;
@@ -68,7 +69,8 @@ pub fn read_listing(text: &str) -> Result<(Vec<Record>, u32), String> {
 
 /// Says that a line is none of a list.
 fn no_line(number: usize, line: &str) -> String {
-    let start: String = line.chars().take(40).collect();
+    let start = clipped(line, 40);
+    let start = start.escape_debug();
     format!("line {}: '{start}' is no line of a list", number + 1)
 }
 

@@ -1,4 +1,5 @@
-//! Names in the order in which they are given, each found quickly by its text.
+//! Names in the order in which they are given, each found quickly by its text,
+//! and long ones cut short for people.
 
 use std::collections::HashMap;
 
@@ -36,5 +37,13 @@ impl Names {
     /// The names by number.
     pub fn list(&self) -> &[String] {
         &self.order
+    }
+}
+
+/// A text for a message or a drawing, cut where it is longer than so many characters.
+pub fn clipped(text: &str, most: usize) -> String {
+    match text.char_indices().nth(most) {
+        None => text.to_string(),
+        Some(_) => text.chars().take(most - 1).chain(['…']).collect(),
     }
 }

@@ -1,5 +1,6 @@
 //! The words and symbols of the text form, each with its line and column.
 
+use crate::names::clipped;
 use std::fmt;
 use std::iter::Peekable;
 use std::str::Chars;
@@ -18,12 +19,13 @@ pub struct TextError {
     pub message: String,
 }
 
+/// The most characters of a message.
+const MOST_MESSAGE: usize = 400;
+
 impl TextError {
     pub fn new(spot: Spot, message: impl Into<String>) -> Self {
-        TextError {
-            spot,
-            message: message.into(),
-        }
+        let message = clipped(&message.into(), MOST_MESSAGE);
+        TextError { spot, message }
     }
 }
 

@@ -246,6 +246,16 @@ fn the_largest_drawing_is_below_a_megabyte() {
 }
 
 #[test]
+fn long_names_are_cut() {
+    let name = "a".repeat(3000);
+    let text = format!("qreg {name}[2]; gate g({name}: Qbit) {{ t {name}; }} h {name}[1];");
+    let drawing = "aaaaaaaaaaaaaaa…[0] ───\naaaaaaaaaaaaaaa…[1] ─H─\nend 0 0 1 1\n";
+    assert_eq!(drawn(&text, &[]), drawing);
+    let drawing = "aaaaaaaaaaaaaaa… ─T─\nend 0 0 1 1\n";
+    assert_eq!(drawn(&text, &["--family=g"]), drawing);
+}
+
+#[test]
 fn refused_programs_have_no_drawing() {
     let found = tool(&["draw", "element-n.mq"], b"");
     assert_eq!(wrote(&found), "end 12 15 0 0\n");

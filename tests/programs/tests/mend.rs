@@ -282,6 +282,25 @@ fn details_come_from_what_can_be_read() {
 }
 
 #[test]
+fn messages_are_short() {
+    let name = "a".repeat(5000);
+    let sum = "+0".repeat(14);
+    for text in [
+        format!("h {name}[0];"),
+        format!("qreg {name}[1]; qreg {name}[1];"),
+        format!("qreg {name}[1]; h {name}[1];"),
+        format!("family({name}) f(x: Qbit[{name}]) {{ h x[{name}{sum}]; }}"),
+        format!("qreg q[1{name}];"),
+        format!("OPENQASM {name};"),
+    ] {
+        let found = tool(&["check", "-"], text.as_bytes());
+        assert_eq!(found.status.code(), Some(1), "{text:.40}");
+        let length = said(&found).chars().count();
+        assert!(length > 50 && length < 600, "{length}: {text:.40}");
+    }
+}
+
+#[test]
 fn sizes_that_are_due() {
     let list = |words: &[&str], number: u32, details: &str| {
         let words = [&["list"], words].concat();

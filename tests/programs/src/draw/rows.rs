@@ -2,9 +2,13 @@
 
 use crate::field::{tags, Field};
 use crate::form::Form;
+use crate::names::clipped;
 use crate::operations::{Line, Record};
 use crate::scope::{own_variables, parameter_count, parameter_name, two_bytes, Scope};
 use crate::tool::family_field;
+
+/// The most characters of a name that a label shows.
+const MOST_NAME: usize = 16;
 
 /// The labels of the rows: qubits first, then bits.
 #[derive(Default)]
@@ -48,8 +52,9 @@ impl Rows {
             Line::Wire => (&mut self.wires, "wire"),
             Line::Bit => (&mut self.bits, "bit"),
         };
+        let name = name.map(|name| clipped(name, MOST_NAME));
         for index in 0..size {
-            labels.push(match name {
+            labels.push(match &name {
                 Some(name) => format!("{name}[{index}]"),
                 None => format!("{word} {}", labels.len()),
             });
@@ -83,7 +88,7 @@ pub fn parameters(fields: &[Field], family: u32, sizes: &[u32]) -> Rows {
     for number in 0..parameter_count(family) {
         let name = parameter_name(family, number);
         match family.parts[number].parts.first() {
-            None if named => rows.wires.push(name),
+            None if named => rows.wires.push(clipped(&name, MOST_NAME)),
             None => rows.add(Line::Wire, None, 1),
             Some(index) => {
                 let form = Form::of(index, own_variables(family));

@@ -15,6 +15,7 @@ pub use sizes::{in_order as sizes_in_order, size_bytes};
 use crate::draw::{self, Circuit};
 use crate::explain::explain;
 use crate::listing::{end_line, written};
+use crate::names::clipped;
 use crate::numbers::{meaning, version};
 use crate::{disassemble, listing, Assembled};
 use input::{assemble_file, read_bytes, read_list, read_records, shown};
@@ -22,6 +23,9 @@ use options::Holds;
 use reference::Outcome;
 use std::ffi::OsString;
 use std::io::{Read, Write};
+
+/// The most characters that are said of what to mend.
+const MOST_DETAILS: usize = 400;
 
 /// Why the tool stops: exit code and message.
 pub struct Stop {
@@ -262,7 +266,7 @@ fn note(program: &Loaded, options: &Options, outcome: &Outcome) -> Option<String
         None => format!("{file}: {spoken}"),
     };
     if let Some(details) = explain(program, options, outcome) {
-        said.push_str(&format!("\n  {details}"));
+        said.push_str(&format!("\n  {}", clipped(&details, MOST_DETAILS)));
     }
     Some(said)
 }
