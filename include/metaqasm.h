@@ -41,6 +41,8 @@
 #include <stddef.h>
 #include <stdint.h>
 
+#define METAQASM_VERSION "1.0.0"
+
 #ifdef __cplusplus
 extern "C" {
 #endif

@@ -39,8 +39,8 @@ impl Class {
             Class::Top => matches!(tag, 1..=6 | 32..=38),
             Class::Statement => matches!(tag, 32..=38),
             Class::Type => matches!(tag, 16 | 17),
-            Class::Operand => matches!(tag, 48 | 49),
-            Class::Index => matches!(tag, 64..=68),
+            Class::Operand => tags::is_operand(tag),
+            Class::Index => tags::is_index(tag),
             Class::Argument => Class::Operand.allows(tag) || Class::Index.allows(tag),
         }
     }
@@ -61,6 +61,20 @@ impl Class {
 pub fn decode(bytes: &[u8]) -> Result<Vec<Field>, ByteError> {
     let reader = Reader { bytes };
     reader.list(0, bytes.len(), Class::Top, 1)
+}
+
+/// Reads the fields at the top as far as they can be read.
+pub fn readable(bytes: &[u8]) -> Vec<Field> {
+    let reader = Reader { bytes };
+    let (mut found, mut at) = (Vec::new(), 0);
+    while at < bytes.len() {
+        let Ok((field, next)) = reader.field(at, bytes.len(), Class::Top, 1) else {
+            break;
+        };
+        found.push(field);
+        at = next;
+    }
+    found
 }
 
 /// A refusal at an offset.
@@ -178,7 +192,7 @@ impl Reader<'_> {
 
 /// Whether no index stands after an operand.
 fn indexes_first(parts: &[Field]) -> bool {
-    let is_index = |part: &Field| part.tag.is_some_and(|tag| Class::Index.allows(tag));
+    let is_index = |part: &Field| part.tag.is_some_and(tags::is_index);
     parts
         .iter()
         .skip_while(|part| is_index(part))

@@ -3,7 +3,7 @@
 //! The first line of a `.list` file is the command that makes the rest of it,
 //! as `// mqasm list adder.mq --family add --sizes 2`.
 
-use crate::tool::{self, Options};
+use crate::tool::{self, Command, Options};
 use std::ffi::OsString;
 use std::fs;
 use std::path::{Path, PathBuf};
@@ -57,10 +57,15 @@ fn example(folder: &Path, path: &PathBuf) -> Result<Example, String> {
     };
     let words: Vec<OsString> = words.split_whitespace().map(OsString::from).collect();
     let stopped = |stop: tool::Stop| said(path, stop.message);
-    let mut options: Options = tool::options(&words, true).map_err(stopped)?;
+    let mut options: Options = tool::options(&words, Command::List).map_err(stopped)?;
     let program = options.file.to_string_lossy().into_owned();
     options.file = folder.join(&program).into_os_string();
-    let loaded = tool::load(&options).map_err(stopped)?;
+    let loaded = tool::load(&options, &mut std::io::empty()).map_err(stopped)?;
+    let family = loaded.family(&options).map_err(stopped)?;
+    let sizes = match family {
+        None => Vec::new(),
+        Some(number) => tool::sizes_in_order(&options, &loaded, number).map_err(stopped)?,
+    };
     Ok(Example {
         name: path
             .file_name()
@@ -68,9 +73,9 @@ fn example(folder: &Path, path: &PathBuf) -> Result<Example, String> {
             .to_string_lossy()
             .into_owned(),
         program,
-        family: loaded.family(&options).map_err(stopped)?,
+        family,
         bytes: loaded.bytes,
-        sizes: tool::size_bytes(&options.sizes),
+        sizes: tool::size_bytes(&sizes),
         limit: options.limit,
         output: options.output,
         listing: listing.to_string(),

@@ -26,6 +26,41 @@ pub mod tags {
     pub const SUM: u8 = 66;
     pub const DIFFERENCE: u8 = 67;
     pub const PRODUCT: u8 = 68;
+
+    /// The word that starts a declaration or statement.
+    pub fn word(tag: u8) -> Option<&'static str> {
+        Some(match tag {
+            FAMILY => "family",
+            QREG => "qreg",
+            CREG => "creg",
+            MEASURE => "measure",
+            RESET => "reset",
+            IF => "if",
+            H => "h",
+            T => "t",
+            TDG => "tdg",
+            CX => "cx",
+            CALL => "call",
+            REVERSE => "reverse",
+            FOR => "for",
+            _ => return None,
+        })
+    }
+
+    /// Whether a field with this tag is an index.
+    pub fn is_index(tag: u8) -> bool {
+        (LITERAL..=PRODUCT).contains(&tag)
+    }
+
+    /// Whether a field with this tag is an operand.
+    pub fn is_operand(tag: u8) -> bool {
+        matches!(tag, WHOLE | ELEMENT)
+    }
+
+    /// Whether a field with this tag stands at the top only.
+    pub fn at_top_only(tag: u8) -> bool {
+        (FAMILY..=IF).contains(&tag)
+    }
 }
 
 /// How deep fields may lie in each other here; the checker's own limits are lower.
@@ -44,6 +79,9 @@ pub struct Field {
     pub spot: Spot,
     /// How many fields lie in each other, this one counting 1.
     pub depth: usize,
+    /// The names that the text gives: a register's or a loop variable's one, or
+    /// a family's own and then its index variables' and parameters'.
+    pub names: Vec<String>,
 }
 
 impl Field {
@@ -56,7 +94,25 @@ impl Field {
             parts,
             spot,
             depth: inner + 1,
+            names: Vec::new(),
         }
+    }
+
+    /// The same field with the names that the text gives.
+    pub fn named(self, names: Vec<String>) -> Self {
+        Field { names, ..self }
+    }
+
+    /// How many bytes the field takes, its header included.
+    pub fn length(&self) -> usize {
+        let header = if self.tag.is_some() { 3 } else { 0 };
+        let parts: usize = self.parts.iter().map(Field::length).sum();
+        header + self.head.len() + parts
+    }
+
+    /// Whether bytes stand in it as they are.
+    pub fn has_bare(&self) -> bool {
+        self.tag.is_none() || self.parts.iter().any(Field::has_bare)
     }
 
     /// Bytes that stand in a list as they are.
@@ -67,6 +123,7 @@ impl Field {
             parts: Vec::new(),
             spot,
             depth: 1,
+            names: Vec::new(),
         }
     }
 }

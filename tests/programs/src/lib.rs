@@ -5,19 +5,28 @@
 //! type-check: what is refused is the checker's business.
 
 mod decode;
+mod draw;
 mod encode;
 mod examples;
+mod explain;
 mod field;
+mod foreign;
+mod form;
 mod listing;
+mod names;
+mod numbers;
+mod operations;
 mod parse;
 mod print;
+mod scope;
 mod token;
 pub mod tool;
 
 pub use decode::ByteError;
 pub use encode::Spots;
 pub use examples::{examples, Example};
-pub use listing::{listing, meaning};
+pub use listing::listing;
+pub use numbers::{meaning, numbers, version, Number};
 pub use token::{Spot, TextError};
 
 /// A program put into bytes, with what its text said about it.
@@ -29,16 +38,23 @@ pub struct Assembled {
     pub families: Vec<String>,
     /// Where in the text each field stands.
     pub spots: Spots,
+    /// The fields; without the text's names where bytes are put in as they are.
+    pub(crate) fields: Vec<field::Field>,
 }
 
 /// Puts a text into bytes.
 pub fn assemble(text: &str) -> Result<Assembled, TextError> {
     let parsed = parse::parse(text)?;
     let (bytes, spots) = encode::encode(&parsed.fields)?;
+    let fields = match parsed.fields.iter().any(field::Field::has_bare) {
+        true => decode::readable(&bytes),
+        false => parsed.fields,
+    };
     Ok(Assembled {
         bytes,
         families: parsed.families,
         spots,
+        fields,
     })
 }
 

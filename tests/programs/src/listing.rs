@@ -1,70 +1,100 @@
 //! Records and results as lines for people.
 
+use crate::names::clipped;
+use crate::operations::{Record, OPERATIONS, RECORD};
 use reference::Outcome;
 use std::fmt::Write;
 
 /// One line for each record, then the line of the result.
 pub fn listing(output: &[u8], outcome: &Outcome) -> String {
     let mut text = String::new();
-    let records = usize::try_from(outcome.records).unwrap_or(usize::MAX);
-    for record in output.chunks_exact(8).take(records) {
-        text.push_str(&line(record));
+    for record in written(output, outcome) {
+        text.push_str(&line(&record));
         text.push('\n');
     }
+    text.push_str(&end_line(outcome));
+    text
+}
+
+/// The records that a run wrote.
+pub fn written<'a>(output: &'a [u8], outcome: &Outcome) -> impl Iterator<Item = Record> + 'a {
+    let records = usize::try_from(outcome.records).unwrap_or(usize::MAX);
+    output.chunks_exact(RECORD).take(records).map(Record::of)
+}
+
+/// The line of the result.
+pub fn end_line(outcome: &Outcome) -> String {
     let Outcome {
         number,
         place,
         records,
         steps,
     } = outcome;
-    let _ = writeln!(text, "end {number} {place} {records} {steps}");
+    format!("end {number} {place} {records} {steps}\n")
+}
+
+/// The line of one record.
+pub fn line(record: &Record) -> String {
+    let mut text = String::new();
+    if let Some((bit, value)) = record.condition {
+        let _ = write!(text, "if {bit} {value} ");
+    }
+    let Some(operation) = record.operation() else {
+        let _ = write!(text, "unknown {}", record.code);
+        return text;
+    };
+    text.push_str(operation.word);
+    for number in record.numbers.iter().take(operation.marks.len()) {
+        let _ = write!(text, " {number}");
+    }
     text
 }
 
-/// The line of one record of 8 bytes.
-fn line(record: &[u8]) -> String {
-    let two = |at: usize| u16::from_le_bytes([record[at], record[at + 1]]);
-    let (first, second, bit) = (two(2), two(4), two(6));
-    let operation = match record[0] {
-        1 => format!("h {first}"),
-        2 => format!("t {first}"),
-        3 => format!("tdg {first}"),
-        4 => format!("cx {first} {second}"),
-        5 => format!("measure {first} {second}"),
-        6 => format!("reset {first}"),
-        other => format!("unknown {other}"),
-    };
-    match record[1] {
-        0 => operation,
-        condition => format!("if {bit} {} {operation}", condition - 1),
+/// The records of a list's lines, and the number of its last line.
+pub fn read_listing(text: &str) -> Result<(Vec<Record>, u32), String> {
+    let mut records = Vec::new();
+    for (number, line) in text.lines().enumerate() {
+        let words: Vec<&str> = line.split_whitespace().collect();
+        let comment = words.first().is_none_or(|word| word.starts_with("//"));
+        if let ["end", ended, ..] = words[..] {
+            let ended = ended.parse().map_err(|_| no_line(number, line))?;
+            return Ok((records, ended));
+        }
+        if !comment {
+            records.push(record(&words).ok_or_else(|| no_line(number, line))?);
+        }
     }
+    Err("there is no line 'end ..', so the list may be cut off".to_string())
 }
 
-/// What a result's number says, in plain words.
-pub fn meaning(number: u32) -> &'static str {
-    match number {
-        0 => "done",
-        1 => "the program is too long",
-        2 => "a field does not fit where it stands",
-        3 => "a tag that cannot stand here",
-        4 => "a part is missing or bytes are left over",
-        5 => "nested too deep",
-        6 => "too many, or too few, of what is declared or opened here",
-        7 => "too many qubits or bits",
-        8 => "a number that is not in scope",
-        9 => "an operand of the wrong kind",
-        10 => "a product of two indexes with variables",
-        11 => "a number of an index form is out of range",
-        12 => "it cannot be shown that this stays in bounds",
-        13 => "a condition value above 1",
-        20 => "there is no such family",
-        21 => "the sizes do not fit the family",
-        22 => "a size is too large",
-        23 => "the parameters take too many wires",
-        24 => "an index value is out of range",
-        25 => "cx on a single wire",
-        26 => "the step limit is used up",
-        27 => "the output is full",
-        _ => "a number without a meaning",
+/// Says that a line is none of a list.
+fn no_line(number: usize, line: &str) -> String {
+    let start = clipped(line, 40);
+    let start = start.escape_debug();
+    format!("line {}: '{start}' is no line of a list", number + 1)
+}
+
+/// The record of a line's words.
+fn record(words: &[&str]) -> Option<Record> {
+    let (condition, words) = match words {
+        ["if", bit, value, rest @ ..] => {
+            let value = value.parse().ok().filter(|value| *value < 2)?;
+            (Some((bit.parse().ok()?, value)), rest)
+        }
+        _ => (None, words),
+    };
+    let (word, numbers) = words.split_first()?;
+    let operation = OPERATIONS.iter().find(|known| known.word == *word)?;
+    let mut record = Record {
+        code: operation.code,
+        condition,
+        numbers: [0; 2],
+    };
+    if numbers.len() != operation.marks.len() {
+        return None;
     }
+    for (slot, number) in record.numbers.iter_mut().zip(numbers) {
+        *slot = number.parse().ok()?;
+    }
+    Some(record)
 }

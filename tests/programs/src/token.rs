@@ -1,5 +1,6 @@
 //! The words and symbols of the text form, each with its line and column.
 
+use crate::names::clipped;
 use std::fmt;
 use std::iter::Peekable;
 use std::str::Chars;
@@ -18,12 +19,13 @@ pub struct TextError {
     pub message: String,
 }
 
+/// The most characters of a message.
+const MOST_MESSAGE: usize = 400;
+
 impl TextError {
     pub fn new(spot: Spot, message: impl Into<String>) -> Self {
-        TextError {
-            spot,
-            message: message.into(),
-        }
+        let message = clipped(&message.into(), MOST_MESSAGE);
+        TextError { spot, message }
     }
 }
 
@@ -68,12 +70,18 @@ const SYMBOLS: [&str; 17] = [
     "==", "->", "..", "(", ")", "{", "}", "[", "]", ",", ";", ":", "=", "+", "-", "*", "#",
 ];
 
+/// The name that a text starts with, after blanks and comments.
+pub fn first_name(text: &str) -> Option<(String, Spot)> {
+    let mut reader = Reader::new(text);
+    reader.skip_blanks().ok()?;
+    let spot = reader.spot;
+    let name = reader.take_while(in_name);
+    Some((name, spot))
+}
+
 /// Splits a text into tokens; the last one is the end.
 pub fn tokens(text: &str) -> Result<Vec<Token>, TextError> {
-    let mut reader = Reader {
-        rest: text.chars().peekable(),
-        spot: Spot { line: 1, column: 1 },
-    };
+    let mut reader = Reader::new(text);
     let mut found = Vec::new();
     loop {
         reader.skip_blanks()?;
@@ -93,7 +101,15 @@ struct Reader<'a> {
     spot: Spot,
 }
 
-impl Reader<'_> {
+impl<'a> Reader<'a> {
+    /// A reader at the start of a text.
+    fn new(text: &'a str) -> Self {
+        Reader {
+            rest: text.chars().peekable(),
+            spot: Spot { line: 1, column: 1 },
+        }
+    }
+
     /// Takes one character and moves the place past it.
     fn take(&mut self) -> Option<char> {
         let taken = self.rest.next()?;

@@ -126,6 +126,18 @@ fn what_is_due() {
 }
 
 #[test]
+fn sizes_where_operands_are_due() {
+    says(
+        "family(n) f(x: Qbit[n]) {} f(3);",
+        "1:30: expected an operand (sizes stand before the operands, as f(3)(q)), found '3'",
+    );
+    says(
+        "family(n) f(x: Qbit[n]) { h n; }",
+        "1:29: expected an operand, and 'n' is an index variable",
+    );
+}
+
+#[test]
 fn too_deep_or_too_long() {
     let deep = "reverse {".repeat(20_000);
     says(&deep, "1:586: blocks or parentheses lie deeper than 64");

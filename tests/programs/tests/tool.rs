@@ -1,43 +1,10 @@
 //! The `mqasm` program as people call it: output, messages and exit codes.
 
+mod common;
+
+use common::{command, examples, gives, refuses, tool};
 use std::fs;
-use std::io::Write;
-use std::path::PathBuf;
-use std::process::{Command, Output, Stdio};
-
-fn examples() -> PathBuf {
-    PathBuf::from(env!("CARGO_MANIFEST_DIR")).join("../../examples")
-}
-
-/// Runs the tool in the folder of the examples with some input.
-fn tool(words: &[&str], input: &[u8]) -> Output {
-    let mut child = Command::new(env!("CARGO_BIN_EXE_mqasm"))
-        .args(words)
-        .current_dir(examples())
-        .stdin(Stdio::piped())
-        .stdout(Stdio::piped())
-        .stderr(Stdio::piped())
-        .spawn()
-        .unwrap();
-    let _ = child.stdin.take().unwrap().write_all(input);
-    let output = child.wait_with_output().unwrap();
-    assert!(!String::from_utf8_lossy(&output.stderr).contains("panicked"));
-    output
-}
-
-/// Shows what the tool writes, says, and exits with.
-fn gives(words: &[&str], input: &str, code: i32, output: &str, message: &str) {
-    let found = tool(words, input.as_bytes());
-    assert_eq!(String::from_utf8_lossy(&found.stdout), output, "{words:?}");
-    assert_eq!(String::from_utf8_lossy(&found.stderr), message, "{words:?}");
-    assert_eq!(found.status.code(), Some(code), "{words:?}");
-}
-
-/// Shows that a command is refused with a message.
-fn refuses(words: &[&str], message: &str) {
-    let said = format!("mqasm: {message}; 'mqasm help' shows the commands\n");
-    gives(words, "", 2, "", &said);
-}
+use std::process::Stdio;
 
 #[test]
 fn help_is_shown() {
@@ -73,7 +40,10 @@ fn checks() {
         "end 0 0 0 0\n",
         "",
     );
-    let message = "mqasm: element-n.mq:4:7: 12: it cannot be shown that this stays in bounds\n";
+    let message =
+        "mqasm: element-n.mq:4:7: 12: an index or a size is not shown to be within its range\n  \
+        x[0]: the index 0 is 0 or more, but is not shown to be below the size n: \
+        size - 1 - index comes to n - 1, which is -1 at n = 0\n";
     gives(
         &["check", "element-n.mq"],
         "",
@@ -81,7 +51,9 @@ fn checks() {
         "end 12 15 0 0\n",
         message,
     );
-    let message = "mqasm: standard input: byte 0: 2: a field does not fit where it stands\n";
+    let message =
+        "mqasm: standard input: byte 0: 2: fewer than 3 bytes are left for a field's header, \
+        or its content goes past the enclosing end\n";
     gives(&["check", "--bytes", "-"], "h", 1, "end 2 0 0 0\n", message);
 }
 
@@ -97,7 +69,8 @@ fn lists_runs() {
         listing,
         "",
     );
-    let message = "mqasm: cx-one-wire.mq:4:1: 25: cx on a single wire\n";
+    let message = "mqasm: cx-one-wire.mq:4:1: 25: a cx has the same wire as control and target\n  \
+        q[0] and q[0] stand for the same wire in this run\n";
     gives(
         &["list", "cx-one-wire.mq"],
         "",
@@ -127,7 +100,8 @@ fn lists_instances() {
     let words = [
         "list", "loop.mq", "--family", "f", "--sizes", "3", "--limit", "1",
     ];
-    let message = "mqasm: loop.mq:5:5: 26: the step limit is used up\n";
+    let message = "mqasm: loop.mq:5:5: 26: a step is due and the step limit is used up\n  \
+        the limit is 1: allow more steps with --limit\n";
     gives(&words, "", 1, "end 26 12 0 1\n", message);
 }
 
@@ -137,24 +111,26 @@ fn families_and_sizes_that_do_not_fit() {
         let words = ["list", "loop.mq", "--family", family, "--sizes", sizes];
         gives(&words, "", 1, end, &format!("mqasm: {message}\n"));
     };
-    list("g", "3", "", "no family 'g' in loop.mq");
+    list("g", "3", "", "no family 'g' in loop.mq; it declares f");
     list(
         "1",
         "3",
         "end 20 0 0 0\n",
-        "loop.mq: 20: there is no such family",
+        "loop.mq: 20: the program declares no family of this number\n  \
+        family numbers start at 0; it declares f",
     );
     list(
         "f",
         "3,4",
         "end 21 0 0 0\n",
-        "loop.mq: 21: the sizes do not fit the family",
+        "loop.mq: 21: the sizes are not exactly four bytes for each index variable of the family\n  \
+        family 'f' takes 1 size (n), and 2 are given: write --sizes n=3",
     );
     list(
         "f",
         "70000",
         "end 22 0 0 0\n",
-        "loop.mq: 22: a size is too large",
+        "loop.mq: 22: a size is above 65,535\n  n is 70000: choose smaller sizes",
     );
 }
 
@@ -216,9 +192,7 @@ fn a_closed_output_is_no_crash() {
     let words = [
         "list", "loop.mq", "--family", "f", "--sizes", "60000", "--output", "1000000",
     ];
-    let mut child = Command::new(env!("CARGO_BIN_EXE_mqasm"))
-        .args(words)
-        .current_dir(examples())
+    let mut child = command(&words)
         .stdout(Stdio::piped())
         .stderr(Stdio::piped())
         .spawn()

@@ -1,0 +1,99 @@
+//! What a person must mend: details beside the plain sentence of a number.
+
+mod kinds;
+mod locate;
+mod shape;
+mod showing;
+
+use crate::print::join;
+use crate::scope::variable_name;
+use crate::tool::{family_field, size_example, size_names, Loaded, Options};
+use locate::locate;
+use reference::Outcome;
+
+/// The most bytes that a program may have.
+const MOST_BYTES: usize = 65_535;
+
+/// What to mend for a result, where more can be said than its sentence.
+pub fn explain(program: &Loaded, options: &Options, outcome: &Outcome) -> Option<String> {
+    let place = usize::try_from(outcome.place).ok()?;
+    match outcome.number {
+        1 => Some(too_long(program)),
+        20 => Some(format!(
+            "family numbers start at 0{}",
+            program.known_families()
+        )),
+        21 => sizes_due(program, options),
+        22 => size_too_large(program, options),
+        23 => Some("this parameter goes past the limit: choose smaller sizes".to_string()),
+        26 => Some(format!(
+            "the limit is {}: allow more steps with --limit",
+            options.limit
+        )),
+        27 => Some(format!(
+            "the output has {} bytes, and a record takes 8: allow more with --output",
+            options.output
+        )),
+        3 => match locate(&program.fields, place) {
+            Some(found) => shape::misplaced(&found),
+            None => shape::tag_alone(program.bytes.get(place)),
+        },
+        9 => kinds::wrong_kind(&locate(&program.fields, place)?),
+        12 => showing::not_shown(&locate(&program.fields, place)?),
+        number => shape::misshapen(&locate(&program.fields, place)?, number),
+    }
+}
+
+/// How long a program is, and where it goes past the limit.
+fn too_long(program: &Loaded) -> String {
+    let mut end = 0;
+    for field in &program.fields {
+        let start = end;
+        end += field.length();
+        if end > MOST_BYTES {
+            let length = program.bytes.len();
+            let spot = program.spots.of(start).unwrap_or_default();
+            return format!(
+                "it has {length} bytes, and what stands at {}:{} goes past the limit: shorten it \
+                 by loops and families, or split it",
+                spot.line, spot.column
+            );
+        }
+    }
+    "reading stopped there".to_string()
+}
+
+/// How many sizes are due and how many are given.
+fn sizes_due(program: &Loaded, options: &Options) -> Option<String> {
+    let number = program.family(options).ok()??;
+    let due = size_names(family_field(&program.fields, number)?);
+    let name = program.families.get(usize::try_from(number).ok()?)?;
+    let given = match options.sizes.len() {
+        0 => "none is given".to_string(),
+        1 => "1 is given".to_string(),
+        count => format!("{count} are given"),
+    };
+    Some(match due.len() {
+        0 => format!("family '{name}' takes no sizes, and {given}: leave out --sizes"),
+        count => {
+            let sizes = if count == 1 { "size" } else { "sizes" };
+            let names = due.join(", ");
+            let example = size_example(&due);
+            format!("family '{name}' takes {count} {sizes} ({names}), and {given}: write {example}")
+        }
+    })
+}
+
+/// Which sizes are too large.
+fn size_too_large(program: &Loaded, options: &Options) -> Option<String> {
+    let number = program.family(options).ok()??;
+    let family = family_field(&program.fields, number)?;
+    let named = |number: usize| variable_name(family, number);
+    let large = options.sizes.iter().enumerate();
+    let large = large.filter(|(_, (_, size))| *size > 65_535);
+    let list = join(large, |(number, (name, size))| {
+        let name = name.clone().unwrap_or_else(|| named(number));
+        format!("{name} is {size}")
+    });
+    Some(format!("{list}: choose smaller sizes"))
+}

@@ -1,0 +1,149 @@
+//! Why an index or a size is not shown to be within its range.
+
+use super::locate::Found;
+use crate::field::{tags, Field};
+use crate::form::Form;
+use crate::print::join;
+use crate::scope::{own_variables, parameter_name, two_bytes, variable_name, Scope};
+
+/// Which showing failed, and for what index.
+pub fn not_shown(found: &Found) -> Option<String> {
+    let (field, scope) = (found.field(), &found.scope);
+    let around = found.around()?;
+    match (field.tag?, around.tag?) {
+        (tags::ELEMENT, _) => element(field, scope),
+        (tags::QBITS, tags::FAMILY) => {
+            let name = parameter_name(around, found.part_number()?);
+            size(&field.parts[0], &format!("of parameter '{name}'"), scope)
+        }
+        (tags::WHOLE, tags::CALL) => argument(found, around),
+        (_, tags::CALL) => {
+            let number = usize::from(around.head[0]);
+            let called = scope.families.get(number)?;
+            let variable = variable_name(called, found.part_number()?);
+            let of = format!("for '{variable}' of '{}'", scope.family(number));
+            size(field, &of, scope)
+        }
+        _ => None,
+    }
+}
+
+/// An element's two showings: the index is 0 or more, and below the size.
+fn element(field: &Field, scope: &Scope) -> Option<String> {
+    let variables = scope.variables();
+    let index = Form::of(&field.parts[0], variables)?;
+    let (text, operand) = (scope.index(&field.parts[0]), scope.operand(field));
+    if let Some(reason) = below_zero(&index, scope) {
+        return Some(format!(
+            "{operand}: the index {text} is not shown to be 0 or more: it {reason}"
+        ));
+    }
+    let (size, size_text) = size_of(usize::from(field.head[0]), scope)?;
+    let rest = size
+        .plus(-1, &Form::constant(1, variables))
+        .plus(-1, &index);
+    let reason = below_zero(&rest, scope)?;
+    Some(format!(
+        "{operand}: the index {text} is 0 or more, but is not shown to be below the size \
+         {size_text}: size - 1 - index {reason}"
+    ))
+}
+
+/// A size that must be 0 or more.
+fn size(index: &Field, of: &str, scope: &Scope) -> Option<String> {
+    let reason = below_zero(&Form::of(index, scope.variables())?, scope)?;
+    let text = scope.index(index);
+    Some(format!(
+        "the size {text} {of} is not shown to be 0 or more: it {reason}"
+    ))
+}
+
+/// A register handed to a parameter that asks for more cells.
+fn argument(found: &Found, call: &Field) -> Option<String> {
+    let scope = &found.scope;
+    let number = usize::from(call.head[0]);
+    let called = scope.families.get(number)?;
+    let (sizes, operands) = call.parts.split_at_checked(own_variables(called))?;
+    let field = found.field();
+    let parameter = operands.iter().position(|part| std::ptr::eq(part, field))?;
+    let asked = Form::of(called.parts.get(parameter)?.parts.first()?, sizes.len())?;
+    let mut due = Form::constant(asked.constant, scope.variables());
+    for (factor, size) in asked.factors.iter().zip(sizes) {
+        due = due.plus(*factor, &Form::of(size, scope.variables())?);
+    }
+    let (has, has_text) = size_of(usize::from(field.head[0]), scope)?;
+    let reason = below_zero(&has.plus(-1, &due), scope)?;
+    Some(format!(
+        "'{}' has {has_text} cells, and '{}' of '{}' takes {} here: \
+         the one less the other {reason}",
+        scope.operand(field),
+        parameter_name(called, parameter),
+        scope.family(number),
+        due.text(|variable| scope.variable(variable)),
+    ))
+}
+
+/// The size of a register or parameter as a form and as text.
+fn size_of(number: usize, scope: &Scope) -> Option<(Form, String)> {
+    let variables = scope.variables();
+    match scope.inside {
+        Some(family) => {
+            let index = family.parts.get(number)?.parts.first()?;
+            Some((Form::of(index, variables)?, scope.index(index)))
+        }
+        None => {
+            let size = two_bytes(scope.registers.get(number)?);
+            Some((Form::constant(i64::from(size), variables), size.to_string()))
+        }
+    }
+}
+
+/// How a form can come to lie below 0; none if it is shown to be 0 or more.
+fn below_zero(form: &Form, scope: &Scope) -> Option<String> {
+    let own = scope.inside.map_or(0, own_variables);
+    let variables = scope.variables();
+    let mut form = form.clone();
+    let mut bounds = Vec::new();
+    for (depth, open) in scope.loops.iter().enumerate().rev() {
+        let factor = std::mem::take(form.factors.get_mut(own + depth)?);
+        if factor == 0 {
+            continue;
+        }
+        let (side, bound) = match factor > 0 {
+            true => ("low", &open.parts[0]),
+            false => ("high", &open.parts[1]),
+        };
+        form = form.plus(factor, &Form::of(bound, variables)?);
+        let name = scope.variable(own + depth);
+        bounds.push(format!("{name} at its {side} bound {}", scope.index(bound)));
+    }
+    let falling = form.factors.iter().position(|factor| *factor < 0);
+    if form.constant >= 0 && falling.is_none() {
+        return None;
+    }
+    Some(reason(&form, falling, &bounds, scope))
+}
+
+/// What a form comes to, and where that lies below 0.
+fn reason(form: &Form, falling: Option<usize>, bounds: &[String], scope: &Scope) -> String {
+    let text = form.text(|variable| scope.variable(variable));
+    let used = |number: &usize| form.factors[*number] != 0;
+    let names = join((0..form.factors.len()).filter(used), |number| {
+        format!("{} = 0", scope.variable(number))
+    });
+    let with = match bounds.is_empty() {
+        true => String::new(),
+        false => format!(" with {}", bounds.join(" and ")),
+    };
+    match falling {
+        Some(number) => {
+            let name = scope.variable(number);
+            format!("comes to {text}{with}, which falls below 0 as {name} grows")
+        }
+        None if names.is_empty() => format!("comes to {text}{with}"),
+        None => format!(
+            "comes to {text}{with}, which is {} at {names}",
+            form.constant
+        ),
+    }
+}

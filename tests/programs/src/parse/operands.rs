@@ -1,0 +1,99 @@
+//! Operands and indexes of the text form.
+
+use super::{field, resolve, Answer, Parser};
+use crate::field::{tags, Field};
+use crate::token::{Spot, TextError, Token, Word};
+
+/// Operands and indexes.
+impl Parser {
+    /// `x`, `x[i]`, `#2` or `#2[i]`.
+    pub(super) fn operand(&mut self) -> Answer<Field> {
+        let Token { word, spot } = self.take();
+        let number = match word {
+            Word::Symbol("#") => self.byte()?,
+            Word::Name(name) => self.operand_number(&name, spot)?,
+            other => {
+                let message = format!("expected an operand, found {other}");
+                return Err(TextError::new(spot, message));
+            }
+        };
+        if !self.accept("[") {
+            return field(tags::WHOLE, vec![number], vec![], spot);
+        }
+        let index = self.index()?;
+        self.expect("]")?;
+        field(tags::ELEMENT, vec![number], vec![index], spot)
+    }
+
+    /// The number of the register or parameter of a name.
+    fn operand_number(&self, name: &str, spot: Spot) -> Answer<u8> {
+        let (names, what) = match &self.parameters {
+            Some(names) => (names, "parameter"),
+            None => (&self.registers, "register"),
+        };
+        if names.number(name).is_none() && self.indexes.number(name).is_some() {
+            let message = format!("expected an operand, and '{name}' is an index variable");
+            return Err(TextError::new(spot, message));
+        }
+        resolve(name, names, what, spot)
+    }
+
+    /// Sums and differences, the left ones first.
+    pub(super) fn index(&mut self) -> Answer<Field> {
+        let mut left = self.product()?;
+        loop {
+            let spot = self.spot();
+            let tag = if self.accept("+") {
+                tags::SUM
+            } else if self.accept("-") {
+                tags::DIFFERENCE
+            } else {
+                return Ok(left);
+            };
+            let right = self.product()?;
+            left = field(tag, vec![], vec![left, right], spot)?;
+        }
+    }
+
+    /// Products, the left ones first.
+    fn product(&mut self) -> Answer<Field> {
+        let mut left = self.single_index()?;
+        loop {
+            let spot = self.spot();
+            if !self.accept("*") {
+                return Ok(left);
+            }
+            let right = self.single_index()?;
+            left = field(tags::PRODUCT, vec![], vec![left, right], spot)?;
+        }
+    }
+
+    /// A literal, a variable, or an index in parentheses.
+    fn single_index(&mut self) -> Answer<Field> {
+        let Token { word, spot } = self.take();
+        match word {
+            Word::Number(number) => {
+                field(tags::LITERAL, number.to_le_bytes().to_vec(), vec![], spot)
+            }
+            Word::Name(name) => {
+                let number = resolve(&name, &self.indexes, "index variable", spot)?;
+                field(tags::VARIABLE, vec![number], vec![], spot)
+            }
+            Word::Symbol("#") => {
+                let number = self.byte()?;
+                field(tags::VARIABLE, vec![number], vec![], spot)
+            }
+            Word::Symbol("(") => {
+                self.deeper()?;
+                let inner = self.index()?;
+                self.expect(")")?;
+                self.open -= 1;
+                Ok(inner)
+            }
+            other => {
+                let message = format!("expected an index, found {other}");
+                Err(TextError::new(spot, message))
+            }
+        }
+    }
+}

@@ -1,0 +1,149 @@
+//! What the tool tells about itself.
+
+use super::options::Command;
+use super::{misuse, Answer};
+use std::ffi::OsString;
+
+/// What the tool can do, for people.
+pub const USAGE: &str = "\
+mqasm - programs of metaQASM as text and as bytes
+
+  mqasm assemble FILE     write the program bytes of a text
+  mqasm text FILE         write the text of program bytes
+  mqasm check FILE        check a program
+  mqasm list FILE         list the records of a whole run
+  mqasm draw FILE         draw them as a circuit
+  mqasm help [COMMAND]    show this, or what one command takes
+  mqasm --version         show the version
+
+FILE is a path, or - for standard input. check, list and draw read a path that
+ends in .bytes as bytes, and anything else as text. At most 65536 bytes of a
+program or 2097152 of a text are read.
+
+Options, as --limit 7 or --limit=7:
+  -o FILE                 write to this file instead of standard output
+Options of check, list and draw:
+  --text, --bytes         what FILE holds, whatever it is called
+Options of list and draw:
+  --family NAME|NUMBER    list an instance of this family instead
+  --sizes 3,4             the sizes of the instance, in order
+  --sizes n=3,m=4         or by name
+  --limit STEPS           stop after so many steps (1000000)
+  --output BYTES          room for records, 8 bytes each (65536)
+Options of draw:
+  --width COLUMNS         how wide the drawing may be (100)
+  --records               FILE holds records of 8 bytes, as the library writes
+  --listing               FILE holds the lines of a list, as 'mqasm list' writes
+
+check, list and draw end with a line of number, place, records and steps. The
+exit code is 0 when the number is 0, 1 when the program is turned down, ends
+early or cannot be read, or the output cannot be written, and 2 when the command
+is not one of these.
+
+The text form, by example:
+  // a comment, to the end of the line
+  family(n) f(x: Qbit[n+1], y: Qbit) { .. }     a family with its sizes
+  gate g(a: Qbit) { .. }                        a family without any
+  qreg q[5]; creg c[2];                         registers
+  h q[0]; t q[0]; tdg q[0]; cx q[0], q[1];      gates
+  f(4)(q, q[0]); g(q[1]);                       calls: sizes, then operands
+  for i = 1..n { .. } reverse { .. }            loops and reversals
+  measure q[0] -> c[1]; reset q[0];             at the top only
+  if (c[0] == 1) { .. }                         at the top only
+Indexes are made of numbers up to 65535, names, +, -, * and parentheses.
+#3 is the operand, family or index variable of that number, in scope or not,
+and bytes \"20 00 00\"; puts bytes into a list of statements as they are.
+";
+
+const ASSEMBLE: &str = "\
+mqasm assemble FILE [-o FILE]
+
+Writes the program bytes of a text. FILE is a path, or - for standard input.
+Types are not checked here; 'mqasm check' does that.
+";
+
+const TEXT: &str = "\
+mqasm text FILE [-o FILE]
+
+Writes the text of program bytes, with invented names. FILE is a path, or - for
+standard input.
+";
+
+const CHECK: &str = "\
+mqasm check FILE [--text|--bytes] [-o FILE]
+
+Checks a program and ends with a line of number, place, records and steps. If
+the number is not 0, a message says what to mend. FILE is a path, or - for
+standard input; a path that ends in .bytes is read as bytes, anything else as
+text.
+";
+
+/// The options that list and draw share.
+macro_rules! listing_options {
+    () => {
+        "  --family NAME|NUMBER    an instance of this family instead
+  --sizes 3,4             the sizes of the instance, in order
+  --sizes n=3,m=4         or by name
+  --limit STEPS           stop after so many steps (1000000)
+  --output BYTES          room for records, 8 bytes each (65536)
+  --text, --bytes         what FILE holds, whatever it is called
+  -o FILE                 write to this file instead of standard output
+"
+    };
+}
+
+const LIST: &str = concat!(
+    "\
+mqasm list FILE [options]
+
+Lists the records of a whole run, or of one family, a line for each: the
+operation and its wires and bits, after 'if BIT VALUE' where there is a
+condition. The last line has number, place, records and steps.
+
+",
+    listing_options!()
+);
+
+const DRAW: &str = concat!(
+    "\
+mqasm draw FILE [options]
+
+Draws the records of a whole run, or of one family, as a circuit. Time goes from
+left to right, and gates in one column do not depend on each other. A drawing
+has at most 100 rows and 300 columns.
+
+  ───  a qubit               ═══  a bit
+  ●⊕   cx: control, target   M ╩  measure, and the bit that is written
+  T†   tdg                   |0⟩  reset
+  ●    on a bit: only if it is 1         ○  only if it is 0
+
+  --width COLUMNS         how wide the drawing may be (100); the rest follows
+                          below, block by block
+  --records               FILE holds records of 8 bytes, as the library writes
+  --listing               FILE holds the lines of a list, as 'mqasm list' writes
+",
+    listing_options!()
+);
+
+/// The help of one command.
+pub fn of(command: Command) -> &'static str {
+    match command {
+        Command::Assemble => ASSEMBLE,
+        Command::Text => TEXT,
+        Command::Check => CHECK,
+        Command::List => LIST,
+        Command::Draw => DRAW,
+    }
+}
+
+/// The help that the words after `help` ask for.
+pub fn about(words: &[OsString]) -> Answer<&'static str> {
+    let Some(word) = words.first() else {
+        return Ok(USAGE);
+    };
+    let name = word.to_string_lossy();
+    match Command::named(&name) {
+        Some(command) => Ok(of(command)),
+        None => misuse(format!("no command '{name}'")),
+    }
+}

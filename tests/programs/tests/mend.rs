@@ -1,0 +1,373 @@
+//! Messages that say what a person must mend, beside the number's sentence.
+
+mod common;
+
+use common::{gives, said, tool};
+use programs::meaning;
+
+/// Shows where a text is refused, with which number, and what is said to mend.
+fn mend(text: &str, spot: &str, end: &str, number: u32, details: &str) {
+    let sentence = meaning(number);
+    let message = format!("mqasm: standard input:{spot}: {number}: {sentence}\n  {details}\n");
+    gives(&["check", "-"], text, 1, end, &message);
+}
+
+/// Shows what is said of a text that is not shown to be within its range.
+fn not_shown(text: &str, details: &str) {
+    let found = tool(&["check", "-"], text.as_bytes());
+    let lines = said(&found);
+    let second = lines.lines().nth(1).unwrap_or_default();
+    assert!(lines.contains(": 12: "), "{text}: {lines}");
+    assert_eq!(second.trim_start(), details, "{text}");
+}
+
+#[test]
+fn an_index_below_zero() {
+    not_shown(
+        "family(n) f(x: Qbit[n]) { for i = 0..n { h x[i-1]; } }",
+        "x[i - 1]: the index i - 1 is not shown to be 0 or more: \
+         it comes to -1 with i at its low bound 0",
+    );
+    not_shown(
+        "qreg q[1]; for i = 0..3 { for j = 0..3 { h q[i-j]; } }",
+        "q[i - j]: the index i - j is not shown to be 0 or more: \
+         it comes to -3 with j at its high bound 3 and i at its low bound 0",
+    );
+}
+
+#[test]
+fn an_index_past_the_size() {
+    not_shown(
+        "family(n) f(x: Qbit[n]) { h x[0]; }",
+        "x[0]: the index 0 is 0 or more, but is not shown to be below the size n: \
+         size - 1 - index comes to n - 1, which is -1 at n = 0",
+    );
+    not_shown(
+        "family(n) f(x: Qbit[3]) { h x[n]; }",
+        "x[n]: the index n is 0 or more, but is not shown to be below the size 3: \
+         size - 1 - index comes to -n + 2, which falls below 0 as n grows",
+    );
+    not_shown(
+        "qreg q[2]; creg c[5]; measure q[1] -> c[5];",
+        "c[5]: the index 5 is 0 or more, but is not shown to be below the size 5: \
+         size - 1 - index comes to -1",
+    );
+    not_shown(
+        "family(n, m) f(x: Qbit[2*n+m]) { for i = 1..n { h x[2*i+m]; } }",
+        "x[2 * i + m]: the index 2 * i + m is 0 or more, but is not shown to be below the size \
+         2 * n + m: size - 1 - index comes to -1 with i at its high bound n",
+    );
+}
+
+#[test]
+fn sizes_below_zero() {
+    not_shown(
+        "family(n) f(x: Qbit, y: Qbit[n-1]) {}",
+        "the size n - 1 of parameter 'y' is not shown to be 0 or more: \
+         it comes to n - 1, which is -1 at n = 0",
+    );
+    not_shown(
+        "family(k) f(x: Qbit[k]) {} family(n) g(x: Qbit[n]) { f(n-1)(x); }",
+        "the size n - 1 for 'k' of 'f' is not shown to be 0 or more: \
+         it comes to n - 1, which is -1 at n = 0",
+    );
+}
+
+#[test]
+fn registers_that_are_too_small() {
+    not_shown(
+        "family(n) f(x: Qbit[n+1]) {} qreg q[5]; f(5)(q);",
+        "'q' has 5 cells, and 'x' of 'f' takes 6 here: the one less the other comes to -1",
+    );
+    not_shown(
+        "family(k) f(y: Qbit[2*k]) {} family(n) g(x: Qbit[n]) { f(n)(x); }",
+        "'x' has n cells, and 'y' of 'f' takes 2*n here: \
+         the one less the other comes to -n, which falls below 0 as n grows",
+    );
+}
+
+#[test]
+fn details_of_bytes_have_invented_names() {
+    let text = "family(n) f(x: Qbit[n]) { h x[0]; }";
+    let bytes = programs::assemble(text).unwrap().bytes;
+    let found = tool(&["check", "--bytes", "-"], &bytes);
+    let details = "x0[0]: the index 0 is 0 or more, but is not shown to be below the size n0: \
+                   size - 1 - index comes to n0 - 1, which is -1 at n0 = 0";
+    let message = format!(
+        "mqasm: standard input: byte 15: 12: {}\n  {details}\n",
+        meaning(12)
+    );
+    assert_eq!(said(&found), message);
+}
+
+#[test]
+fn calls_without_their_sizes() {
+    let declared = "family(n, m) f(x: Qbit[n], y: Qbit) {} gate g(a: Qbit) {} qreg q[2];\n";
+    let call = |call: &str, spot: &str, place: &str, number: u32, details: &str| {
+        let end = format!("end {number} {place} 0 0\n");
+        mend(&format!("{declared}{call}"), spot, &end, number, details);
+    };
+    call(
+        "f(q, q[0]);",
+        "2:3",
+        "32",
+        3,
+        "this call lacks its sizes: 'f' takes 2 sizes, as f(n, m)(..)",
+    );
+    call(
+        "f(1)(q, q[0]);",
+        "2:6",
+        "37",
+        3,
+        "'f' takes 2 sizes and 2 operands, and this call has 1 size and 2 operands",
+    );
+    call(
+        "f(1, 2)(q);",
+        "2:1",
+        "28",
+        4,
+        "'f' takes 2 sizes and 2 operands, and this call has 2 sizes and 1 operand",
+    );
+    call(
+        "g(1)(q[0]);",
+        "2:3",
+        "32",
+        3,
+        "'g' takes no size and 1 operand, and this call has 1 size and 1 operand",
+    );
+}
+
+#[test]
+fn what_stands_at_the_top_only() {
+    let inside = |text: &str, word: &str, outer: &str| {
+        let found = tool(&["check", "-"], text.as_bytes());
+        let details = format!(
+            "'{word}' stands at the top of a program only, and cannot stand in {outer}: move it out"
+        );
+        assert!(said(&found).ends_with(&format!("  {details}\n")), "{text}");
+        assert!(said(&found).contains(": 3: "), "{text}");
+    };
+    let declared = "qreg q[1]; creg c[1]; ";
+    let measure = "measure q[0] -> c[0];";
+    inside(
+        &format!("{declared} if (c[0] == 1) {{ {measure} }}"),
+        "measure",
+        "an 'if'",
+    );
+    inside(
+        &format!("{declared} for i = 0..1 {{ reset q[0]; }}"),
+        "reset",
+        "a 'for'",
+    );
+    inside(
+        &format!("{declared} reverse {{ qreg r[1]; }}"),
+        "qreg",
+        "a 'reverse'",
+    );
+    inside("gate g(a: Qbit) { reset a; }", "reset", "a family or gate");
+    let bytes = [0x25, 3, 0, 4, 0, 0];
+    let found = tool(&["check", "--bytes", "-"], &bytes);
+    assert!(said(&found).ends_with("  'measure' stands at the top of a program only\n"));
+}
+
+#[test]
+fn operands_of_the_wrong_kind() {
+    let kind = |text: &str, details: &str| {
+        let found = tool(&["check", "-"], text.as_bytes());
+        assert!(said(&found).contains(": 9: "), "{text}");
+        assert!(said(&found).ends_with(&format!("  {details}\n")), "{text}");
+    };
+    kind(
+        "qreg q[2]; h q;",
+        "h takes one qubit here, and q is a whole register of qubits: \
+         write q[0], or another element",
+    );
+    kind(
+        "qreg q[1]; creg c[2]; if (c == 1) { h q[0]; }",
+        "if takes one bit of a creg here, and c is a whole register of bits: \
+         write c[0], or another element",
+    );
+    kind(
+        "gate g(a: Qbit) { h a[0]; }",
+        "h takes one qubit here, and a[0] is an element of what is one qubit: write a",
+    );
+    kind(
+        "family(n) f(x: Qbit[n]) {} qreg q[2]; f(2)(q[0]);",
+        "'f' takes a whole register of qubits here, and q[0] is one qubit: write q",
+    );
+    kind(
+        "qreg q[2]; measure q[0] -> q[1];",
+        "measure takes one bit of a creg here, and q[1] is one qubit",
+    );
+    kind(
+        "creg c[2]; t c[1];",
+        "t takes one qubit here, and c[1] is a bit",
+    );
+}
+
+#[test]
+fn counts_and_numbers() {
+    mend(
+        "gate g() {}",
+        "1:1",
+        "end 6 0 0 0\n",
+        6,
+        "a family needs a parameter",
+    );
+    mend(
+        "family(a, b, c, d, e) f(x: Qbit) {}",
+        "1:1",
+        "end 6 0 0 0\n",
+        6,
+        "5 index variables are declared, and 4 are the most",
+    );
+    mend(
+        "qreg q[40000]; qreg r[40000];",
+        "1:16",
+        "end 7 5 0 0\n",
+        7,
+        "with this register there are 80000",
+    );
+    mend(
+        "qreg q[1]; h #3[0];",
+        "1:14",
+        "end 8 8 0 0\n",
+        8,
+        "#3 is asked for, and there is 1 register here, number 0",
+    );
+}
+
+#[test]
+fn indexes_and_conditions() {
+    mend(
+        "family(n, m) f(x: Qbit[n*m]) {}",
+        "1:25",
+        "end 10 8 0 0\n",
+        10,
+        "n * m: one side of a product must be a number",
+    );
+    mend(
+        "creg c[1]; if (c[0] == 2) {}",
+        "1:12",
+        "end 13 5 0 0\n",
+        13,
+        "the value is 2: write 0 or 1",
+    );
+}
+
+#[test]
+fn numbers_out_of_range() {
+    mend(
+        "family(n) f(x: Qbit[65535*65535*n]) {}",
+        "1:26",
+        "end 11 11 0 0\n",
+        11,
+        "it is built by 65535 * 65535",
+    );
+    mend(
+        "family(n) f(x: Qbit[n]) { h x[40000*50000]; }",
+        "1:29",
+        "end 11 15 0 0\n",
+        11,
+        "it is built for x[40000 * 50000]",
+    );
+}
+
+#[test]
+fn details_come_from_what_can_be_read() {
+    let text = "qreg q[1]; h q[1]; bytes \"ff\";";
+    let found = tool(&["check", "-"], text.as_bytes());
+    assert!(said(&found).contains(": 12: "));
+    assert!(said(&found).contains("  q0[1]: the index 1 is 0 or more, but"));
+}
+
+#[test]
+fn messages_are_short() {
+    let name = "a".repeat(5000);
+    let sum = "+0".repeat(14);
+    for text in [
+        format!("h {name}[0];"),
+        format!("qreg {name}[1]; qreg {name}[1];"),
+        format!("qreg {name}[1]; h {name}[1];"),
+        format!("family({name}) f(x: Qbit[{name}]) {{ h x[{name}{sum}]; }}"),
+        format!("qreg q[1{name}];"),
+        format!("OPENQASM {name};"),
+    ] {
+        let found = tool(&["check", "-"], text.as_bytes());
+        assert_eq!(found.status.code(), Some(1), "{text:.40}");
+        let length = said(&found).chars().count();
+        assert!(length > 50 && length < 600, "{length}: {text:.40}");
+    }
+}
+
+#[test]
+fn sizes_that_are_due() {
+    let list = |words: &[&str], number: u32, details: &str| {
+        let words = [&["list"], words].concat();
+        let message = format!("{number}: {}\n  {details}\n", meaning(number));
+        let end = format!("end {number} 0 0 0\n");
+        gives(
+            &words,
+            "",
+            1,
+            &end,
+            &format!("mqasm: {}: {message}", words[1]),
+        );
+    };
+    list(
+        &["adder.mq", "--family", "add"],
+        21,
+        "family 'add' takes 1 size (n), and none is given: write --sizes n=3",
+    );
+    list(
+        &["adder.mq", "--family", "maj", "--sizes", "4"],
+        21,
+        "family 'maj' takes no sizes, and 1 is given: leave out --sizes",
+    );
+    list(
+        &["adder.mq", "--family", "7"],
+        20,
+        "family numbers start at 0; it declares toffoli, maj, add",
+    );
+    list(
+        &["adder.bytes", "--family", "2", "--sizes", "1,2"],
+        21,
+        "family 'f2' takes 1 size (n0), and 2 are given: write --sizes n0=3",
+    );
+}
+
+#[test]
+fn runs_that_end_early() {
+    let words = ["list", "bell.mq", "--output=8"];
+    let found = tool(&words, b"");
+    let details = "the output has 8 bytes, and a record takes 8: allow more with --output";
+    assert!(said(&found).ends_with(&format!("{}\n  {details}\n", meaning(27))));
+    let found = tool(&["list", "bell.mq", "--limit=1"], b"");
+    let details = "the limit is 1: allow more steps with --limit";
+    assert!(said(&found).ends_with(&format!("{}\n  {details}\n", meaning(26))));
+}
+
+#[test]
+fn openqasm_is_not_metaqasm() {
+    let rest = "which is not metaQASM: leave out OPENQASM and include, declare each gate that is \
+                used by h, t, tdg and cx, and write conditions on one bit, as \
+                if (c[0] == 1) { .. }; 'mqasm help' shows the text form\n";
+    let foreign = |text: &str, start: &str| {
+        for command in ["check", "list", "draw", "assemble"] {
+            let message = format!("mqasm: standard input:{start}, {rest}");
+            gives(&[command, "-"], text, 1, "", &message);
+        }
+    };
+    foreign(
+        "OPENQASM 2.0;\ninclude \"qelib1.inc\";\nqreg q[2];\nh q[0];\n",
+        "1:1: this is OpenQASM 2.0",
+    );
+    foreign(
+        "// a Bell pair\n  OPENQASM 3;\nqubit q;\n",
+        "2:3: this is OpenQASM 3",
+    );
+    foreign(
+        "include \"qelib1.inc\";\nqreg q[2];\n",
+        "1:1: this is OpenQASM 2.0",
+    );
+}
