@@ -41,8 +41,6 @@
 #include <stddef.h>
 #include <stdint.h>
 
-#define METAQASM_VERSION "1.0.0"
-
 #ifdef __cplusplus
 extern "C" {
 #endif
