@@ -141,6 +141,34 @@ fn statement_list(statements: usize) -> Vec<Field> {
         .collect()
 }
 
+/// A family of so many gates on one wire, 7 bytes each, as they stand or reversed.
+pub fn gate_list(gates: usize, reversed: bool) -> Field {
+    let list: Vec<Field> = (0..gates)
+        .map(|number| match number % 2 {
+            0 => t(whole(0)),
+            _ => h(whole(0)),
+        })
+        .collect();
+    let body = match reversed {
+        true => vec![reverse(list)],
+        false => list,
+    };
+    family(0, vec![qbit()], body)
+}
+
+/// A loop over a register whose body is a reversal of so many gates.
+pub fn short_reversals(gates: usize) -> Vec<Field> {
+    let gate = t(element(0, variable(1)));
+    let round = vec![reverse(vec![gate; gates])];
+    let body = vec![repeat(literal(0), minus(0, 1), round)];
+    vec![family(1, vec![qbits(variable(0))], body)]
+}
+
+/// h and cx on two wires.
+pub fn bell() -> Vec<Field> {
+    vec![qreg(2), h(at(0, 0)), cx(at(0, 0), at(0, 1))]
+}
+
 /// A large library: as many adders as fit into one program.
 pub fn large_library() -> Vec<Field> {
     let mut fields = vec![toffoli(), majority()];

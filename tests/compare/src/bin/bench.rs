@@ -1,8 +1,10 @@
 //! Prints how fast the library and the reference are, side by side.
 //!
-//! Use: `bench`, built for release. Each time is the best of several rounds;
-//! the output has been written once before, so its pages are there. The last
-//! column is the time of a plain copy of as many output bytes.
+//! Use: `bench`, or `bench ROW` for the rows whose names begin so, built for release. Each time is the best of several rounds, in
+//! which both have their turn, and is the thread's processor time, so that other
+//! work on the machine disturbs it little. The output has been written once
+//! before, so its pages are there. The last column is the time of a plain copy of
+//! as many output bytes.
 
 use compare::ask::{ask_library, ask_reference};
 use compare::{library, slow, Call, Question};
@@ -14,9 +16,9 @@ use std::process::ExitCode;
 use std::time::{Duration, Instant};
 
 /// How long one measurement goes on.
-const ENOUGH: Duration = Duration::from_millis(700);
-/// The fewest rounds of one measurement.
-const ROUNDS: usize = 3;
+const ENOUGH: Duration = Duration::from_millis(1_500);
+/// The fewest and the most rounds of one measurement.
+const ROUNDS: std::ops::Range<usize> = 3..10_000;
 
 /// What is measured.
 struct Workload {
@@ -93,10 +95,12 @@ fn workloads() -> Vec<Workload> {
     let nested = programs::nested_loops();
     let mut deep = programs::deep_calls(254, 16);
     deep.extend(calls(253, 2_000));
-    let mut forward = vec![programs::long_list(9_900)];
-    forward.extend(calls(0, 200));
-    let mut backward = vec![programs::reversed_list(9_900)];
-    backward.extend(calls(0, 200));
+    let mut forward = vec![programs::gate_list(9_000, false)];
+    forward.extend(calls(0, 100));
+    let mut backward = vec![programs::gate_list(9_000, true)];
+    backward.extend(calls(0, 100));
+    let short = programs::short_reversals(6);
+    let bell = programs::bell();
     let library = programs::large_library();
     let rounds = programs::empty_rounds();
     let calls_in_loops = slow::slowest_check();
@@ -108,23 +112,61 @@ fn workloads() -> Vec<Workload> {
         Workload::instance("adder reversed", &adder, (3, 7_999), gates),
         Workload::instance("nested loop", &nested, (0, 700), 2 * 700 * 700),
         Workload::run("deep calls", &deep, 2_000),
-        Workload::run("long list", &forward, 200 * 4_950),
-        Workload::run("long list reversed", &backward, 200 * 4_950),
+        Workload::run("long list", &forward, 100 * 9_000),
+        Workload::run("long list reversed", &backward, 100 * 9_000),
+        Workload::instance("short reversed bodies", &short, (0, 50_000), 6 * 50_000),
         Workload::run("empty rounds", &rounds, 0),
         Workload::run("1,000 slowest steps", &slow_steps, 1_000),
+        Workload::run("Bell, a whole call", &bell, 2),
     ]
 }
 
-/// The best time of several rounds, in seconds.
-fn best(mut round: impl FnMut()) -> f64 {
-    round();
-    let begun = Instant::now();
-    let mut best = f64::INFINITY;
-    let mut rounds = 0;
-    while rounds < ROUNDS || (begun.elapsed() < ENOUGH && rounds < 1_000) {
-        let start = Instant::now();
+/// The processor time that this thread has used, in seconds.
+fn used() -> f64 {
+    #[repr(C)]
+    struct Timespec {
+        seconds: i64,
+        nanoseconds: i64,
+    }
+    extern "C" {
+        fn clock_gettime(clock: i32, time: *mut Timespec) -> i32;
+    }
+    const THREAD_CPUTIME: i32 = 3;
+    let mut time = Timespec {
+        seconds: 0,
+        nanoseconds: 0,
+    };
+    // Linux writes the two numbers of `time`, which is lent for this call only.
+    let status = unsafe { clock_gettime(THREAD_CPUTIME, &mut time) };
+    assert_eq!(status, 0, "no clock for the thread's processor time");
+    time.seconds as f64 + time.nanoseconds as f64 * 1e-9
+}
+
+/// The time of one round, in seconds: of several in a row where one is too short to be timed.
+fn timed(repeats: usize, round: &mut dyn FnMut()) -> f64 {
+    let start = used();
+    for _ in 0..repeats {
         round();
-        best = best.min(start.elapsed().as_secs_f64());
+    }
+    (used() - start) / repeats as f64
+}
+
+/// How many rounds in a row take long enough to be timed, a fifth of a millisecond.
+fn repeats(round: &mut dyn FnMut()) -> usize {
+    let once = timed(1, round).max(1e-8);
+    (2e-4 / once).ceil() as usize
+}
+
+/// The best time of a round of each, in turn, in seconds.
+fn best(contenders: &mut [&mut dyn FnMut()]) -> Vec<f64> {
+    let repeats: Vec<usize> = contenders.iter_mut().map(|round| repeats(round)).collect();
+    let mut best = vec![f64::INFINITY; contenders.len()];
+    let begun = Instant::now();
+    let mut rounds = 0;
+    while rounds < ROUNDS.start || (begun.elapsed() < ENOUGH && rounds < ROUNDS.end) {
+        for (number, round) in contenders.iter_mut().enumerate() {
+            best[number] = best[number].min(timed(repeats[number], round));
+        }
         rounds += 1;
     }
     best
@@ -142,21 +184,27 @@ fn measure(workload: &Workload) -> Result<(), String> {
     if other.is_some_and(|other| other != outcome) {
         return Err(format!("{}: the library answers {other:?}", workload.name));
     }
-    let slow = best(|| {
-        black_box(ask_reference(black_box(&question), &mut output));
-    });
-    let fast = other.map(|_| {
-        best(|| {
-            black_box(ask_library(black_box(&question), &mut output));
-        })
-    });
+    let mut second = output.clone();
+    let times = best(&mut [
+        &mut || {
+            black_box(ask_reference(black_box(&question), &mut output));
+        },
+        &mut || {
+            black_box(ask_library(black_box(&question), &mut second));
+        },
+    ]);
     let from = vec![1; question.length];
-    let copied = best(|| black_box(&mut output).copy_from_slice(black_box(&from)));
-    say(&line(workload, outcome.steps, slow, fast, copied))
+    let mut copy = vec![0; question.length];
+    let copied = best(&mut [&mut || black_box(&mut copy).copy_from_slice(black_box(&from))])[0];
+    let fast = other.map(|_| times[1]);
+    say(&line(workload, outcome.steps, times[0], fast, copied))
 }
 
-/// A speed in millions of what is counted, each second.
+/// A speed in millions of what is counted, each second; of a very short call, its time.
 fn speed(workload: &Workload, steps: u64, seconds: f64) -> String {
+    if workload.runs && steps < 100 {
+        return format!("{:9.1} ns/call ", seconds * 1e9);
+    }
     let gates = workload.records as u64;
     let (count, unit) = match workload.runs {
         false => (workload.program.len() as f64, "MB/s"),
@@ -191,16 +239,30 @@ fn line(workload: &Workload, steps: u64, slow: f64, fast: Option<f64>, copied: f
     )
 }
 
-/// Measures everything.
-fn bench() -> Result<(), String> {
-    if let Some(word) = std::env::args_os().nth(1) {
-        return Err(format!("use: bench, without arguments; not {word:?}"));
+/// The rows whose names begin with the word given, or all.
+fn chosen(words: &[String]) -> Result<Vec<Workload>, String> {
+    let beginning = match words {
+        [] => "",
+        [word] => word.as_str(),
+        _ => return Err("use: bench [THE BEGINNING OF A ROW'S NAME]".into()),
+    };
+    let mut rows = workloads();
+    rows.retain(|row| row.name.starts_with(beginning));
+    match rows.is_empty() {
+        true => Err(format!("no row begins with {beginning:?}")),
+        false => Ok(rows),
     }
+}
+
+/// Measures everything, or the rows asked for.
+fn bench() -> Result<(), String> {
+    let words: Vec<String> = std::env::args().skip(1).collect();
+    let rows = chosen(&words)?;
     say(&library::status())?;
     if cfg!(debug_assertions) {
         say("built without optimization: these times mean little")?;
     }
-    workloads().iter().try_for_each(measure)
+    rows.iter().try_for_each(measure)
 }
 
 fn main() -> ExitCode {
