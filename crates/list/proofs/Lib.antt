@@ -1,2 +1,4 @@
 pub mod Examples
+pub mod Lending
 pub mod Putting
+pub mod Wording
