@@ -69,11 +69,9 @@ gives 'two sizes for one' 'end 21 0 0 0' '' "$list" 2 1 1 <examples/adder.bytes
 gives '16 sizes' 'end 21 0 0 0' '' "$list" 2 {1..16} <examples/adder.bytes
 gives 'a size too large' 'end 22 0 0 0' '' "$list" 2 65536 <examples/adder.bytes
 gives 'the largest size' 'end 22 0 0 0' '' "$list" 2 4294967295 <examples/adder.bytes
-head -c 65536 /dev/zero >"$work/long"
-gives '65,536 bytes' 'end 1 0 0 0' '' "$list" <"$work/long"
-head -c 70000 /dev/zero >"$work/long"
-gives '70,000 bytes' 'end 1 0 0 0' '' "$list" <"$work/long"
-gives '70,000 bytes for a family' 'end 1 0 0 0' '' "$list" 0 1 <"$work/long"
+gives '65,536 bytes' 'end 1 0 0 0' '' "$list" < <(head -c 65536 /dev/zero)
+gives '70,000 bytes' 'end 1 0 0 0' '' "$list" < <(head -c 70000 /dev/zero)
+gives '70,000 bytes for a family' 'end 1 0 0 0' '' "$list" 0 1 < <(head -c 70000 /dev/zero)
 
 # Bad words.
 bad() { # NAME WORD ..
