@@ -2,7 +2,7 @@
 use mathlib.Core.Path.{_≡_, refl}
 use mathlib.Core.List.{[], _∷_}
 use mathlib.Core.Option.{none, some}
-use Rattle.list.specs.Lines.{digitsOf, numberOf, gateOf, conditionOf, twoBytesAt, lineOf, endOf}
+use Rattle.list.specs.Lines.{digitsOf, numberOf, gateOf, conditionOf, twoBytesAt, lineOf, linesOf, endOf, listingOf}
 use Rattle.list.specs.Words.{allDigits, valueFrom, numberIn, sizeBytes, andSizes, sizesIn, sameWord, familyAt, requestOf, before, wordsIn}
 use Rattle.list.specs.Words.{whole, family, listing, help, bad}
 
@@ -20,6 +20,12 @@ if-line = refl
 end-line : endOf 0 0 2 2 ≡ 101 ∷ 110 ∷ 100 ∷ 32 ∷ 48 ∷ 32 ∷ 48 ∷ 32 ∷ 50 ∷ 32 ∷ 50 ∷ 10 ∷ []
 unfolding digitsOf numberOf endOf
 end-line = refl
+
+-- `h 3`, and `end 0 0 1 1`
+whole-listing : listingOf (record { result = record { number = 0; place = 0; records = 1; steps = 1 }; output = 1 ∷ 0 ∷ 3 ∷ 0 ∷ 0 ∷ 0 ∷ 0 ∷ 0 ∷ [] })
+    ≡ 104 ∷ 32 ∷ 51 ∷ 10 ∷ 101 ∷ 110 ∷ 100 ∷ 32 ∷ 48 ∷ 32 ∷ 48 ∷ 32 ∷ 49 ∷ 32 ∷ 49 ∷ 10 ∷ []
+unfolding digitsOf numberOf gateOf conditionOf twoBytesAt lineOf linesOf endOf listingOf
+whole-listing = refl
 
 -- `042`
 leading-zero : numberIn (48 ∷ 52 ∷ 50 ∷ []) ≡ some 42

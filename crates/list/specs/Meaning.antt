@@ -42,10 +42,12 @@ abbrev pub SizesHeld : Sizes → List ℕ → Type 0
 SizesHeld (Bytes n) bytes = Counts n bytes
 SizesHeld NoSizes bytes = Unit {0}
 
+-- the same of a job
 abbrev pub JobHeld : Job → List ℕ → Type 0
 JobHeld Whole bytes = Unit {0}
 JobHeld (Family n size) bytes = Counts size bytes
 
+-- the same of a request
 abbrev pub Held : Asked → List ℕ → Type 0
 Held (Listing job) bytes = JobHeld job bytes
 Held Help bytes = Unit {0}

@@ -52,12 +52,14 @@ pub data Request : Type 0 where
 abbrev pub helpWord : List ℕ
 helpWord = 45 ∷ 45 ∷ 104 ∷ 101 ∷ 108 ∷ 112 ∷ []
 
+-- whether two words are the same
 unfoldable pub sameWord : List ℕ → List ℕ → Bool
 sameWord [] [] = true
 sameWord [] (b ∷ rest) = false
 sameWord (a ∷ word) [] = false
 sameWord (a ∷ word) (b ∷ rest) = eqb a b && sameWord word rest
 
+-- a family at sizes, where its word and theirs are good
 unfoldable pub familyAt : Option ℕ → Option (List ℕ) → Request
 familyAt none sizes = bad
 familyAt (some n) none = bad
