@@ -1,2 +1,5 @@
 pub mod Examples
+pub mod Lending
 pub mod Putting
+pub mod ReadBack
+pub mod Wording

@@ -2,7 +2,7 @@
 use Prim.Native.Nat.{ℕ, zero, suc, _+_, _*_, _-_, _/_, _%_, _^_, _<_, _≤_}
 use mathlib.Core.Path.{_≡_, refl, sym, ap, _∙_}
 use mathlib.Core.Bool.{Bool, true, false}
-use mathlib.Core.List.{List, [], _∷_, _++_, append-assoc}
+use mathlib.Core.List.{List, [], _∷_, _++_, append-assoc, append-nil}
 use native.Mathlib.Nat.{one-le-pow, pow-suc, pow-le-pow-right}
 use native.Mathlib.Numerals.{add-one, sub-one}
 use native.Mathlib.Omega.{arith}
@@ -79,6 +79,20 @@ lines-more bytes first next h =
     let e : next + 1 - first ≡ suc (next - first) = omega arith in
     let f : 8 * (first + (next - first)) ≡ 8 * next = omega arith in
     ap (linesOf bytes first) e ∙ ap (λ (k : ℕ). linesOf bytes first (next - first) ++ lineOf (take 8 (drop k bytes))) f
+
+-- the lines of some records and then those of the next ones are the lines of all of them
+pub lines-together : (bytes : List ℕ) (first some more : ℕ) → linesOf bytes first some ++ linesOf bytes (first + some) more ≡ linesOf bytes first (some + more)
+unfolding linesOf
+lines-together bytes first some zero =
+    let e : some + 0 ≡ some = omega arith in
+    append-nil (linesOf bytes first some) ∙ ap (linesOf bytes first) (sym e)
+lines-together bytes first some (suc more) =
+    let e : some + suc more ≡ suc (some + more) = omega arith in
+    let f : first + some + more ≡ first + (some + more) = omega arith in
+    sym (append-assoc (linesOf bytes first some) (linesOf bytes (first + some) more) (lineOf (take 8 (drop (8 * (first + some + more)) bytes))))
+    ∙ ap (λ (l : List ℕ). l ++ lineOf (take 8 (drop (8 * (first + some + more)) bytes))) (lines-together bytes first some more)
+    ∙ ap (λ (k : ℕ). linesOf bytes first (some + more) ++ lineOf (take 8 (drop (8 * k) bytes))) f
+    ∙ ap (linesOf bytes first) (sym e)
 
 -- an operation that no record has
 pub gate-other : (op first second : ℕ) → (op ≡ 1 → ⊥) → (op ≡ 2 → ⊥) → (op ≡ 3 → ⊥) → (op ≡ 4 → ⊥) → (op ≡ 5 → ⊥) → (op ≡ 6 → ⊥)

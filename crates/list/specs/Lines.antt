@@ -6,6 +6,7 @@ use mathlib.Core.List.{List, [], _∷_, _++_}
 use lib.Dec.{eqb, ltb}
 use lib.ListN.{take, drop, getD}
 use Rattle.io.specs.Digits.{glyph}
+use Rattle.language.specs.Result.{Answer}
 
 -- the last digits of n in decimal, at most `most` of them, with no zeros in front
 unfoldable pub digitsOf : ℕ → ℕ → List ℕ
@@ -47,6 +48,12 @@ linesOf bytes first (suc count) = linesOf bytes first count ++ lineOf (take 8 (d
 -- the last line: `end`, number, place, records, steps
 unfoldable pub endOf : (number place records steps : ℕ) → List ℕ
 endOf number place records steps = (101 ∷ 110 ∷ 100 ∷ []) ++ numberOf number ++ numberOf place ++ numberOf records ++ numberOf steps ++ (10 ∷ [])
+
+-- the whole listing of an answer, which is printed part by part: the lines of all its records, and the last line
+unfoldable pub listingOf : Answer → List ℕ
+listingOf a =
+    linesOf (a .output) 0 (a .result .records)
+    ++ endOf (a .result .number) (a .result .place) (a .result .records) (a .result .steps)
 
 -- what putting a word of at most `most` bytes at `from` did: the text up to `to` is what it was up to `from`, and then the word
 pub record Put (before : List ℕ) (from : ℕ) (after : List ℕ) (to : ℕ) (word : List ℕ) (most : ℕ) : Type 0 where

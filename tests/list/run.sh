@@ -1,0 +1,138 @@
+#!/usr/bin/env bash
+# Tests of the listing program, target/bin/list: what it prints, and what it says where its words, its input or its output are bad.
+# It runs from the repository root and needs a C compiler. Its last line is `N passed, M failed`, and it succeeds only with M = 0.
+set -u
+
+list=target/bin/list
+usage='usage: list [FAMILY [SIZE ..]] < PROGRAM; list --help says more'
+passed=0
+failed=0
+work=$(mktemp -d)
+trap 'rm -rf "$work"' EXIT
+
+# Runs a command, and compares what it wrote to standard output and standard error.
+gives() { # NAME OUTPUT MESSAGE COMMAND ..
+    local name=$1 output=$2 message=$3
+    shift 3
+    "$@" >"$work/output" 2>"$work/message"
+    said "$name" "$output" "$message"
+}
+
+# Compares what was written with what is due.
+said() { # NAME OUTPUT MESSAGE
+    local output message
+    output=$(cat "$work/output")
+    message=$(cat "$work/message")
+    if [ "$output" = "$2" ] && [ "$message" = "$3" ]; then
+        passed=$((passed + 1))
+    else
+        failed=$((failed + 1))
+        printf '%s: expected\n%s\n%s\ngot\n%s\n%s\n' "$1" "$2" "$3" "$output" "$message"
+    fi
+}
+
+# The lines of an example's listing.
+lines() { # NAME
+    tail -n +2 "examples/$1.list"
+}
+
+# Whole programs.
+for program in examples/*.bytes; do
+    name=$(basename "$program" .bytes)
+    [ -e "examples/$name.list" ] || continue
+    gives "list < $program" "$(lines "$name")" '' "$list" <"$program"
+done
+
+# Families at sizes.
+family() { # LISTING PROGRAM FAMILY SIZE ..
+    local listing=$1 program=$2
+    shift 2
+    gives "list $* < examples/$program.bytes" "$(lines "$listing")" '' "$list" "$@" <"examples/$program.bytes"
+}
+family adder.n0 adder 2 0
+family adder.n1 adder 2 1
+family adder.n1 adder 002 0000000000001
+family ctrladd.m0 ctrladd 1 0
+family ctrladd.m2 ctrladd 1 2
+family loop.n0 loop 0 0
+family loop.n3 loop 0 3
+family there-and-back.there.n1 there-and-back 1 1
+family there-and-back.back.n1 there-and-back 2 1
+family there-and-back.n2 there-and-back 3 2
+family two-sizes.m2.n1 two-sizes 0 2 1
+
+# What the library turns down.
+gives 'no such family' 'end 20 0 0 0' '' "$list" 3 1 <examples/adder.bytes
+gives 'the largest family' 'end 20 0 0 0' '' "$list" 4294967295 <examples/adder.bytes
+gives 'no size for one' 'end 21 0 0 0' '' "$list" 2 <examples/adder.bytes
+gives 'two sizes for one' 'end 21 0 0 0' '' "$list" 2 1 1 <examples/adder.bytes
+gives '16 sizes' 'end 21 0 0 0' '' "$list" 2 {1..16} <examples/adder.bytes
+gives 'a size too large' 'end 22 0 0 0' '' "$list" 2 65536 <examples/adder.bytes
+gives 'the largest size' 'end 22 0 0 0' '' "$list" 2 4294967295 <examples/adder.bytes
+gives '65,536 bytes' 'end 1 0 0 0' '' "$list" < <(head -c 65536 /dev/zero)
+gives '70,000 bytes' 'end 1 0 0 0' '' "$list" < <(head -c 70000 /dev/zero)
+gives '70,000 bytes for a family' 'end 1 0 0 0' '' "$list" 0 1 < <(head -c 70000 /dev/zero)
+
+# Bad words.
+bad() { # NAME WORD ..
+    local name=$1
+    shift
+    gives "$name" '' "$usage" "$list" "$@" <examples/adder.bytes
+}
+bad 'an empty family' ''
+bad 'an empty size' 2 ''
+bad 'a family by name' add 1
+bad 'a letter after digits' 2 1x
+bad 'a sign' 2 -1
+bad 'a plus' 2 +1
+bad 'a space' 2 ' 1'
+bad 'the byte before 0' 2 '1/'
+bad 'the byte after 9' 2 '1:'
+bad 'a family of 33 bits' 4294967296
+bad 'a size of 33 bits' 2 4294967296
+bad 'a size of 65 bits' 2 18446744073709551617
+bad 'a bad size after a good one' 2 1 x
+bad '17 sizes' 2 {1..17}
+bad 'help after a family' 2 --help
+bad 'an option' -h
+bad 'words too long' "$(printf '%04096d' 2)" 1
+
+# Help.
+"$list" --help >"$work/help" 2>"$work/message" </dev/null
+head -n 1 "$work/help" >"$work/output"
+said 'help' 'usage: list < PROGRAM' ''
+grep -F 'exit status' "$work/help" >"$work/output"
+said 'help on the exit status' 'There is no exit status: a list is whole where its last line begins with' ''
+
+# Input that cannot be read.
+reading='list: reading standard input'
+gives 'a folder as input' '' "$reading: Is a directory" "$list" <.
+gives 'a folder as input, for a family' '' "$reading: Is a directory" "$list" 2 1 <.
+gives 'closed input' '' "$reading: Bad file descriptor" "$list" <&-
+cc -std=c11 -Wall -Wextra -Werror -O2 tests/list/late_field.c -o "$work/late_field"
+gives 'a field that comes late' '' "$reading: Resource temporarily unavailable" "$work/late_field" 21 "$list" <examples/bell.bytes
+cc -std=c11 -Wall -Wextra -Werror -O2 -shared -fPIC tests/list/interrupted.c -o "$work/interrupted.so"
+gives 'short reads' "$(lines adder)" '' env LD_PRELOAD="$work/interrupted.so" "$list" <examples/adder.bytes
+gives 'interrupted reads' "$(lines adder)" '' env LD_PRELOAD="$work/interrupted.so" INTERRUPTS=3 "$list" <examples/adder.bytes
+gives 'reads that are only interrupted' '' "$reading: Interrupted system call" \
+    env LD_PRELOAD="$work/interrupted.so" INTERRUPTS=1000000 "$list" <examples/adder.bytes
+
+# Output that cannot be written: a message, and no end line.
+writing='list: writing standard output'
+: >"$work/output"
+"$list" <examples/bell.bytes >/dev/full 2>"$work/message"
+said 'a full device' '' "$writing: No space left on device"
+"$list" 9 <examples/bell.bytes >/dev/full 2>"$work/message"
+said 'a full device, for the end line' '' "$writing: No space left on device"
+"$list" --help >/dev/full 2>"$work/message"
+said 'a full device, for help' '' "$writing: No space left on device"
+"$list" <examples/bell.bytes >&- 2>"$work/message"
+said 'closed output' '' "$writing: Bad file descriptor"
+(trap '' XFSZ && ulimit -f 1 && "$list" 2 200 <examples/adder.bytes >"$work/cut" 2>"$work/message")
+grep '^end' "$work/cut" >"$work/output"
+said 'a file that is full after 1,024 bytes' '' "$writing: File too large"
+head -c 1024 <("$list" 2 200 <examples/adder.bytes) | cmp - "$work/cut" >"$work/output"
+said 'a file that is full after 1,024 bytes, up to there' '' "$writing: File too large"
+
+printf '%s passed, %s failed\n' "$passed" "$failed"
+[ "$failed" -eq 0 ]
