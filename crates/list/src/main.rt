@@ -2,21 +2,19 @@
 // line for each record and last `end NUMBER PLACE RECORDS STEPS`.
 mod help;
 mod input;
-mod text;
-mod words;
 
 ghost use Prim.Native.Nat.{_*_, _≤_};
 ghost use mathlib.Core.Path.{_≡_};
 ghost use lib.ListN.{length};
 ghost use Rattle.language.specs.Result.{finished};
 ghost use Rattle.metaqasm.specs.Answers.{answered};
-ghost use Rattle.list.specs.Words.{outcomeOf};
-ghost use Rattle.list.specs.Meaning.{jobMeant, JobHeld};
+ghost use Rattle.list_words.specs.Words.{outcomeOf};
+ghost use Rattle.list_words.specs.Meaning.{jobMeant, JobHeld};
+use list_words::Asked;
+use list_words::Job;
 use metaqasm::MetaqasmResult;
 use metaqasm::metaqasm_instance as list_family;
 use metaqasm::metaqasm_run as list_whole;
-use words::Asked;
-use words::Job;
 
 // The steps that a program may take.
 const LIMIT: u64 = 1000000;
@@ -29,7 +27,7 @@ fn print_records(output: &[u8], records: usize) -> bool
     let buffer: &mut [u8] = &mut space;
     let mut next: usize = 0;
     while next < records {
-        let chunk = text::lines(output, next, records, buffer);
+        let chunk = list_text::lines(output, next, records, buffer);
         let size = chunk.size;
         if !io::write_all(1, &buffer[..size]) {
             return false;
@@ -42,7 +40,7 @@ fn print_records(output: &[u8], records: usize) -> bool
 // Prints the last line, and answers whether it was written.
 fn print_result(result: MetaqasmResult) -> bool {
     let mut buffer = io::buffer();
-    let size = text::last_line(
+    let size = list_text::last_line(
         result.number as u64,
         result.place as u64,
         result.records,
@@ -104,7 +102,7 @@ fn main() {
         help::print_usage();
         return;
     }
-    match words::request(&space[..size], &mut sizes) {
+    match list_words::request(&space[..size], &mut sizes) {
         Asked::Listing(job) => list_program(job, &sizes),
         Asked::Help => help::print_help(),
         Asked::Bad => help::print_usage(),

@@ -4,8 +4,8 @@ use Rattle.list.proofs.answer.Statement.{statement}
 use Rattle.list.proofs.answer.Tie as tie
 use mathlib.Core.Path.{ap, subst, _∙_}
 use denote.Ref.{now}
-use Rattle.list.specs.Words.{outcomeOf}
-use Rattle.list.specs.Meaning.{jobMeant, JobHeld}
+use Rattle.list_words.specs.Words.{outcomeOf}
+use Rattle.list_words.specs.Meaning.{jobMeant, JobHeld}
 
 enum-told : tie.Need-enum-told
 enum-told c =

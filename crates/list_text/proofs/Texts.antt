@@ -1,0 +1,106 @@
+-- Laws on texts that are put together word by word, and on decimal digits. Assumes nothing.
+use Prim.Native.Nat.{ℕ, zero, suc, _+_, _*_, _-_, _/_, _%_, _^_, _<_, _≤_}
+use mathlib.Core.Path.{_≡_, refl, sym, ap, _∙_}
+use mathlib.Core.Bool.{Bool, true, false}
+use mathlib.Core.List.{List, [], _∷_, _++_, append-assoc, append-nil}
+use native.Mathlib.Nat.{one-le-pow, pow-suc, pow-le-pow-right}
+use native.Mathlib.Numerals.{add-one, sub-one}
+use native.Mathlib.Omega.{arith}
+use borrow.Author.Tests.{leb-true, leb-false, lt-ltb, le-ltb, ne-eqb}
+use lib.Dec.{leb}
+use lib.ListN.{length, take, drop, getD, set}
+use lib.Seq.{take-suc, take-suc-set}
+use Rattle.io.specs.Digits.{digits, glyph, Fewest}
+use Rattle.list_text.specs.Lines.{digitsOf, numberOf, gateOf, conditionOf, lineOf, linesOf, Put}
+
+-- one byte more of a word
+pub more : (before after word : List ℕ) (from at i : ℕ) → at < length after → i < length word → take at after ≡ take from before ++ take i word
+    → take (at + 1) (set after at (getD word i 0)) ≡ take from before ++ take (i + 1) word
+more before after word from at i h k e =
+    rw (add-one at, add-one i)
+    (take-suc-set after at (getD word i 0) h
+    ∙ ap (λ (l : List ℕ). l ++ (getD word i 0 ∷ [])) e
+    ∙ append-assoc (take from before) (take i word) (getD word i 0 ∷ [])
+    ∙ ap (λ (l : List ℕ). take from before ++ l) (sym (take-suc word i 0 k)))
+
+-- a word, and then another
+pub then : {before middle after : List ℕ} {from at to : ℕ} {word other : List ℕ} {few many : ℕ} (whole : List ℕ) (most : ℕ)
+    → Put before from middle at word few → Put middle at after to other many → word ++ other ≡ whole → few + many ≤ most
+    → Put before from after to whole most
+then {before} {middle} {after} {from} {at} {to} {word} {other} whole most p q e h =
+    let a = p .bound in
+    let b = q .bound in
+    record {
+      text = q .text ∙ ap (λ (l : List ℕ). l ++ other) (p .text) ∙ append-assoc (take from before) word other ∙ ap (λ (l : List ℕ). take from before ++ l) e;
+      bound = omega arith;
+    }
+
+-- the same word under another name, within a larger bound
+pub wider : {before after : List ℕ} {from to : ℕ} {word : List ℕ} {few : ℕ} (whole : List ℕ) (most : ℕ)
+    → Put before from after to word few → word ≡ whole → few ≤ most → Put before from after to whole most
+wider {before} {after} {from} whole most p e h =
+    let a = p .bound in
+    record { text = p .text ∙ ap (λ (l : List ℕ). take from before ++ l) e; bound = omega arith }
+
+-- the fewest digits of a number are all that it has
+pub digits-are : (k most n : ℕ) → k ≤ most → Fewest 10 1 n k → digits 10 k n ≡ digitsOf most n
+unfolding digitsOf
+digits-are zero most n h f = absurd (omega arith)
+digits-are (suc k) zero n h f = absurd (omega arith)
+digits-are (suc zero) (suc most) n h f =
+    let small : n < 10 = f .1 in
+    rw (lt-ltb n 10 small)
+digits-are (suc (suc k)) (suc most) n h f =
+    let p : 1 ≤ 10 ^ k = one-le-pow k 10 (omega arith) in
+    let large : 10 ^ suc k ≤ n = rw sub-one at (f .2 (omega arith)) in
+    let tens : 10 ^ suc k ≡ 10 ^ k * 10 = pow-suc 10 k in
+    let above : n < 10 ^ suc (suc k) = f .1 in
+    let hundreds : 10 ^ suc (suc k) ≡ 10 ^ suc k * 10 = pow-suc 10 (suc k) in
+    let ten : 10 ≤ n = omega arith in
+    let rest : digits 10 (suc k) (n / 10) ≡ digitsOf most (n / 10) = digits-are (suc k) most (n / 10) (omega arith) (omega arith, omega arith, (λ _. simp sub-one (omega arith))) in
+    rw (le-ltb n 10 ten) (ap (λ (l : List ℕ). l ++ (glyph (n % 10) ∷ [])) rest)
+
+-- 20 digits hold a number of 64 bits
+pub digits-fit : (k n : ℕ) → n < 18446744073709551616 → Fewest 10 1 n k → k ≤ 20
+digits-fit k n h f = go (leb k 20) refl
+  where
+    go : (b : Bool) → leb k 20 ≡ b → k ≤ 20
+    go true e = leb-true k 20 e
+    go false e =
+        let many : 20 < k = leb-false k 20 e in
+        let p : 10 ^ 20 ≤ 10 ^ (k - 1) = pow-le-pow-right (omega arith) {i = 20} {j = k - 1} (omega arith) in
+        let q : 10 ^ (k - 1) ≤ n = f .2 (omega arith) in
+        omega arith
+
+-- the line of one record more
+pub lines-more : (bytes : List ℕ) (first next : ℕ) → first ≤ next → linesOf bytes first (next + 1 - first) ≡ linesOf bytes first (next - first) ++ lineOf (take 8 (drop (8 * next) bytes))
+unfolding linesOf
+lines-more bytes first next h =
+    let e : next + 1 - first ≡ suc (next - first) = omega arith in
+    let f : 8 * (first + (next - first)) ≡ 8 * next = omega arith in
+    ap (linesOf bytes first) e ∙ ap (λ (k : ℕ). linesOf bytes first (next - first) ++ lineOf (take 8 (drop k bytes))) f
+
+-- the lines of some records and then those of the next ones are the lines of all of them
+pub lines-together : (bytes : List ℕ) (first some more : ℕ) → linesOf bytes first some ++ linesOf bytes (first + some) more ≡ linesOf bytes first (some + more)
+unfolding linesOf
+lines-together bytes first some zero =
+    let e : some + 0 ≡ some = omega arith in
+    append-nil (linesOf bytes first some) ∙ ap (linesOf bytes first) (sym e)
+lines-together bytes first some (suc more) =
+    let e : some + suc more ≡ suc (some + more) = omega arith in
+    let f : first + some + more ≡ first + (some + more) = omega arith in
+    sym (append-assoc (linesOf bytes first some) (linesOf bytes (first + some) more) (lineOf (take 8 (drop (8 * (first + some + more)) bytes))))
+    ∙ ap (λ (l : List ℕ). l ++ lineOf (take 8 (drop (8 * (first + some + more)) bytes))) (lines-together bytes first some more)
+    ∙ ap (λ (k : ℕ). linesOf bytes first (some + more) ++ lineOf (take 8 (drop (8 * k) bytes))) f
+    ∙ ap (linesOf bytes first) (sym e)
+
+-- an operation that no record has
+pub gate-other : (op first second : ℕ) → (op ≡ 1 → ⊥) → (op ≡ 2 → ⊥) → (op ≡ 3 → ⊥) → (op ≡ 4 → ⊥) → (op ≡ 5 → ⊥) → (op ≡ 6 → ⊥)
+    → (111 ∷ 112 ∷ []) ++ numberOf op ≡ gateOf op first second
+unfolding gateOf
+gate-other op first second a b c d e f = rw (ne-eqb op 1 a, ne-eqb op 2 b, ne-eqb op 3 c, ne-eqb op 4 d, ne-eqb op 5 e, ne-eqb op 6 f)
+
+-- a condition that there is
+pub condition-is : (condition bit : ℕ) → (condition ≡ 0 → ⊥) → (105 ∷ 102 ∷ []) ++ numberOf bit ++ numberOf (condition - 1) ++ (32 ∷ []) ≡ conditionOf condition bit
+unfolding conditionOf
+condition-is condition bit h = rw (ne-eqb condition 0 h)

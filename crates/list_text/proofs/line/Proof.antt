@@ -1,0 +1,65 @@
+-- `line` meets its contract: the condition, the operation on its numbers, and a line end. Assumes nothing.
+use borrow.Author.Needs.{needs}
+use Rattle.list_text.proofs.line.Statement.{statement}
+use Rattle.list_text.proofs.line.Tie as tie
+use mathlib.Core.Path.{refl}
+use mathlib.Core.List.{[], _∷_, _++_}
+use native.Mathlib.Omega.{arith}
+use lib.ListN.{getD}
+use denote.Ref.{now}
+use Rattle.list_text.specs.Lines.{lineOf, conditionOf, gateOf}
+use Rattle.list_text.proofs.Texts.{then}
+
+shared-slice-read-condition : tie.Need-shared-slice-read-condition
+shared-slice-read-condition c = search needs
+
+two-bytes-requires : tie.Need-two-bytes-requires
+two-bytes-requires c κs = search needs
+
+condition-requires : tie.Need-condition-requires
+condition-requires c κs = search needs
+
+shared-slice-read-gate : tie.Need-shared-slice-read-gate
+shared-slice-read-gate c = search needs
+
+two-bytes-requires-2 : tie.Need-two-bytes-requires-2
+two-bytes-requires-2 c κs = search needs
+
+two-bytes-requires-3 : tie.Need-two-bytes-requires-3
+two-bytes-requires-3 c κs = search needs
+
+gate-requires : tie.Need-gate-requires
+gate-requires c κs = search needs
+
+slice-aggregate-put : tie.Need-slice-aggregate-put
+slice-aggregate-put c = search needs
+
+put-requires : tie.Need-put-requires
+put-requires c κs = search needs
+
+same-length : tie.Need-same-length
+same-length c = search needs
+
+returns : tie.Need-returns
+unfolding lineOf
+returns c =
+    let b = now (c .before .before .before .before .before .before .before .before .before .before .before .before .before .before .before .before .before .before .before .before .args .bytes) in
+    then _ _ (then _ 99 (c .before .before .before .before .before .before .before .before .before .before .before .before .before .before .condition .ensures) (c .before .before .before .before .before .before .before .gate .ensures) refl (omega arith)) (c .before .before .put .ensures)
+    (λ j. conditionOf (getD b 1 0) (c .before .before .before .before .before .before .before .before .before .before .before .before .before .before .before .before .two-bytes .ensures j) ++ gateOf (getD b 0 0) (c .before .before .before .before .before .before .before .before .before .before .two-bytes2 .ensures j) (c .before .before .before .before .before .before .before .before .before .two-bytes3 .ensures j) ++ (10 ∷ []))
+    (omega arith)
+
+pub line-spec : {M : Type 1} → statement M
+line-spec =
+    tie.close
+    (tie.spec
+    shared-slice-read-condition
+    two-bytes-requires
+    condition-requires
+    shared-slice-read-gate
+    two-bytes-requires-2
+    two-bytes-requires-3
+    gate-requires
+    slice-aggregate-put
+    put-requires
+    same-length
+    returns)
