@@ -1,13 +1,16 @@
 // A call's arguments, and the family that it names.
 ghost use mathlib.Core.Path.{_≡_};
-ghost use mathlib.Core.List.{[]};
-ghost use Prim.Native.Nat.{_+_, _≤_};
-ghost use lib.ListN.{length, set};
+ghost use mathlib.Core.List.{[], _∷_, _++_};
+ghost use Prim.Native.Nat.{_+_, _*_, _<_, _≤_};
+ghost use lib.ListN.{length, getD, set, take};
+ghost use lib.Seq.{slice};
+ghost use mathlib.Core.Bool.{true};
+ghost use Rattle.language.specs.Form.{inRange};
 ghost use Rattle.language.specs.Read.{isIndexTag, isOperandTag};
 ghost use Rattle.fields.specs.Table.{pastOf};
-ghost use Rattle.operands.specs.Stand.{operandsOf};
-ghost use Rattle.calls.specs.Families.{FamilyHead, Passed, BodyOf};
-ghost use Rattle.calls.specs.Arguments.{operandsIn, SizesAre, Kept, Adds, KeepsMore, Handed, Takes, Fits, Fitting, Arguments};
+ghost use Rattle.operands.specs.Stand.{operandsOf, ofParameter};
+ghost use Rattle.calls.specs.Families.{FamilyHead, Passed, BodyFrom, BodyOf};
+ghost use Rattle.calls.specs.Arguments.{handedOf, handedIn, operandsIn, SizesAre, KeepsMore, Handed, Takes, Fits, Fitting, Scopes, Arguments};
 use fields::Header;
 use indexes::Value;
 use operands::Operand;
@@ -24,15 +27,16 @@ pub fn past(program: &[u8], at: usize) -> usize
     at + 3 + fields::two_bytes(program, at + 1)
 }
 
-// The position past the first k fields of a list, or its end where there are fewer.
-fn passed(p: &[u8], k: usize) -> usize
-    ensures { λ r. ⌜ Passed k (now (p .entry)) r ⌝ }
+// The position past the first k fields from `from` on, or the end where there are fewer.
+fn passed(p: &[u8], from: usize, to: usize, k: usize) -> usize
+    requires { ⌜ (from ≤ to) × (to ≤ length (now p)) ⌝ }
+    ensures { λ r. ⌜ Passed k (now (p .entry)) from to r ⌝ }
 {
-    let mut at: usize = 0;
+    let mut at = from;
     let mut i: usize = 0;
     while i < k {
-        let Header::Whole(_, next) = fields::header_at(p, at, p.len()) else {
-            return p.len();
+        let Header::Whole(_, next) = fields::header_at(p, at, to) else {
+            return to;
         };
         at = next;
         i += 1;
@@ -40,20 +44,29 @@ fn passed(p: &[u8], k: usize) -> usize
     at
 }
 
-// The body of the family whose field is at `at`: the rest of its field after the types.
-pub fn body_of<'a>(program: &'a [u8], at: usize) -> &'a [u8]
+// Where the body of the family whose field is at `at` begins.
+pub fn body_start(program: &[u8], at: usize) -> usize
     requires { ⌜ FamilyHead (now program) at ⌝ }
-    ensures { λ r. ⌜ BodyOf (now (program .entry)) at (now r) ⌝ }
+    ensures { λ r. ⌜ BodyFrom (now (program .entry)) at r ⌝ }
 {
     let to = past(program, at);
     let from = at + 5;
     let many = fields::wide(program[at + 4]);
-    let start = from + passed(&program[from..to], many);
+    passed(program, from, to, many)
+}
+
+// The body of the family whose field is at `at`: the rest of its field from `start` on, after the types.
+pub fn body_of<'a>(program: &'a [u8], at: usize, start: usize) -> &'a [u8]
+    requires { ⌜ FamilyHead (now program) at ⌝ }
+    requires { ⌜ BodyFrom (now program) at start ⌝ }
+    ensures { λ r. ⌜ now r ≡ slice start (pastOf (now (program .entry)) at) (now (program .entry)) ⌝ }
+{
+    let to = past(program, at);
     &program[start..to]
 }
 
-// The sizes of a call: how many, or that one is out of range or has no value.
-pub enum Sizes {
+// A call's sizes or operands: how many, or that an index is out of range or that one has no meaning.
+pub enum Gathered {
     Are(usize),
     Over,
     Stuck,
@@ -74,39 +87,49 @@ fn is_operand(tag: u8) -> bool
 }
 
 // An array tells how long it is.
-fn tell_sizes(sizes: [i64; 4])
-    ensures { λ _. ⌜ length sizes ≡ 4 ⌝ }
+fn tell_sizes(sizes: [i32; 20])
+    ensures { λ _. ⌜ length sizes ≡ 20 ⌝ }
 {}
 
 // Stores a size if it is one of the first four.
-fn store(sizes: &mut [i64; 4], k: usize, z: i64)
-    ensures { λ _. ⌜ (now (sizes .exit) ≡ set (now (sizes .entry)) k z) × (length (now (sizes .entry)) ≡ 4) ⌝ }
+fn store(sizes: &mut [i32; 20], k: usize, z: i64)
+    requires { ⌜ inRange z ≡ true ⌝ }
+    ensures { λ _. ⌜ (k < 4 → now (sizes .exit) ≡ set (now (sizes .entry)) k z) × (length (now (sizes .entry)) ≡ 20) ⌝ }
 {
     tell_sizes(*sizes);
     if k < 4 {
-        sizes[k] = z;
+        sizes[k] = z as i32;
     }
 }
 
-// The sizes among the arguments in p. The first four are stored.
-fn sizes_of(p: &[u8], vars: &[i64], sizes: &mut [i64; 4]) -> Sizes
-    ensures { λ r. ⌜ SizesAre (now (p .entry)) (now (vars .entry)) (now (sizes .exit)) r ⌝ }
+// The sizes among the arguments from `from` to `to`. The first four are stored.
+fn sizes_of(
+    p: &[u8],
+    from: usize,
+    to: usize,
+    vars: &[i32; 20],
+    many: usize,
+    sizes: &mut [i32; 20],
+) -> Gathered
+    requires { ⌜ to ≤ length (now p) ⌝ }
+    requires { ⌜ many ≤ 20 ⌝ }
+    ensures { λ r. ⌜ SizesAre (slice from to (now (p .entry))) (take many (now (vars .entry))) (now (sizes .exit)) r ⌝ }
 {
-    let mut at: usize = 0;
+    let mut at = from;
     let mut k: usize = 0;
     loop {
-        match fields::header_at(p, at, p.len()) {
-            Header::End => return Sizes::Are(k),
-            Header::Cut => return Sizes::Stuck,
+        match fields::header_at(p, at, to) {
+            Header::End => return Gathered::Are(k),
+            Header::Cut => return Gathered::Stuck,
             Header::Whole(tag, next) => {
-                let from = at + 3;
+                let content = at + 3;
                 if is_operand(tag) {
                     at = next;
                     continue;
                 }
-                match indexes::evaluate(&p[from..next], tag, vars, 16) {
-                    Value::Over => return Sizes::Over,
-                    Value::Stuck => return Sizes::Stuck,
+                match indexes::evaluate(p, content, next, tag, vars, many, 16) {
+                    Value::Over => return Gathered::Over,
+                    Value::Stuck => return Gathered::Stuck,
                     Value::Is(z) => {
                         store(sizes, k, z);
                         k += 1;
@@ -118,202 +141,241 @@ fn sizes_of(p: &[u8], vars: &[i64], sizes: &mut [i64; 4]) -> Sizes
     }
 }
 
-// How a call's arguments come out.
-pub enum Taken {
-    All,
-    Over,
-    Stuck,
-}
-
-// How the arguments come out and, if all are taken, the scope of the family's body.
-pub struct Given {
-    pub taken: Taken,
-    pub scope: Scope,
-}
-
 // An array tells how long it is.
-fn tell_params(ps: [Parameter; 8])
-    ensures { λ _. ⌜ length ps ≡ 8 ⌝ }
+fn tell_given(given: [u16; 24])
+    ensures { λ _. ⌜ length given ≡ 24 ⌝ }
 {}
 
-fn answer(taken: Taken, scope: Scope) -> Given
-    ensures { λ r. ⌜ r .taken ≡ taken ⌝ }
+// Puts an operand behind the n that are gathered: the tag of its type, its first wire and its size.
+fn put(given: &mut [u16; 24], n: usize, kind: u16, first: u16, size: u16)
+    requires { ⌜ n < 8 ⌝ }
+    ensures { λ _. ⌜ handedIn (take (3 * (n + 1)) (now (given .exit))) ≡ handedIn (take (3 * n) (now (given .entry))) ++ (handedOf kind first size ∷ []) ⌝ }
 {
-    Given { taken, scope }
+    tell_given(*given);
+    let at = 3 * n;
+    let second = at + 1;
+    let third = at + 2;
+    given[at] = kind;
+    given[second] = first;
+    given[third] = size;
 }
 
-// Before the first operand.
-fn nothing_yet() -> Given
-    ensures { λ r. ⌜ Kept [] r ⌝ }
+// One operand more than the n that are gathered. No family takes a classical one, or a ninth: then the answer is 9.
+fn keep(given: &mut [u16; 24], n: usize, s: Stands) -> usize
+    ensures { λ r. ⌜ KeepsMore (now (given .entry)) n s (now (given .exit)) r ⌝ }
 {
-    let none = Parameter {
-        operand: Operand::Single(Wire(0)),
-    };
-    let params = [none; 8];
-    Given {
-        taken: Taken::All,
-        scope: Scope {
-            top: false,
-            count: 0,
-            params,
-        },
+    tell_given(*given);
+    if 8 <= n {
+        return 9;
     }
-}
-
-// One parameter more, if there is room.
-fn add(scope: Scope, operand: Operand) -> Given
-    ensures { λ r. ⌜ Adds scope operand r ⌝ }
-{
-    let count = scope.count;
-    let mut params = scope.params;
-    tell_params(params);
-    if 8 <= count {
-        return answer(Taken::Stuck, scope);
-    }
-    params[count] = Parameter { operand };
-    let more = count + 1;
-    Given {
-        taken: Taken::All,
-        scope: Scope {
-            top: false,
-            count: more,
-            params,
-        },
-    }
-}
-
-// One operand more. No family takes a classical one, or a ninth.
-fn keep(g: Given, s: Stands) -> Given
-    ensures { λ r. ⌜ KeepsMore g s r ⌝ }
-{
-    let taken = g.taken;
-    let scope = g.scope;
-    let Taken::All = taken else {
-        return g;
-    };
+    let more = n + 1;
     match s {
-        Stands::AWire(w) => add(scope, Operand::Single(w)),
-        Stands::Wires(first, size) => add(scope, Operand::Register { first, size }),
-        Stands::ABit(_) => answer(Taken::Stuck, scope),
-        Stands::Bits(_, _) => answer(Taken::Stuck, scope),
-        Stands::Over => g,
-        Stands::Stuck => g,
+        Stands::AWire(w) => {
+            put(given, n, 16, w.0, 0);
+            return more;
+        }
+        Stands::Wires(first, size) => {
+            put(given, n, 17, first.0, size);
+            return more;
+        }
+        Stands::ABit(_) => {
+            return 9;
+        }
+        Stands::Bits(_, _) => {
+            return 9;
+        }
+        Stands::Over => {
+            return 9;
+        }
+        Stands::Stuck => {
+            return 9;
+        }
     }
 }
 
-// The operands among the arguments in p.
-fn operands_of(p: &[u8], vars: &[i64], scope: Scope, regs: &[u16]) -> Given
-    ensures { λ r. ⌜ Handed (operandsIn (now (p .entry)) (now (vars .entry)) (operandsOf scope (now (regs .entry)))) r ⌝ }
+// The operands among the arguments from `from` to `to`, gathered as numbers.
+fn operands_of(
+    p: &[u8],
+    from: usize,
+    to: usize,
+    vars: &[i32; 20],
+    many: usize,
+    scope: Scope,
+    regs: &[u16; 765],
+    given: &mut [u16; 24],
+) -> Gathered
+    requires { ⌜ to ≤ length (now p) ⌝ }
+    requires { ⌜ many ≤ 20 ⌝ }
+    ensures { λ r. ⌜ Handed (operandsIn (slice from to (now (p .entry))) (take many (now (vars .entry))) (operandsOf scope (now (regs .entry)))) (now (given .exit)) r ⌝ }
 {
-    let mut g = nothing_yet();
-    let mut at: usize = 0;
+    let mut at = from;
+    let mut n: usize = 0;
     loop {
-        match fields::header_at(p, at, p.len()) {
-            Header::End => return g,
-            Header::Cut => return answer(Taken::Stuck, scope),
+        match fields::header_at(p, at, to) {
+            Header::End => return Gathered::Are(n),
+            Header::Cut => return Gathered::Stuck,
             Header::Whole(tag, next) => {
-                let from = at + 3;
+                let content = at + 3;
                 if is_index(tag) {
                     at = next;
                     continue;
                 }
-                let s = operands::meaning(&p[from..next], tag, vars, scope, regs);
+                let s = operands::meaning(p, content, next, tag, vars, many, scope, regs);
                 if let Stands::Over = s {
-                    return answer(Taken::Over, scope);
+                    return Gathered::Over;
                 }
                 if let Stands::Stuck = s {
-                    return answer(Taken::Stuck, scope);
+                    return Gathered::Stuck;
                 }
-                g = keep(g, s);
+                n = keep(given, n, s);
                 at = next;
             }
         }
     }
 }
 
-// Whether a parameter of the type with this tag takes an operand.
-fn takes(tag: u8, o: Operand) -> bool
-    ensures { λ r. ⌜ Takes tag o r ⌝ }
+// Whether a parameter of the type with this tag takes an operand whose own type has the tag `kind`.
+fn takes(tag: u8, kind: u16) -> bool
+    ensures { λ r. ⌜ Takes tag kind r ⌝ }
 {
-    match o {
-        Operand::Single(_) => tag == 16,
-        Operand::Register { first: _, size: _ } => tag == 17,
+    if kind == 17 {
+        return tag == 17;
     }
+    tag == 16
 }
 
-// Whether the first n parameters are of the kinds that the first n type fields say.
-fn fits(types: &[u8], n: usize, params: [Parameter; 8]) -> bool
+// Whether types take the operands gathered, and if so where the fields after them begin.
+pub enum Fit {
+    From(usize),
+    Not,
+}
+
+// Whether the first n operands are of the kinds that the n type fields from `from` on say.
+fn fits(p: &[u8], from: usize, to: usize, n: usize, given: &[u16; 24]) -> Fit
+    requires { ⌜ (from ≤ to) × (to ≤ length (now p)) ⌝ }
     requires { ⌜ n ≤ 8 ⌝ }
-    ensures { λ r. ⌜ Fits (now (types .entry)) n params r ⌝ }
+    ensures { λ r. ⌜ Fits (now (p .entry)) from to n (now (given .entry)) r ⌝ }
 {
-    tell_params(params);
-    let mut at: usize = 0;
+    tell_given(*given);
+    let mut at = from;
     let mut i: usize = 0;
     while i < n {
-        let Header::Whole(tag, next) = fields::header_at(types, at, types.len()) else {
-            return false;
+        let Header::Whole(tag, next) = fields::header_at(p, at, to) else {
+            return Fit::Not;
         };
-        let q = params[i];
-        let o = q.operand;
-        if !takes(tag, o) {
-            return false;
+        let j = 3 * i;
+        let kind = given[j];
+        if !takes(tag, kind) {
+            return Fit::Not;
         }
         at = next;
         i += 1;
     }
-    true
+    Fit::From(at)
 }
 
-// Whether the family whose field is at `at` takes k sizes and the parameters of a scope.
-fn fitting(program: &[u8], at: usize, k: usize, scope: Scope) -> bool
+// Whether the family whose field is at `at` takes k sizes and the first n operands gathered, and if so where its body begins.
+fn fitting(program: &[u8], at: usize, k: usize, n: usize, given: &[u16; 24]) -> Fit
     requires { ⌜ FamilyHead (now program) at ⌝ }
-    requires { ⌜ scope .count ≤ 8 ⌝ }
-    ensures { λ r. ⌜ Fitting (now (program .entry)) at k scope r ⌝ }
+    ensures { λ r. ⌜ Fitting (now (program .entry)) at k n (now (given .entry)) r ⌝ }
 {
+    tell_given(*given);
+    if k != fields::wide(program[at + 3]) {
+        return Fit::Not;
+    }
+    if n != fields::wide(program[at + 4]) {
+        return Fit::Not;
+    }
     let to = past(program, at);
     let from = at + 5;
-    let count = scope.count;
-    let params = scope.params;
-    tell_params(params);
-    if k != fields::wide(program[at + 3]) {
-        return false;
-    }
-    if count != fields::wide(program[at + 4]) {
-        return false;
-    }
-    fits(&program[from..to], count, params)
+    fits(program, from, to, n, given)
 }
 
-// The arguments of the call with this content to the family whose field is at `at`: the sizes and the scope of its body.
+// The parameter whose three numbers begin at i.
+fn parameter(given: &[u16; 24], i: usize) -> Parameter
+    requires { ⌜ i + 2 < 24 ⌝ }
+    ensures { λ r. ⌜ ofParameter r ≡ handedOf (getD (now (given .entry)) i 0) (getD (now (given .entry)) (i + 1) 0) (getD (now (given .entry)) (i + 2) 0) ⌝ }
+{
+    let second = i + 1;
+    let third = i + 2;
+    let first = Wire(given[second]);
+    if given[i] == 17 {
+        let size = given[third];
+        return Parameter {
+            operand: Operand::Register { first, size },
+        };
+    }
+    Parameter {
+        operand: Operand::Single(first),
+    }
+}
+
+// The scope of the first `count` operands gathered.
+pub fn scope_of(given: &[u16; 24], count: u8) -> Scope
+    ensures { λ r. ⌜ Scopes (now (given .entry)) count r ⌝ }
+{
+    tell_given(*given);
+    let a = parameter(given, 0);
+    let b = parameter(given, 3);
+    let c = parameter(given, 6);
+    let d = parameter(given, 9);
+    let e = parameter(given, 12);
+    let f = parameter(given, 15);
+    let g = parameter(given, 18);
+    let h = parameter(given, 21);
+    let params = [a, b, c, d, e, f, g, h];
+    Scope {
+        params,
+        count,
+        top: false,
+    }
+}
+
+// How a call's arguments come out: all are taken, so many operands, and the family's body begins there; an index is out of
+// range; or the call has no meaning.
+pub enum Taken {
+    All(u8, usize),
+    Over,
+    Stuck,
+}
+
+// The arguments from `from` to `to` of a call to the family whose field is at `at`: the sizes, and the operands gathered as
+// numbers.
 pub fn arguments(
     p: &[u8],
+    from: usize,
+    to: usize,
     program: &[u8],
     at: usize,
-    vars: &[i64],
+    vars: &[i32; 20],
+    many: usize,
     scope: Scope,
-    regs: &[u16],
-    sizes: &mut [i64; 4],
-) -> Given
-    requires { ⌜ 1 ≤ length (now p) ⌝ }
+    regs: &[u16; 765],
+    sizes: &mut [i32; 20],
+    given: &mut [u16; 24],
+) -> Taken
+    requires { ⌜ to ≤ length (now p) ⌝ }
+    requires { ⌜ many ≤ 20 ⌝ }
     requires { ⌜ FamilyHead (now program) at ⌝ }
-    ensures { λ r. ⌜ Arguments (now (p .entry)) (now (program .entry)) at (now (vars .entry)) (operandsOf scope (now (regs .entry))) (now (regs .entry)) (now (sizes .exit)) r ⌝ }
+    ensures { λ r. ⌜ Arguments (slice from to (now (p .entry))) (now (program .entry)) at (take many (now (vars .entry))) (operandsOf scope (now (regs .entry))) (now (sizes .exit)) (now (given .exit)) r ⌝ }
 {
-    let list = &p[1..];
-    let s = sizes_of(list, vars, sizes);
-    if let Sizes::Over = s {
-        return answer(Taken::Over, scope);
+    let s = sizes_of(p, from, to, vars, many, sizes);
+    if let Gathered::Over = s {
+        return Taken::Over;
     }
-    let Sizes::Are(k) = s else {
-        return answer(Taken::Stuck, scope);
+    let Gathered::Are(k) = s else {
+        return Taken::Stuck;
     };
-    let g = operands_of(list, vars, scope, regs);
-    let taken = g.taken;
-    let Taken::All = taken else {
-        return g;
-    };
-    let inner = g.scope;
-    if fitting(program, at, k, inner) {
-        return g;
+    let o = operands_of(p, from, to, vars, many, scope, regs, given);
+    if let Gathered::Over = o {
+        return Taken::Over;
     }
-    answer(Taken::Stuck, scope)
+    let Gathered::Are(n) = o else {
+        return Taken::Stuck;
+    };
+    let Fit::From(start) = fitting(program, at, k, n, given) else {
+        return Taken::Stuck;
+    };
+    let count = n as u8;
+    Taken::All(count, start)
 }

@@ -2,15 +2,16 @@
 use Prim.Native.Nat.{ℕ, _+_, _-_, _≤_, _<_}
 use mathlib.Core.Path.{_≡_}
 use mathlib.Core.List.{List}
-use mathlib.Core.Bool.{Bool, true, false, cond, _&&_}
+use mathlib.Core.Bool.{Bool, true, false, cond, not, _&&_}
 use lib.Dec.{eqb}
 use lib.IntN.{ℤ, pos, _+ℤ_, _-ℤ_}
 use lib.ListN.{length, drop}
-use Rattle.language.specs.Limits.{deepest}
+use lib.Seq.{slice}
+use Rattle.language.specs.Limits.{deepest, furthest}
 use Rattle.language.specs.Tree.{Place, Gate, gateH, gateT, gateTdg, badIndex}
 use Rattle.language.specs.Form.{inRange}
 use Rattle.language.specs.Read.{fields, due, operandDue, outerIndex}
-use Rattle.language.specs.Machine.{Run, Frame, Direction, forward, backward, write, written, wireOf, doCx, endAt, noMeaning, evaluate, _>>=_}
+use Rattle.language.specs.Machine.{Run, Frame, Direction, forward, backward, write, written, wireOf, doCx, endAt, noMeaning, evaluate, startOf, roundsOf, _>>=_}
 use Rattle.indexes.specs.declared.Value.{Value}
 use Rattle.indexes.specs.declared.Value.the-variants.{Is, Over as vOver, Stuck as vStuck}
 use Rattle.operands.specs.Stand.{operandsOf, frameOf}
@@ -22,6 +23,8 @@ use Rattle.emit.specs.declared.Answer.the-variants.{Going, Ended, Stuck as aStu
 use Rattle.gates.specs.declared.Mode.{Mode}
 use Rattle.gates.specs.declared.Bounds.{Bounds}
 use Rattle.gates.specs.declared.Bounds.the-variants.{Are, Over, Stuck}
+use Rattle.gates.specs.declared.Repeats.{Repeats}
+use Rattle.gates.specs.declared.Repeats.the-variants.{Are as Times, Over as rOver, Stuck as rStuck}
 
 unfoldable pub directionOf : Bool → Direction
 directionOf true = backward
@@ -37,14 +40,14 @@ codeOf tag back = cond (eqb tag 32) 1 (cond (eqb tag 33) (cond back 3 2) (cond b
 abbrev pub frameIn : Mode → List ℤ → Scope → List ℕ → Frame
 frameIn m values scope regs = frameOf (directionOf (m .back)) (conditionOf (m .cond)) values (operandsOf scope regs)
 
-unfoldable pub gateRun : Mode → ℕ → Place → List ℕ → Frame → Run (Unit {0})
-gateRun m tag p l f = wireOf p f (operandDue p 0 (fields (p + 3) l)) >>= (λ w. write (m .limit) (m .room) p f (written (f .direction) (gateFor tag) w))
+unfoldable pub gateRun : Mode → (room : ℕ) → ℕ → Place → List ℕ → Frame → Run (Unit {0})
+gateRun m room tag p l f = wireOf p f (operandDue p 0 (fields (p + 3) l)) >>= (λ w. write (m .limit) room p f (written (f .direction) (gateFor tag) w))
 
-unfoldable pub cxRun : Mode → Place → List ℕ → Frame → Run (Unit {0})
-cxRun m p l f =
+unfoldable pub cxRun : Mode → (room : ℕ) → Place → List ℕ → Frame → Run (Unit {0})
+cxRun m room p l f =
     wireOf p f (operandDue p 0 (fields (p + 3) l)) >>= (λ x.
     wireOf p f (operandDue p 1 (fields (p + 3) l)) >>= (λ y.
-    cond (eqb (x .number) (y .number)) (endAt 25 p) (write (m .limit) (m .room) p f (doCx x y))))
+    cond (eqb (x .number) (y .number)) (endAt 25 p) (write (m .limit) room p f (doCx x y))))
 
 -- why a loop has no bounds
 unfoldable pub boundOf : Value → Bounds
@@ -54,41 +57,68 @@ boundOf vStuck = Stuck
 
 -- a loop's bounds, and what is done with them
 unfoldable pub bounding : Place → Bounds → (ℤ → ℤ → Run (Unit {0})) → Run (Unit {0})
-bounding p (Are x y to) k = k x y
+bounding p (Are x y at) k = k x y
 bounding p Over k = endAt 24 p
 bounding p Stuck k = noMeaning
 
--- the body begins at `to`
-pub record Body (l : List ℕ) (x y : ℤ) (to : ℕ) : Type 0 where
+-- the body begins at `at`, in the content from `from` to `to`
+pub record Body (l : List ℕ) (from to : ℕ) (x y : ℤ) (at : ℕ) : Type 0 where
   pub low : inRange x ≡ true
   pub high : inRange y ≡ true
-  pub within : to ≤ length l
-  pub past : 6 ≤ to
-  pub rest : (q : Place) → drop 2 (fields q l) ≡ fields (q + to) (drop to l)
+  pub within : at ≤ to
+  pub past : from + 6 ≤ at
+  pub rest : (q : Place) → drop 2 (fields q (slice from to l)) ≡ fields (q + (at - from)) (slice at to l)
 
-unfoldable pub Bodied : List ℕ → Bounds → Type 0
-Bodied l (Are x y to) = Body l x y to
-Bodied l Over = Unit {0}
-Bodied l Stuck = Unit {0}
+unfoldable pub Bodied : List ℕ → (from to : ℕ) → Bounds → Type 0
+Bodied l from to (Are x y at) = Body l from to x y at
+Bodied l from to Over = Unit {0}
+Bodied l from to Stuck = Unit {0}
 
-pub record Bounded (l : List ℕ) (values : List ℤ) (r : Bounds) : Type 0 where
-  pub body : Bodied l r
+pub record Bounded (l : List ℕ) (from to : ℕ) (values : List ℤ) (r : Bounds) : Type 0 where
+  pub body : Bodied l from to r
   pub same : (p q t : Place) (k : ℤ → ℤ → Run (Unit {0})) → bounding p r k ≡
-      (evaluate p values (due outerIndex (badIndex 4 q) (fields t l)) >>= (λ x.
-      evaluate p values (due outerIndex (badIndex 4 q) (drop 1 (fields t l))) >>= (λ y. k x y)))
+      (evaluate p values (due outerIndex (badIndex 4 q) (fields t (slice from to l))) >>= (λ x.
+      evaluate p values (due outerIndex (badIndex 4 q) (drop 1 (fields t (slice from to l)))) >>= (λ y. k x y)))
 
--- the loop variable in the round i
-unfoldable pub turnOf : Bool → ℤ → ℤ → ℕ → ℤ
-turnOf true x y i = y -ℤ pos i
-turnOf false x y i = x +ℤ pos i
+-- the most rounds that a loop has
+abbrev pub mostRounds : ℕ
+mostRounds = furthest + furthest + 1
 
--- a level deeper, in a direction
-abbrev pub deeperOf : Mode → Bool → Mode
-deeperOf m back = record { limit = m .limit; room = m .room; seen = m .seen; levels = m .levels - 1; back = back; cond = m .cond }
+-- a for runs its body so often, from the value `start` on, and its body begins at `at`
+pub record Rounds (l : List ℕ) (from to : ℕ) (values : List ℤ) (back : Bool) (start : ℤ) (total at : ℕ) : Type 0 where
+  pub x : ℤ
+  pub y : ℤ
+  pub bounded : Bounded l from to values (Are x y at)
+  pub first : start ≡ startOf (directionOf back) x y
+  pub often : total ≡ roundsOf (y -ℤ x)
 
--- in the body of the family n
-abbrev pub enteredOf : Mode → ℕ → Mode
-enteredOf m n = record { limit = m .limit; room = m .room; seen = n; levels = deepest; back = m .back; cond = m .cond }
+-- how the body of a for runs
+unfoldable pub Looped : List ℕ → (from to : ℕ) → List ℤ → Bool → Repeats → Type 0
+Looped l from to values back (Times start total at) = Rounds l from to values back start total at
+Looped l from to values back rOver = Bounded l from to values Over
+Looped l from to values back rStuck = Bounded l from to values Stuck
+
+-- how the body of a reverse or a for runs: of a reverse once
+pub record Repeated (l : List ℕ) (from to tag : ℕ) (values : List ℤ) (back : Bool) (r : Repeats) : Type 0 where
+  pub once : tag ≡ 37 → r ≡ Times (pos 0) 1 from
+  pub looped : (tag ≡ 37 → ⊥) → Looped l from to values back r
+
+-- the loop variable in the round i, of a loop whose first value is `start`
+unfoldable pub turnOf : Bool → ℤ → ℕ → ℤ
+turnOf true start i = start -ℤ pos i
+turnOf false start i = start +ℤ pos i
+
+-- a level deeper, with so many values in scope, in a direction
+abbrev pub deeperOf : Mode → (many : ℕ) → Bool → Mode
+deeperOf m many back = record { limit = m .limit; seen = m .seen; levels = m .levels - 1; many = many; back = back; cond = m .cond }
+
+-- in the body of the reverse or the for with this tag
+abbrev pub innerOf : Mode → (tag : ℕ) → Mode
+innerOf m tag = cond (eqb tag 37) (deeperOf m (m .many) (not (m .back))) (deeperOf m (m .many + 1) (m .back))
+
+-- in the body of the family n, which has so many values
+abbrev pub enteredOf : Mode → (n many : ℕ) → Mode
+enteredOf m n many = record { limit = m .limit; seen = n; levels = deepest; many = many; back = m .back; cond = m .cond }
 
 -- a call that names no family
 unfoldable pub namelessOf : ℕ → ℕ → Bool
@@ -120,5 +150,5 @@ Entered m tag size base st (Going s) = Steps m tag size st s
 Entered m tag size base st (Ended n p s) = Full m tag size base st n p s
 Entered m tag size base st aStuck = Enterable m tag size → ⊥
 
-unfoldable pub actRun : Mode → ℕ → Place → List ℕ → Frame → Run (Unit {0})
-actRun m tag p l f = cond (eqb tag 35) (cxRun m p l f) (gateRun m tag p l f)
+unfoldable pub actRun : Mode → (room : ℕ) → ℕ → Place → List ℕ → Frame → Run (Unit {0})
+actRun m room tag p l f = cond (eqb tag 35) (cxRun m room p l f) (gateRun m room tag p l f)

@@ -3,11 +3,12 @@ ghost use mathlib.Core.Path.{_≡_};
 ghost use mathlib.Core.Bool.{true, false};
 ghost use Prim.Native.Nat.{ℕ, _+_, _-_, _<_, _≤_};
 ghost use lib.ListN.{length, take};
+ghost use lib.Seq.{slice};
 ghost use lib.IntN.{ℤ, _-ℤ_};
-ghost use Rattle.language.specs.Machine.{roundsOf};
+ghost use Rattle.language.specs.Machine.{roundsOf, startOf};
 ghost use Rattle.language.specs.Form.{inRange};
 ghost use Rattle.emit.specs.Squares.{Does};
-ghost use Rattle.gates.specs.Gates.{codeOf, frameIn, gateRun, cxRun, boundOf, Bounded, turnOf, namelessOf, Entered, actRun, deeperOf, enteredOf};
+ghost use Rattle.gates.specs.Gates.{codeOf, frameIn, directionOf, boundOf, Bounded, mostRounds, Repeated, turnOf, namelessOf, Entered, actRun, deeperOf, innerOf, enteredOf};
 use emit::Answer;
 use emit::Condition;
 use emit::State;
@@ -16,13 +17,13 @@ use indexes::Value;
 use operands::Scope;
 use operands::Wired;
 
-// What stays: the limit of steps, the output's length, how many families may be called, the levels left, the direction and
-// the condition.
+// What stays: the limit of steps, how many families may be called, the levels left, how many values are in scope, the
+// direction and the condition.
 pub struct Mode {
     pub limit: u64,
-    pub room: usize,
     pub seen: u16,
     pub levels: u8,
+    pub many: u8,
     pub back: bool,
     pub cond: Condition,
 }
@@ -46,62 +47,47 @@ fn code(tag: u8, back: bool) -> u8
     3
 }
 
-// Writes the gate with this tag and content, whose step is taken.
-fn gate(
+// Writes the gate or the cx with this tag, whose content is from `from` to `to` and whose step is taken.
+pub fn act(
     p: &[u8],
+    from: usize,
+    to: usize,
     tag: u8,
-    base: usize,
-    vars: &[i64],
+    place: usize,
+    vars: &[i32; 20],
     scope: Scope,
-    regs: &[u16],
+    regs: &[u16; 765],
     m: Mode,
     st: State,
     out: &mut [u8],
 ) -> Answer
-    requires { ⌜ m .room ≡ length (now out) ⌝ }
-    ensures { λ r. ⌜ Does (now (out .entry)) st (now (out .exit)) r (gateRun m tag base (now (p .entry)) (frameIn m (now (vars .entry)) scope (now (regs .entry)))) ⌝ }
+    requires { ⌜ to ≤ length (now p) ⌝ }
+    requires { ⌜ (m .many ≤ 20) × (place ≤ 65535) ⌝ }
+    ensures { λ r. ⌜ Does (now (out .entry)) st (now (out .exit)) r (actRun m (length (now (out .entry))) tag place (slice from to (now (p .entry))) (frameIn m (take (m .many) (now (vars .entry))) scope (now (regs .entry)))) ⌝ }
 {
-    match operands::wire_at(p, 0, vars, scope, regs) {
-        Wired::Is(w) => {
-            let c = m.cond;
-            emit::write_record(out, st, base, code(tag, m.back), w.0, 0, c)
-        }
-        Wired::Over => Answer::Ended(24, base, st),
+    let many = fields::wide(m.many);
+    let c = m.cond;
+    match operands::wire_at(p, from, to, vars, many, scope, regs) {
+        Wired::Over => Answer::Ended(24, place as u16, st),
         Wired::Stuck => Answer::Stuck,
-    }
-}
-
-// Writes the cx with this content, whose step is taken.
-fn cx(
-    p: &[u8],
-    base: usize,
-    vars: &[i64],
-    scope: Scope,
-    regs: &[u16],
-    m: Mode,
-    st: State,
-    out: &mut [u8],
-) -> Answer
-    requires { ⌜ m .room ≡ length (now out) ⌝ }
-    ensures { λ r. ⌜ Does (now (out .entry)) st (now (out .exit)) r (cxRun m base (now (p .entry)) (frameIn m (now (vars .entry)) scope (now (regs .entry)))) ⌝ }
-{
-    let Header::Whole(_, mid) = fields::header_at(p, 0, p.len()) else {
-        return Answer::Stuck;
-    };
-    match operands::wire_at(p, 0, vars, scope, regs) {
-        Wired::Is(x) => match operands::wire_at(p, mid, vars, scope, regs) {
-            Wired::Is(y) => {
-                if x.0 == y.0 {
-                    return Answer::Ended(25, base, st);
-                }
-                let c = m.cond;
-                emit::write_record(out, st, base, 4, x.0, y.0, c)
+        Wired::Is(x) => {
+            if tag != 35 {
+                return emit::write_record(out, st, place, code(tag, m.back), x.0, 0, c);
             }
-            Wired::Over => Answer::Ended(24, base, st),
-            Wired::Stuck => Answer::Stuck,
-        },
-        Wired::Over => Answer::Ended(24, base, st),
-        Wired::Stuck => Answer::Stuck,
+            let Header::Whole(_, mid) = fields::header_at(p, from, to) else {
+                return Answer::Stuck;
+            };
+            match operands::wire_at(p, mid, to, vars, many, scope, regs) {
+                Wired::Over => Answer::Ended(24, place as u16, st),
+                Wired::Stuck => Answer::Stuck,
+                Wired::Is(y) => {
+                    if x.0 == y.0 {
+                        return Answer::Ended(25, place as u16, st);
+                    }
+                    emit::write_record(out, st, place, 4, x.0, y.0, c)
+                }
+            }
+        }
     }
 }
 
@@ -122,30 +108,33 @@ fn bound(v: Value) -> Bounds
     }
 }
 
-pub fn bounds_of(p: &[u8], vars: &[i64]) -> Bounds
-    ensures { λ r. ⌜ Bounded (now (p .entry)) (now (vars .entry)) r ⌝ }
+// The bounds of the for whose content is from `from` to `to`.
+fn bounds_of(p: &[u8], from: usize, to: usize, vars: &[i32; 20], many: usize) -> Bounds
+    requires { ⌜ to ≤ length (now p) ⌝ }
+    requires { ⌜ many ≤ 20 ⌝ }
+    ensures { λ r. ⌜ Bounded (now (p .entry)) from to (take many (now (vars .entry))) r ⌝ }
 {
-    let low = indexes::index_at(p, 0, vars);
+    let low = indexes::index_at(p, from, to, vars, many);
     let Value::Is(x) = low else {
         return bound(low);
     };
-    let Header::Whole(_, mid) = fields::header_at(p, 0, p.len()) else {
+    let Header::Whole(_, mid) = fields::header_at(p, from, to) else {
         return Bounds::Stuck;
     };
-    let high = indexes::index_at(p, mid, vars);
+    let high = indexes::index_at(p, mid, to, vars, many);
     let Value::Is(y) = high else {
         return bound(high);
     };
-    let Header::Whole(_, to) = fields::header_at(p, mid, p.len()) else {
+    let Header::Whole(_, body) = fields::header_at(p, mid, to) else {
         return Bounds::Stuck;
     };
-    Bounds::Are(x, y, to)
+    Bounds::Are(x, y, body)
 }
 
 // The number of a loop's rounds.
-pub fn tally(x: i64, y: i64) -> usize
+fn tally(x: i64, y: i64) -> usize
     requires { ⌜ (inRange x ≡ true) × (inRange y ≡ true) ⌝ }
-    ensures { λ r. ⌜ (r ≡ roundsOf (y -ℤ x)) × (r ≤ 4000000001) ⌝ }
+    ensures { λ r. ⌜ (r ≡ roundsOf (y -ℤ x)) × (r ≤ mostRounds) ⌝ }
 {
     if y < x {
         return 0;
@@ -154,35 +143,63 @@ pub fn tally(x: i64, y: i64) -> usize
     (d as usize) + 1
 }
 
-// The loop variable in the round i.
-pub fn turn(back: bool, x: i64, y: i64, i: usize) -> i64
-    requires { ⌜ (inRange x ≡ true) × (inRange y ≡ true) × (i ≤ 4000000001) ⌝ }
-    ensures { λ r. ⌜ r ≡ turnOf back x y i ⌝ }
+// The value of the first round: rising from the low bound, or falling from the high one.
+fn first_value(back: bool, x: i64, y: i64) -> i64
+    ensures { λ r. ⌜ r ≡ startOf (directionOf back) x y ⌝ }
+{
+    if back {
+        return y;
+    }
+    x
+}
+
+// How a body runs: from which value on, how often, and where it begins.
+pub enum Repeats {
+    Are(i64, usize, usize),
+    Over,
+    Stuck,
+}
+
+// How the body of the reverse or the for runs whose content is from `from` to `to`: of a reverse once.
+pub fn repeats_of(
+    p: &[u8],
+    from: usize,
+    to: usize,
+    tag: u8,
+    vars: &[i32; 20],
+    many: usize,
+    back: bool,
+) -> Repeats
+    requires { ⌜ to ≤ length (now p) ⌝ }
+    requires { ⌜ many ≤ 20 ⌝ }
+    ensures { λ r. ⌜ Repeated (now (p .entry)) from to tag (take many (now (vars .entry))) back r ⌝ }
+{
+    if tag == 37 {
+        return Repeats::Are(0, 1, from);
+    }
+    match bounds_of(p, from, to, vars, many) {
+        Bounds::Over => Repeats::Over,
+        Bounds::Stuck => Repeats::Stuck,
+        Bounds::Are(x, y, at) => {
+            let start = first_value(back, x, y);
+            let total = tally(x, y);
+            Repeats::Are(start, total, at)
+        }
+    }
+}
+
+// The loop variable in the round i, of a loop whose first value is `start`.
+pub fn turn(back: bool, start: i64, i: usize) -> i32
+    requires { ⌜ (inRange start ≡ true) × (inRange (turnOf back start i) ≡ true) ⌝ }
+    ensures { λ r. ⌜ r ≡ turnOf back start i ⌝ }
 {
     let k = i as i64;
     if back {
-        return y - k;
+        let z = start - k;
+        return z as i32;
     }
-    x + k
-}
-
-// An array tells how long it is.
-fn tell(all: [i64; 20])
-    ensures { λ _. ⌜ length all ≡ 20 ⌝ }
-{}
-
-// Copies the values into an array.
-pub fn copied(vars: &[i64], all: &mut [i64; 20])
-    requires { ⌜ length (now vars) ≤ 20 ⌝ }
-    ensures { λ _. ⌜ (take (length (now (vars .entry))) (now (all .exit)) ≡ now (vars .entry)) × (length (now (all .exit)) ≡ 20) ⌝ }
-{
-    tell(*all);
-    let n = vars.len();
-    let mut i: usize = 0;
-    while i < n {
-        all[i] = vars[i];
-        i += 1;
-    }
+    let z = start + k;
+    z as i32
 }
 
 // Whether it is a call that names no family.
@@ -193,8 +210,9 @@ fn nameless(tag: u8, size: usize) -> bool
 }
 
 // Enters the statement with this tag and so many bytes of content: takes its step, unless it has no meaning or none is left.
-pub fn step(tag: u8, size: usize, base: usize, m: Mode, st: State) -> Answer
-    ensures { λ r. ⌜ Entered m tag size base st r ⌝ }
+pub fn step(tag: u8, size: usize, place: usize, m: Mode, st: State) -> Answer
+    requires { ⌜ place ≤ 65535 ⌝ }
+    ensures { λ r. ⌜ Entered m tag size place st r ⌝ }
 {
     if m.levels == 0 {
         return Answer::Stuck;
@@ -210,7 +228,7 @@ pub fn step(tag: u8, size: usize, base: usize, m: Mode, st: State) -> Answer
     }
     let steps = st.steps;
     if m.limit <= steps {
-        return Answer::Ended(26, base, st);
+        return Answer::Ended(26, place as u16, st);
     }
     let taken = steps + 1;
     Answer::Going(State {
@@ -219,55 +237,47 @@ pub fn step(tag: u8, size: usize, base: usize, m: Mode, st: State) -> Answer
     })
 }
 
-// Writes the gate or the cx with this tag and content, whose step is taken.
-pub fn act(
-    p: &[u8],
-    tag: u8,
-    base: usize,
-    vars: &[i64],
-    scope: Scope,
-    regs: &[u16],
-    m: Mode,
-    st: State,
-    out: &mut [u8],
-) -> Answer
-    requires { ⌜ m .room ≡ length (now out) ⌝ }
-    ensures { λ r. ⌜ Does (now (out .entry)) st (now (out .exit)) r (actRun m tag base (now (p .entry)) (frameIn m (now (vars .entry)) scope (now (regs .entry)))) ⌝ }
-{
-    if tag == 35 {
-        return cx(p, base, vars, scope, regs, m, st, out);
-    }
-    gate(p, tag, base, vars, scope, regs, m, st, out)
-}
-
-// A level deeper, in a direction.
-pub fn deeper(m: Mode, back: bool) -> Mode
+// A level deeper, with so many values in scope, in a direction.
+fn deeper(m: Mode, many: u8, back: bool) -> Mode
     requires { ⌜ 0 < m .levels ⌝ }
-    ensures { λ r. ⌜ r ≡ deeperOf m back ⌝ }
+    ensures { λ r. ⌜ r ≡ deeperOf m many back ⌝ }
 {
     let levels = m.levels;
     let cond = m.cond;
     let below = levels - 1;
     Mode {
         limit: m.limit,
-        room: m.room,
         seen: m.seen,
         levels: below,
+        many,
         back,
         cond,
     }
 }
 
-// What stays in the body of family n.
-pub fn entered(m: Mode, n: u16) -> Mode
-    ensures { λ r. ⌜ r ≡ enteredOf m n ⌝ }
+// What stays in the body of the reverse or the for with this tag.
+pub fn inner(m: Mode, tag: u8) -> Mode
+    requires { ⌜ (0 < m .levels) × (m .many ≤ 19) ⌝ }
+    ensures { λ r. ⌜ r ≡ innerOf m tag ⌝ }
+{
+    let many = m.many;
+    if tag == 37 {
+        return deeper(m, many, !m.back);
+    }
+    let more = many + 1;
+    deeper(m, more, m.back)
+}
+
+// What stays in the body of family n, which has so many values.
+pub fn entered(m: Mode, n: u16, many: u8) -> Mode
+    ensures { λ r. ⌜ r ≡ enteredOf m n many ⌝ }
 {
     let kept = m.cond;
     Mode {
         limit: m.limit,
-        room: m.room,
         seen: n,
         levels: 16,
+        many,
         back: m.back,
         cond: kept,
     }

@@ -1,107 +1,320 @@
--- Searching a list for its last field. Assumes nothing.
+-- Positions in a list, and the search for its last field. Assumes nothing.
 use mathlib.Core.Path.{_≡_, refl, sym, ap, _∙_, subst}
-use mathlib.Core.List.{List, [], _∷_}
-use mathlib.Core.Bool.{Bool, true, false, cond}
+use mathlib.Core.List.{List, [], _∷_, _++_}
+use mathlib.Core.Bool.{Bool, true, false}
 use Prim.Native.Nat.{ℕ, zero, suc, _+_, _-_, _≤_, _<_}
 use native.Mathlib.Omega.{arith}
+use native.Mathlib.Nat.{zero-add}
 use types.Run.{OneOf}
 use denote.Enum.Declared.{tagOf}
-use borrow.Author.Tests.{eq-eqb, ne-eqb}
-use lib.Dec.{eqb}
-use lib.ListN.{length, getD, set}
-use lib.Seq.{getD-set-same, getD-set-other}
-use native.Mathlib.Decide.{decLt}
-use Rattle.language.specs.Read.{fields}
+use lib.Dec.{leb}
+use borrow.Author.Tests.{leb-true, le-leb}
+use lib.ListN.{length, getD, set, take, drop, length-take, length-drop, length-append, take-append-drop}
+use lib.Seq.{slice, take-length, take-take, drop-drop, take-all, slice-empty, length-slice, getD-set-same, getD-set-other}
+use Rattle.language.specs.Read.{Field, field, badHeader, fields, fieldsAfter, twoBytes}
+use Rattle.language.proofs.ReadLaws.{fields-next}
+use Rattle.language.proofs.Integers.{clash}
+use Rattle.language.proofs.Runs.{Skips}
+use Rattle.language.proofs.Runs as R
 use Rattle.fields.specs.declared.Header.{Header}
 use Rattle.fields.specs.declared.Header.the-variants.{Whole, End, Cut}
-use Rattle.fields.specs.Count.{counted, span, Longer, Starts}
-use Rattle.fields.proofs.Header.{the-type}
-use Rattle.fields.proofs.Parts.{look, not-first}
-use Rattle.fields.proofs.Counting.{step-from, skips, skips-within}
-use Rattle.lists.specs.declared.Split.{Split}
-use Rattle.lists.specs.declared.Split.the-variants.{Last, Middle}
 use Rattle.fields.specs.declared.Counted.{Counted}
 use Rattle.fields.specs.declared.Counted.the-variants.{Many, Broken}
-use Rattle.lists.specs.Walks.{Reaches, Kept, topOf, Splits}
+use Rattle.fields.specs.Header.{fieldsAt, headerOf}
+use Rattle.fields.specs.Count.{more, counted, span}
+use Rattle.fields.proofs.Header.{the-type}
+use Rattle.fields.proofs.Parts as P
+use Rattle.fields.proofs.Parts.{look, Part, when-part, when-bad, part-is, not-first, stands}
+use Rattle.fields.proofs.Counting.{plus, plus-none, skips, span-all, skips-shorter}
+use Rattle.fields.proofs.Reading.{slice-none}
+use Rattle.lists.specs.declared.Begun.the-variants as B
+use Rattle.lists.specs.Walks.{mostKept, isBroken, brokenIn, Unbroken, Begins, Ends, Kept, Linked, Lasts, Walking, Starting, wholeOf}
 
-pub top-none : (cuts : List ℕ) (d : ℕ) → d ≡ 0 → topOf cuts d ≡ 0
-unfolding topOf
-top-none cuts d h = simp (eq-eqb d 0 h)
+-- ---- whole fields at the beginning of a list
 
-pub top-some : (cuts : List ℕ) (d : ℕ) → (d ≡ 0 → ⊥) → topOf cuts d ≡ getD cuts (d - 1) 0
-unfolding topOf
-top-some cuts d h = simp (ne-eqb d 0 h)
+-- the first n bytes are whole fields
+pub record Passes (l : List ℕ) (n : ℕ) : Type 0 where
+  pub many : ℕ
+  pub skips : Skips many l n
 
-pub top-pushed : (cuts : List ℕ) (d c : ℕ) → d < length cuts → topOf (set cuts d c) (d + 1) ≡ c
-top-pushed cuts d c h = let e : d + 1 - 1 ≡ d = omega arith in top-some (set cuts d c) (d + 1) (λ z. omega arith) ∙ rw e (getD-set-same cuts d c 0 h)
+drop-append : (n : ℕ) (x y : List ℕ) → n ≤ length x → drop n (x ++ y) ≡ drop n x ++ y
+drop-append zero x y h = refl
+drop-append (suc n) [] y h = absurd (omega arith)
+drop-append (suc n) (a ∷ x) y h = drop-append n x y (omega arith)
 
--- the last position is where a field begins
-pub top-starts : (l cuts : List ℕ) (d : ℕ) → Starts l 0 → Kept l cuts d → Starts l (topOf cuts d)
-top-starts l cuts zero z k = rw (top-none cuts zero refl) z
-top-starts l cuts (suc d) z k = let e : suc d - 1 ≡ d = omega arith in rw (top-some cuts (suc d) (λ q. omega arith), e) (k d (omega arith))
+skips-more : {k n : ℕ} {x : List ℕ} (y : List ℕ) → Skips k x n → Skips k (x ++ y) n
+skips-more y R.none = R.none
+skips-more y (R.next {k = k} {n = n} {low = low} {high = high} {bytes = bytes} fits s) =
+    let size = twoBytes low high in
+    let h = leb-true size (length bytes) fits in
+    R.next (le-leb size (length (bytes ++ y)) (omega (arith, length-append bytes y))) (subst (λ (z : List ℕ). Skips k z n) (sym (drop-append size bytes y h)) (skips-more y s))
 
-pub kept-more : (l cuts : List ℕ) (d c : ℕ) → d < length cuts → Starts l c → Kept l cuts d → Kept l (set cuts d c) (d + 1)
-kept-more l cuts d c h s k j i = go (decLt j d)
+more-plus : (k : ℕ) (c : Counted) → more (plus k c) ≡ plus (suc k) c
+unfolding plus more
+more-plus k (Many n) = ap Many {x = suc (k + n)} {y = suc k + n} (omega arith)
+more-plus k Broken = refl
+
+counted-split : {k n : ℕ} {l : List ℕ} (q : ℕ) → Skips k l n → counted (fields q l) ≡ plus k (counted (fields (q + n) (drop n l)))
+unfolding counted
+counted-split {l = l} q R.none = let e : q + 0 ≡ q = omega arith in rw e (sym (plus-none (counted (fields q l))))
+counted-split q (R.next {k = k} {n = n} {tag = tag} {low = low} {high = high} {bytes = bytes} fits s) =
+    let size = twoBytes low high in
+    let e : q + 3 + size + n ≡ q + suc (suc (suc (size + n))) = omega arith in
+    ap counted (fields-next q tag low high bytes fits)
+    ∙ ap more (counted-split (q + 3 + size) s)
+    ∙ more-plus k _
+    ∙ rw (drop-drop n size bytes, e)
+
+same-broken : (k : ℕ) (c : Counted) → isBroken (plus k c) ≡ isBroken c
+unfolding plus isBroken
+same-broken k (Many n) = refl
+same-broken k Broken = refl
+
+-- what follows whole fields decides whether a header is bad
+pub broken-rest : (l : List ℕ) (n : ℕ) → Passes l n → isBroken (counted (fields 0 l)) ≡ isBroken (counted (fields (0 + n) (drop n l)))
+broken-rest l n s = ap isBroken (counted-split 0 (s .skips)) ∙ same-broken (s .many) _
+
+pub passes : (l : List ℕ) (n : ℕ) → n ≤ length l → Unbroken (take n l) → Passes l n
+unfolding isBroken
+passes l n h u = go (counted (fields 0 (take n l))) refl u
   where
-    go : Dec (j < d) → Starts l (getD (set cuts d c) j 0)
-    go (yes b) = rw (getD-set-other cuts d j c 0 (λ e. omega arith)) (k j b)
-    go (no n) = let e : j ≡ d = omega arith in rw (e, getD-set-same cuts d c 0 h) s
+    go : (c : Counted) → counted (fields 0 (take n l)) ≡ c → isBroken c ≡ false → Passes l n
+    go (Many k) e u =
+        let z : span k (fields 0 (take n l)) ≡ n = span-all k (take n l) e ∙ length-take n l ∙ omega arith in
+        let s : Skips k (take n l) n = subst (λ (i : ℕ). Skips k (take n l) i) z (skips k 0 (take n l) (rw e (omega arith))) in
+        record { many = k; skips = subst (λ (x : List ℕ). Skips k x n) (take-append-drop n l) (skips-more (drop n l) s) }
+    go Broken e u = absurd (clash u)
 
-pub kept-less : (l cuts : List ℕ) (d e : ℕ) → e ≤ d → Kept l cuts d → Kept l cuts e
-kept-less l cuts d e h k j i = k j (omega arith)
+-- ---- a field in a list
 
--- ---- one field on the way
+-- a whole field of this tag from `at` to `next`, in the bytes that end at `to`
+pub record In (p : List ℕ) (at to tag next : ℕ) : Type 0 where
+  pub first : (t : ℕ) → fields t (slice at to p) ≡ (field t tag (take (next - (at + 3)) (drop (at + 3) p)) ∷ fields (t + (next - at)) (slice next to p))
+  pub alone : (t : ℕ) → fields t (slice at next p) ≡ (field t tag (take (next - (at + 3)) (drop (at + 3) p)) ∷ [])
+  pub low : at + 3 ≤ next
+  pub high : next ≤ to
 
-module _ (l : List ℕ) (at to : ℕ) (a : Starts l at) (b : Starts l to) (h : at < to) where
-  pub never-stops : OneOf (1 ∷ 2 ∷ []) (tagOf the-type (look l at)) → ⊥
-  never-stops k = not-first (rw (step-from l at to a b h .is) at k)
+header-in : (p : List ℕ) (at to : ℕ) → look (take to p) at ≡ headerOf at (fieldsAt p at to)
+unfolding fieldsAt
+header-in p at to = ap (λ (x : List ℕ). headerOf at (fields at (drop at x))) (take-length (take to p))
 
-  module _ (tag next : ℕ) (e : look l at ≡ Whole tag next) where
-    whole-is : step-from l at to a b h .next ≡ next
-    whole-is = let s = step-from l at to a b h .is in cc
+pub when-in : (p : List ℕ) (at to tag next : ℕ) → headerOf at (fieldsAt p at to) ≡ Whole tag next → In p at to tag next
+when-in p at to tag next e =
+    let w = when-part (take to p) at tag next (header-in p at to ∙ e) in
+    let h : next ≤ to = omega (arith, w .high, length-take to p) in
+    let c : take (next - (at + 3)) (drop (at + 3) (take to p)) ≡ take (next - (at + 3)) (drop (at + 3) p) =
+    sym (part-is (take to p) (at + 3) next (w .low)) ∙ ap (drop (at + 3)) (take-take next to p h) ∙ part-is p (at + 3) next (w .low) in
+    record {
+      first = λ t. w .first t ∙ ap (λ (x : List ℕ). field t tag x ∷ fields (t + (next - at)) (slice next to p)) c;
+      alone = λ t. ap (λ (x : List ℕ). fields t (drop at x)) (sym (take-take next to p h)) ∙ w .alone t ∙ ap (λ (x : List ℕ). field t tag x ∷ []) c;
+      low = w .low;
+      high = h;
+    }
 
-    past-is : next ≡ span (suc (step-from l at to a b h .index)) (fields 0 l)
-    past-is = sym whole-is ∙ step-from l at to a b h .past
-
-    pub next-starts : Starts l next
-    next-starts = let s = step-from l at to a b h in record { index = suc (s .index); below = s .below; there = past-is }
-
-    pub next-upto : next ≤ to
-    next-upto = omega (arith, whole-is, step-from l at to a b h .upto)
-
-    pub reaches : next ≡ to → Reaches l at to
-    reaches f = let s = step-from l at to a b h in record { index = s .index; below = s .below; begins = s .from; ends = sym f ∙ past-is }
-
--- ---- from a beginning to the list's
-
-least : (i j : ℕ) (c : Counted) → i ≤ j → Longer j c → Longer i c
-least i j (Many n) h k = omega arith
-least i j Broken h k = k
-
-pub starts-zero : (l : List ℕ) (n : ℕ) → Starts l n → Starts l 0
-unfolding span
-starts-zero l n s = record { index = 0; below = least 0 (s .index) (counted (fields 0 l)) (omega arith) (s .below); there = refl }
-
-pub starts-within : (l : List ℕ) (n : ℕ) → Starts l n → n ≤ length l
-starts-within l n s = omega (arith, s .there, skips-within (skips (s .index) 0 l (s .below)))
-
--- a place for one position more
-pub room : (depth half to c : ℕ) → (16 ≤ depth → half ≡ to) → half ≤ c → c < to → depth < 16
-room depth half to c f h k = go (decLt depth 16)
+pub cut-in : (p : List ℕ) (at to : ℕ) → at < to → to ≤ length p → OneOf (1 ∷ 2 ∷ []) (tagOf the-type (headerOf at (fieldsAt p at to))) → (t : ℕ) → fields t (slice at to p) ≡ (badHeader t ∷ [])
+cut-in p at to h w k = go (look (take to p) at) (rw (sym (header-in p at to)) at k) (stands (take to p) at)
   where
-    go : Dec (depth < 16) → depth < 16
-    go (yes d) = d
-    go (no d) = absurd (omega (arith, f (omega arith)))
+    go : (x : Header) → OneOf (1 ∷ 2 ∷ []) (tagOf the-type x) → P.Stands (take to p) at x → (t : ℕ) → fields t (slice at to p) ≡ (badHeader t ∷ [])
+    go x k (P.ends g i) = absurd (omega (arith, length-take to p))
+    go x k (P.cuts g) = g
+    go x k (P.goes w) = absurd (not-first k)
 
-pub found : (l : List ℕ) (s to half : ℕ) (r : Split) (here : ℕ) → Splits l s to half r → r ≡ Last here → (Reaches l here to) × (here < to)
-unfolding Splits
-found l s to half r here w e = rw e at w
+-- ---- positions
 
-pub halved : (l : List ℕ) (s to half : ℕ) (r : Split) (c : ℕ) → Splits l s to half r → r ≡ Middle c → Starts l c × (s < c) × (c < to) × (half ≤ c)
-unfolding Splits
-halved l s to half r c w e = rw e at w
+pub slice-part : (p : List ℕ) (from at to : ℕ) → from ≤ at → at ≤ to → slice from at p ≡ take (at - from) (slice from to p)
+slice-part p from at to h k =
+    part-is p from at h ∙ sym (ap (take (at - from)) (part-is p from to (omega arith)) ∙ take-take (at - from) (to - from) (drop from p) (omega arith))
 
--- some position is left where the last one is not 0
-pub positive : (cuts : List ℕ) (d to : ℕ) → 0 < to → to ≤ topOf cuts d → 1 ≤ d
-positive cuts zero to h k = absurd (omega (arith, top-none cuts zero refl))
-positive cuts (suc d) to h k = omega arith
+pub slice-rest : (p : List ℕ) (from at to : ℕ) → from ≤ at → drop (at - from) (slice from to p) ≡ slice at to p
+slice-rest p from at to h = let e : from + (at - from) ≡ at = omega arith in drop-drop (at - from) from (take to p) ∙ ap (λ (n : ℕ). drop n (take to p)) e
+
+pub begins-passes : (p : List ℕ) (from at to : ℕ) → Begins p from at → at ≤ to → to ≤ length p → Passes (slice from to p) (at - from)
+begins-passes p from at to b h w = passes (slice from to p) (at - from) (omega (arith, length-slice from to p w)) (rw (sym (slice-part p from at to (b .0) h)) (b .1))
+
+-- whether a header is bad is said by what follows a position
+broken-past : (p : List ℕ) (from at to : ℕ) → Begins p from at → at ≤ to → to ≤ length p
+    → isBroken (counted (fields 0 (slice from to p))) ≡ isBroken (counted (fields (0 + (at - from)) (slice at to p)))
+broken-past p from at to b h w =
+    broken-rest (slice from to p) (at - from) (begins-passes p from at to b h w) ∙ ap (λ (x : List ℕ). isBroken (counted (fields (0 + (at - from)) x))) (slice-rest p from at to (b .0))
+
+pub begins-self : (p : List ℕ) (from : ℕ) → Begins p from from
+unfolding isBroken counted fieldsAfter
+begins-self p from = (omega arith, rw (slice-empty from p))
+
+pub begins-next : (p : List ℕ) (from at to tag next : ℕ) → Begins p from at → In p at to tag next → to ≤ length p → Begins p from next
+unfolding isBroken counted more
+begins-next p from at to tag next b i w = (
+  omega (arith, b .0, i .low),
+  broken-past p from at next b (omega (arith, i .low)) (omega (arith, i .high)) ∙ ap (λ (fs : List Field). isBroken (counted fs)) (i .alone (0 + (at - from))),
+)
+
+pub stops-broken : (p : List ℕ) (from at to : ℕ) → Begins p from at → at < to → to ≤ length p → OneOf (1 ∷ 2 ∷ []) (tagOf the-type (headerOf at (fieldsAt p at to)))
+    → isBroken (counted (fields 0 (slice from to p))) ≡ true
+unfolding isBroken counted
+stops-broken p from at to b h w k = broken-past p from at to b (omega arith) w ∙ ap (λ (fs : List Field). isBroken (counted fs)) (cut-in p at to h w k (0 + (at - from)))
+
+-- ---- kept positions
+
+module _ (p : List ℕ) (from : ℕ) where
+  pub kept-set : (cuts : List ℕ) (d i c to : ℕ) → d ≤ i → Kept p from cuts d to → Kept p from (set cuts i c) d to
+  unfolding Kept
+  kept-set cuts zero i c to h k = k
+  kept-set cuts (suc d) i c to h k = rw (getD-set-other cuts i d c 0 (λ e. omega arith)) (k .0, k .1, kept-set cuts d i c (getD cuts d 0) (omega arith) (k .2))
+
+  pub kept-up : (cuts : List ℕ) (d to more : ℕ) → 1 ≤ d → to ≤ more → Kept p from cuts d to → Kept p from cuts d more
+  unfolding Kept
+  kept-up cuts zero to more s h k = absurd (omega arith)
+  kept-up cuts (suc d) to more s h k = (omega (arith, k .0), k .1, k .2)
+
+  -- one more
+  pub kept-push : (cuts : List ℕ) (d c to : ℕ) → d < length cuts → Begins p from c → c < to → Kept p from cuts d c → Kept p from (set cuts d c) (d + 1) to
+  unfolding Kept
+  kept-push cuts d c to l b h k = let e : d + 1 ≡ suc d = omega arith in rw (e, getD-set-same cuts d c 0 l) (h, b, kept-set cuts d d c c (omega arith) k)
+
+  -- the last one in place of another
+  pub kept-swap : (cuts : List ℕ) (d c to : ℕ) → 1 < d → d ≤ length cuts → Begins p from c → c < to → Kept p from cuts d (suc c) → Kept p from (set cuts (d - 1) c) d to
+  unfolding Kept
+  kept-swap cuts zero c to n l b h k = absurd (omega arith)
+  kept-swap cuts (suc d) c to n l b h k =
+      let e : suc d - 1 ≡ d = omega arith in
+      rw (e, getD-set-same cuts d c 0 (omega arith)) (h, b, kept-set cuts d d c c (omega arith) (kept-up cuts d (getD cuts d 0) c (omega arith) (omega (arith, k .0)) (k .2)))
+
+  pub kept-below : (cuts : List ℕ) (d c : ℕ) → 1 ≤ d → (getD cuts (d - 1) 0 ≡ c → ⊥) → Kept p from cuts d (suc c) → Kept p from cuts d c
+  unfolding Kept
+  kept-below cuts zero c s n k = absurd (omega arith)
+  kept-below cuts (suc d) c s n k = let e : suc d - 1 ≡ d = omega arith in let m : getD cuts d 0 ≡ c → ⊥ = rw e at n in (omega (arith, k .0, m), k .1, k .2)
+
+  pub kept-some : (cuts : List ℕ) (d to : ℕ) → from < to → Kept p from cuts d to → 1 ≤ d
+  unfolding Kept
+  kept-some cuts zero to h k = absurd (omega arith)
+  kept-some cuts (suc d) to h k = omega arith
+
+  -- the last one
+  pub record Top (cuts : List ℕ) (d to : ℕ) : Type 0 where
+    pub below : getD cuts (d - 1) 0 < to
+    pub begins : Begins p from (getD cuts (d - 1) 0)
+    pub kept : Kept p from cuts (d - 1) (getD cuts (d - 1) 0)
+    pub again : Kept p from cuts d (suc (getD cuts (d - 1) 0))
+
+  pub top-is : (cuts : List ℕ) (d to : ℕ) → 1 ≤ d → Kept p from cuts d to → Top cuts d to
+  unfolding Kept
+  top-is cuts zero to s k = absurd (omega arith)
+  top-is cuts (suc d) to s k = let e : suc d - 1 ≡ d = omega arith in record { below = rw e (k .0); begins = rw e (k .1); kept = rw e (k .2); again = rw e (omega arith, k .1, k .2) }
+
+  pub kept-first : (cuts : List ℕ) (to : ℕ) → from < to → 0 < length cuts → Kept p from (set cuts 0 from) 1 to
+  unfolding Kept
+  kept-first cuts to h l = rw (getD-set-same cuts 0 from 0 l) (h, begins-self p from, refl)
+
+-- ---- positions of all fields
+
+-- a field ends where it does, however far its header is read
+pub ends-there : (p : List ℕ) (at to tag next : ℕ) → headerOf at (fieldsAt p at to) ≡ Whole tag next → Ends p at next
+unfolding fieldsAt headerOf
+ends-there p at to tag next e =
+    let i = when-in p at to tag next e in
+    let n : length (take (next - (at + 3)) (drop (at + 3) p)) ≡ next - (at + 3) = size p at to tag next e in
+    record { tag = tag; is = ap (headerOf at) (i .alone at) ∙ ap (Whole tag) {x = at + 3 + length (take (next - (at + 3)) (drop (at + 3) p))} {y = next} (omega (arith, n, i .low)) }
+  where
+    size : (p : List ℕ) (at to tag next : ℕ) → headerOf at (fieldsAt p at to) ≡ Whole tag next → length (take (next - (at + 3)) (drop (at + 3) p)) ≡ next - (at + 3)
+    size p at to tag next e =
+        let w = when-part (take to p) at tag next (header-in p at to ∙ e) in
+        simp (length-take, length-drop) (omega (arith, w .high, length-take to p))
+
+module _ (p : List ℕ) where
+  pub linked-none : (cuts : List ℕ) (sure d to : ℕ) → d ≤ sure → Linked p cuts sure d to
+  unfolding Linked
+  linked-none cuts sure zero to h = tt
+  linked-none cuts sure (suc d) to h = ((λ k. absurd (omega arith)), linked-none cuts sure d (getD cuts d 0) (omega arith))
+
+  pub linked-set : (cuts : List ℕ) (sure d i c to : ℕ) → d ≤ i → Linked p cuts sure d to → Linked p (set cuts i c) sure d to
+  unfolding Linked
+  linked-set cuts sure zero i c to h k = k
+  linked-set cuts sure (suc d) i c to h k = rw (getD-set-other cuts i d c 0 (λ e. omega arith)) (k .0, linked-set cuts sure d i c (getD cuts d 0) (omega arith) (k .1))
+
+  -- the last field's position above those that are linked
+  pub linked-more : (cuts : List ℕ) (sure d at to : ℕ) → 1 ≤ d → getD cuts (d - 1) 0 ≡ at → Ends p at to → Linked p cuts sure (d - 1) at → Linked p cuts sure d to
+  unfolding Linked
+  linked-more cuts sure zero at to s e x k = absurd (omega arith)
+  linked-more cuts sure (suc d) at to s e x k =
+      let z : suc d - 1 ≡ d = omega arith in
+      let y : getD cuts d 0 ≡ at = rw z at e in
+      let l : Linked p cuts sure d at = rw z at k in
+      rw y ((λ h. x), l)
+
+  pub record Linking (cuts : List ℕ) (sure d to : ℕ) : Type 0 where
+    pub ends : Ends p (getD cuts (d - 1) 0) to
+    pub linked : Linked p cuts sure (d - 1) (getD cuts (d - 1) 0)
+
+  pub linked-top : (cuts : List ℕ) (sure d to : ℕ) → sure < d → Linked p cuts sure d to → Linking cuts sure d to
+  unfolding Linked
+  linked-top cuts sure zero to h k = absurd (omega arith)
+  linked-top cuts sure (suc d) to h k = let e : suc d - 1 ≡ d = omega arith in record { ends = rw e (k .0 (omega arith)); linked = rw e (k .1) }
+
+-- ---- the answers of the search
+
+module _ (p : List ℕ) (from : ℕ) where
+  pub lasts-none : (cuts : List ℕ) (to : ℕ) → isBroken (counted (fields 0 (slice from to p))) ≡ true → Lasts p from to cuts 0 0
+  unfolding Lasts
+  lasts-none cuts to h = h
+
+  pub lasts-some : (cuts : List ℕ) (d sure at to tag next : ℕ) → 1 ≤ d → d ≤ mostKept → sure < d → Begins p from at → headerOf at (fieldsAt p at to) ≡ Whole tag next → next ≡ to → to ≤ length p
+      → Kept p from cuts d to → Linked p cuts sure d to → Lasts p from to cuts d sure
+  unfolding Lasts
+  lasts-some cuts zero sure at to tag next s f u b i n w k l = absurd (omega arith)
+  lasts-some cuts (suc d) sure at to tag next s f u b i n w k l =
+      let y : Begins p from to = rw n at (begins-next p from at to tag next b (when-in p at to tag next i) w) in
+      (f, y .1, omega arith, k, l)
+
+  -- where only the last one is sure
+  pub lasts-one : (cuts : List ℕ) (d sure at to tag next : ℕ) → d ≡ sure + 1 → d ≤ mostKept → getD cuts sure 0 ≡ at → Begins p from at → headerOf at (fieldsAt p at to) ≡ Whole tag next → next ≡ to → to ≤ length p
+      → Kept p from cuts d to → Lasts p from to cuts d sure
+  lasts-one cuts d sure at to tag next s f e b i n w k =
+      let z : d - 1 ≡ sure = omega arith in
+      lasts-some cuts d sure at to tag next (omega arith) f (omega arith) b i n w k
+      (linked-more p cuts sure d at to (omega arith) (rw z e) (rw n at (ends-there p at to tag next i)) (rw z (linked-none p cuts sure sure at (omega arith))))
+
+  -- where all are, from the one on where the search began
+  pub lasts-all : (cuts : List ℕ) (d depth at to tag next : ℕ) → 1 ≤ depth → depth ≤ d → d ≤ mostKept → (getD cuts (d - 1) 0 ≡ at) × Linked p cuts (depth - 1) (d - 1) at → Begins p from at
+      → headerOf at (fieldsAt p at to) ≡ Whole tag next → next ≡ to → to ≤ length p → Kept p from cuts d to → Lasts p from to cuts d (depth - 1)
+  lasts-all cuts d depth at to tag next s m f l b i n w k =
+      lasts-some cuts d (depth - 1) at to tag next (omega arith) f (omega arith) b i n w k
+      (linked-more p cuts (depth - 1) d at to (omega arith) (l .0) (rw n at (ends-there p at to tag next i)) (l .1))
+
+  -- the next one of all
+  pub linked-push : (cuts : List ℕ) (sure d at to tag next : ℕ) → 1 ≤ d → d < length cuts → headerOf at (fieldsAt p at to) ≡ Whole tag next → (getD cuts (d - 1) 0 ≡ at) × Linked p cuts sure (d - 1) at
+      → (getD (set cuts d next) (d + 1 - 1) 0 ≡ next) × Linked p (set cuts d next) sure (d + 1 - 1) next
+  linked-push cuts sure d at to tag next s h i l =
+      let z : d + 1 - 1 ≡ d = omega arith in
+      rw z (getD-set-same cuts d next 0 h, linked-set p cuts sure d d next next (omega arith) (linked-more p cuts sure d at next s (l .0) (ends-there p at to tag next i) (l .1)))
+
+-- ---- a walk
+
+module _ (p : List ℕ) (from to : ℕ) (cuts : List ℕ) (w : to ≤ length p) where
+  pub begin-forward : (back : Bool) (d u : ℕ) → back ≡ false → Starting p from to back cuts (B.With d u)
+  unfolding Starting Walking wholeOf
+  begin-forward back d u e = rw e (record { within = w })
+
+  pub begin-empty : (back : Bool) → back ≡ true → from ≤ to → to ≤ from → Starting p from to back cuts (B.With 0 0)
+  unfolding Starting Walking wholeOf Kept Linked isBroken counted fieldsAfter
+  begin-empty back e h k = let s : to ≡ from = omega arith in rw e (record { within = w; end = rw (slice-none from to p k); few = omega arith; kept = s; linked = tt })
+
+  pub begin-broken : (back : Bool) (d u : ℕ) → back ≡ true → Lasts p from to cuts d u → d ≡ 0 → Starting p from to back cuts B.Broken
+  unfolding Starting brokenIn Lasts
+  begin-broken back zero u e l z = rw e l
+  begin-broken back (suc d) u e l z = absurd (omega arith)
+
+  pub begin-found : (back : Bool) (d u : ℕ) → back ≡ true → Lasts p from to cuts d u → (d ≡ 0 → ⊥) → Starting p from to back cuts (B.With d u)
+  unfolding Starting Walking wholeOf Lasts
+  begin-found back zero u e l z = absurd (z refl)
+  begin-found back (suc d) u e l z = rw e (record { within = w; end = l .1; few = l .0; kept = l .3; linked = l .4 })
+
+  pub record Found (r u : ℕ) : Type 0 where
+    pub some : 1 ≤ r
+    pub few : r ≤ mostKept
+    pub top : Top p from cuts r to
+    pub linking : Linking p cuts u r to
+
+  pub lasts-found : (r u : ℕ) → Unbroken (slice from to p) → Lasts p from to cuts r u → Found r u
+  unfolding Lasts
+  lasts-found zero u b l = absurd (clash (sym l ∙ b))
+  lasts-found (suc d) u b l = record { some = omega arith; few = l .0; top = top-is p from cuts (suc d) to (omega arith) (l .3); linking = linked-top p cuts u (suc d) to (omega (arith, l .2)) (l .4) }

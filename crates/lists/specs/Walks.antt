@@ -1,17 +1,23 @@
--- A walk over the fields of a list, forward or backward.
+-- A walk over the fields of a list, the bytes from `from` to `to` of p, forward or backward.
 use mathlib.Core.Path.{_≡_}
 use mathlib.Core.List.{List, []}
-use mathlib.Core.Bool.{Bool, true, false, cond, _&&_}
-use Prim.Native.Nat.{ℕ, suc, _-_, _≤_, _<_}
-use lib.Dec.{eqb}
-use lib.ListN.{length, getD, replicate}
+use mathlib.Core.Bool.{Bool, true, false, _&&_}
+use Prim.Native.Nat.{ℕ, zero, suc, _≤_, _<_}
+use lib.ListN.{length, getD}
+use lib.Seq.{slice}
 use Rattle.language.specs.Read.{fields}
+use Rattle.fields.specs.declared.Header.the-variants.{Whole}
 use Rattle.fields.specs.declared.Counted.{Counted}
 use Rattle.fields.specs.declared.Counted.the-variants.{Many, Broken}
-use Rattle.fields.specs.Count.{counted, span, Longer, Starts}
+use Rattle.fields.specs.Header.{fieldsAt, headerOf}
+use Rattle.fields.specs.Count.{counted}
 use Rattle.lists.specs.declared.Walk.{Walk}
-use Rattle.lists.specs.declared.Split.{Split}
-use Rattle.lists.specs.declared.Split.the-variants.{Last, Middle}
+use Rattle.lists.specs.declared.Begun.{Begun}
+use Rattle.lists.specs.declared.Begun.the-variants as B
+
+-- how many positions are kept at most
+abbrev pub mostKept : ℕ
+mostKept = 24
 
 unfoldable pub isBroken : Counted → Bool
 isBroken (Many k) = false
@@ -21,54 +27,84 @@ isBroken Broken = true
 unfoldable pub brokenIn : List ℕ → Bool → Bool
 brokenIn l back = back && isBroken (counted (fields 0 l))
 
--- the field that begins at `here` ends at `to`
-pub record Reaches (l : List ℕ) (here to : ℕ) : Type 0 where
-  pub index : ℕ
-  pub below : Longer (suc index) (counted (fields 0 l))
-  pub begins : here ≡ span index (fields 0 l)
-  pub ends : to ≡ span (suc index) (fields 0 l)
+-- bytes that are whole fields
+abbrev pub Unbroken : List ℕ → Type 0
+Unbroken l = isBroken (counted (fields 0 l)) ≡ false
 
--- all of the first `depth` positions are beginnings of fields
-abbrev pub Kept : List ℕ → List ℕ → ℕ → Type 0
-Kept l cuts depth = (j : ℕ) → j < depth → Starts l (getD cuts j 0)
+-- in the list from `from` on, a field begins at n, or the list ends there
+abbrev pub Begins : List ℕ → (from n : ℕ) → Type 0
+Begins p from n = (from ≤ n) × Unbroken (slice from n p)
 
--- the last of the first `depth` positions
-unfoldable pub topOf : List ℕ → ℕ → ℕ
-topOf cuts depth = cond (eqb depth 0) 0 (getD cuts (depth - 1) 0)
+-- the field at `here` ends at `to`
+pub record Ends (p : List ℕ) (here to : ℕ) : Type 0 where
+  pub tag : ℕ
+  pub is : headerOf here (fieldsAt p here to) ≡ Whole tag to
 
--- what is left, walked forward, ends where the list does
-pub record Forward (l : List ℕ) (w : Walk) : Type 0 where
-  pub whole : w .to ≡ length l
+-- the first `depth` positions are beginnings of fields, each below the next, the last below `to`; the first is `from`, and
+-- where none is kept nothing is left
+unfoldable pub Kept : List ℕ → (from : ℕ) → (cuts : List ℕ) → (depth to : ℕ) → Type 0
+Kept p from cuts zero to = to ≡ from
+Kept p from cuts (suc d) to = (getD cuts d 0 < to) × Begins p from (getD cuts d 0) × Kept p from cuts d (getD cuts d 0)
 
--- what is left, walked backward, begins where the list does
-pub record Backward (l : List ℕ) (w : Walk) : Type 0 where
-  pub start : w .at ≡ 0
-  pub end : Starts l (w .to)
-  pub few : w .depth ≤ 16
-  pub kept : Kept l (w .cuts) (w .depth)
+-- of the positions from the one numbered `sure` on, each is where a field begins that ends at the next one, or at `to`
+unfoldable pub Linked : List ℕ → (cuts : List ℕ) → (sure depth to : ℕ) → Type 0
+Linked p cuts sure zero to = Unit {0}
+Linked p cuts sure (suc d) to = (sure ≤ d → Ends p (getD cuts d 0) to) × Linked p cuts sure d (getD cuts d 0)
 
-unfoldable pub Walking : List ℕ → Bool → Walk → Type 0
-Walking l true w = Backward l w
-Walking l false w = Forward l w
+-- what a search for the last field answers: no positions, as a header is bad, or some, the last field's above
+unfoldable pub Lasts : List ℕ → (from to : ℕ) → (cuts : List ℕ) → (depth sure : ℕ) → Type 0
+Lasts p from to cuts zero sure = isBroken (counted (fields 0 (slice from to p))) ≡ true
+Lasts p from to cuts (suc d) sure = (suc d ≤ mostKept) × Unbroken (slice from to p) × (sure ≤ d) × Kept p from cuts (suc d) to × Linked p cuts sure (suc d) to
+
+-- what is left, walked forward, ends within the bytes
+pub record Forward (p : List ℕ) (w : Walk) : Type 0 where
+  pub within : w .to ≤ length p
+
+-- what is left, walked backward, is whole fields, and positions in it are kept
+pub record Backward (p : List ℕ) (w : Walk) (cuts : List ℕ) : Type 0 where
+  pub within : w .to ≤ length p
+  pub end : Unbroken (slice (w .at) (w .to) p)
+  pub few : w .depth ≤ mostKept
+  pub kept : Kept p (w .at) cuts (w .depth) (w .to)
+  pub linked : Linked p cuts (w .sure) (w .depth) (w .to)
+
+unfoldable pub Walking : List ℕ → Bool → Walk → (cuts : List ℕ) → Type 0
+Walking p true w cuts = Backward p w cuts
+Walking p false w cuts = Forward p w
+
+-- the last field of what is left begins at `here`, and positions before it are kept
+pub record Last (p : List ℕ) (w : Walk) (cuts : List ℕ) : Type 0 where
+  pub within : w .to ≤ length p
+  pub ends : Ends p (w .here) (w .to)
+  pub begins : Begins p (w .at) (w .here)
+  pub few : w .depth ≤ mostKept
+  pub kept : Kept p (w .at) cuts (w .depth) (w .here)
+  pub linked : Linked p cuts (w .sure) (w .depth) (w .here)
+
+-- the first field of what is left begins at `here`
+pub record First (p : List ℕ) (w : Walk) : Type 0 where
+  pub within : w .to ≤ length p
+  pub begins : w .here ≡ w .at
 
 -- where the next field begins
-unfoldable pub Next : List ℕ → Bool → Walk → Type 0
-Next l true w = Reaches l (w .here) (w .to)
-Next l false w = w .here ≡ w .at
+unfoldable pub Next : List ℕ → Bool → Walk → (cuts : List ℕ) → Type 0
+Next p true w cuts = Last p w cuts
+Next p false w cuts = First p w
 
-pub record Sought (l : List ℕ) (back : Bool) (w r : Walk) : Type 0 where
+-- the next field of what is left is found
+pub record Sought (p : List ℕ) (back : Bool) (w r : Walk) (cuts : List ℕ) : Type 0 where
   pub same-at : r .at ≡ w .at
   pub same-to : r .to ≡ w .to
-  pub walking : Walking l back r
-  pub next : Next l back r
-
-unfoldable pub Splits : List ℕ → (s to half : ℕ) → Split → Type 0
-Splits l s to half (Last here) = (Reaches l here to) × (here < to)
-Splits l s to half (Middle c) = Starts l c × (s < c) × (c < to) × (half ≤ c)
+  pub next : Next p back r cuts
 
 unfoldable pub passedOf : Walk → Bool → ℕ → Walk
-passedOf w true end = record { at = w .at; to = w .here; here = w .here; depth = w .depth; cuts = w .cuts }
-passedOf w false end = record { at = end; to = w .to; here = w .here; depth = w .depth; cuts = w .cuts }
+passedOf w true end = record { at = w .at; to = w .here; here = w .here; depth = w .depth; sure = w .sure }
+passedOf w false end = record { at = end; to = w .to; here = w .here; depth = w .depth; sure = w .sure }
 
-unfoldable pub wholeOf : ℕ → Walk
-wholeOf size = record { at = 0; to = size; here = 0; depth = 0; cuts = replicate 16 0 }
+unfoldable pub wholeOf : (from to depth sure : ℕ) → Walk
+wholeOf from to depth sure = record { at = from; to = to; here = from; depth = depth; sure = sure }
+
+-- a walk of the list from `from` to `to` begins
+unfoldable pub Starting : List ℕ → (from to : ℕ) → (back : Bool) → (cuts : List ℕ) → Begun → Type 0
+Starting p from to back cuts (B.With depth sure) = Walking p back (wholeOf from to depth sure) cuts
+Starting p from to back cuts B.Broken = brokenIn (slice from to p) back ≡ true

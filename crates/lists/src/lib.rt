@@ -1,28 +1,35 @@
-// A walk over the fields of a list, forward or backward, in constant space. Backward, the last field is found by halving what
-// is left; positions of fields on the way to it are kept for those before it.
+// A walk over the fields of a list, forward or backward, in constant space. Backward, positions of fields are kept in a lent
+// array: all of them where there is room, else some, closer to each other toward the end.
 ghost use mathlib.Core.Path.{_≡_};
 ghost use mathlib.Core.Bool.{true, false};
 ghost use Prim.Native.Nat.{ℕ, _<_, _≤_};
 ghost use lib.ListN.{length};
-ghost use Rattle.fields.specs.Count.{Starts};
-ghost use Rattle.lists.specs.Walks.{brokenIn, wholeOf, topOf, Splits, Backward, Walking, Sought, passedOf};
-use fields::Counted;
+ghost use Rattle.lists.specs.Walks.{mostKept, Kept, Lasts, Walking, Sought, Starting, passedOf, wholeOf};
 use fields::Header;
 
-// What is left of a list: the bytes from `at` to `to`. `here` is where the next field begins. The first `depth` numbers of
-// `cuts` are positions where fields begin.
+// How many positions are kept at most.
+pub const KEPT: usize = 24;
+
+// What is left of a list: the bytes from `at` to `to`. `here` is where the next field begins; `depth` positions are kept, and
+// from the one numbered `sure` on they are those of all fields.
 pub struct Walk {
     pub at: usize,
     pub to: usize,
     pub here: usize,
     pub depth: usize,
-    pub cuts: [u16; 16],
+    pub sure: usize,
 }
 
-// A search for the last field of some bytes: where it begins, or where a field past the middle begins.
-pub enum Split {
-    Last(usize),
-    Middle(usize),
+// A walk begins with so many positions kept, sure from this one on, or the list is to be walked backward and has a bad header.
+pub enum Begun {
+    With(usize, usize),
+    Broken,
+}
+
+// How many positions are kept, and from which on they are sure.
+struct Held {
+    depth: usize,
+    sure: usize,
 }
 
 fn long(x: u16) -> usize
@@ -31,136 +38,181 @@ fn long(x: u16) -> usize
     x as usize
 }
 
-// Whether a list that is to be walked backward has a bad header.
-pub fn broken(p: &[u8], back: bool) -> bool
-    ensures { λ r. ⌜ r ≡ brokenIn (now (p .entry)) back ⌝ }
-{
-    if back {
-        return match fields::count(p) {
-            Counted::Many(_) => false,
-            Counted::Broken => true,
-        };
-    }
-    false
-}
-
-// All of a list that has so many bytes.
-pub fn whole(size: usize) -> Walk
-    ensures { λ r. ⌜ r ≡ wholeOf size ⌝ }
-{
-    let cuts = [0u16; 16];
-    Walk {
-        at: 0,
-        to: size,
-        here: 0,
-        depth: 0,
-        cuts,
-    }
-}
-
 // An array tells how long it is.
-fn tell(cuts: [u16; 16])
-    ensures { λ _. ⌜ length cuts ≡ 16 ⌝ }
+fn tell(cuts: [u16; KEPT])
+    ensures { λ _. ⌜ length cuts ≡ mostKept ⌝ }
 {}
 
-// The last of the first `depth` positions; 0 where there is none.
-fn top(cuts: [u16; 16], depth: usize) -> usize
-    requires { ⌜ depth ≤ 16 ⌝ }
-    ensures { λ r. ⌜ r ≡ topOf cuts depth ⌝ }
+// From where on the next position after `at` is kept, when so many are and not all fit: a sixth of what is left further, later
+// a third; the last place is for the last field.
+fn spaced(at: usize, to: usize, depth: usize) -> usize
+    requires { ⌜ (at < to) × (to ≤ 65535) ⌝ }
 {
-    if depth == 0 {
-        return 0;
+    if depth < 14 {
+        return at + (to - at) / 6;
     }
-    long(cuts[depth - 1])
-}
-
-// How many positions are left below `to`.
-fn settled(cuts: [u16; 16], depth: usize, to: usize) -> usize
-    requires { ⌜ (depth ≤ 16) × (0 < to) ⌝ }
-    ensures { λ r. ⌜ (r ≤ depth) × (topOf cuts r < to) ⌝ }
-{
-    let mut d = depth;
-    while to <= top(cuts, d) {
-        d -= 1;
-    }
-    d
-}
-
-// The middle of the bytes from s to `to`, or their end where no more positions can be kept.
-fn halfway(s: usize, to: usize, depth: usize) -> usize
-    requires { ⌜ s < to ⌝ }
-    ensures { λ r. ⌜ (16 ≤ depth → r ≡ to) ⌝ }
-{
-    if depth < 16 {
-        return to - (to - s) / 2;
+    if depth < KEPT - 1 {
+        return at + (to - at) / 3;
     }
     to
 }
 
-// Where the last field of the bytes from s to `to` begins, or the first at or past `half`.
-fn search(p: &[u8], s: usize, to: usize, half: usize) -> Split
-    requires { ⌜ Starts (now p) s × Starts (now p) to × (s < to) ⌝ }
-    ensures { λ r. ⌜ Splits (now (p .entry)) s to half r ⌝ }
+// The same; at once while all are kept.
+fn later(all: bool, at: usize, to: usize, depth: usize) -> usize
+    requires { ⌜ (at < to) × (to ≤ 65535) ⌝ }
 {
-    let mut at = s;
+    if all {
+        return 0;
+    }
+    spaced(at, to, depth)
+}
+
+// Whether a position is not kept.
+fn skipped(all: bool, at: usize, due: usize) -> bool
+    ensures { λ r. ⌜ (r ≡ true → all ≡ false) ⌝ }
+{
+    if all {
+        return false;
+    }
+    at < due
+}
+
+// Finds the last field from the last kept position on. It is kept, and so are some on the way to it, or all. At a bad header
+// none is.
+fn last(p: &[u8], from: usize, to: usize, cuts: &mut [u16; KEPT], depth: usize) -> Held
+    requires { ⌜ (to ≤ length (now p)) × (to ≤ 65535) × (from < to) × (depth ≤ mostKept) × Kept (now p) from (now cuts) depth to ⌝ }
+    ensures { λ r. ⌜ Lasts (now (p .entry)) from to (now (cuts .exit)) (r .depth) (r .sure) ⌝ }
+{
+    tell(*cuts);
+    let first = depth - 1;
+    let mut at = long(cuts[first]);
+    let mut d = depth;
+    let mut due: usize = 0;
+    let mut all = true;
     loop {
-        let Header::Whole(_, next) = fields::header_at(p, at, p.len()) else {
-            return Split::Last(at);
+        let Header::Whole(_, next) = fields::header_at(p, at, to) else {
+            return Held { depth: 0, sure: 0 };
         };
+        let top = d - 1;
         if next == to {
-            return Split::Last(at);
-        }
-        if half <= next {
-            return Split::Middle(next);
+            if all {
+                return Held {
+                    depth: d,
+                    sure: first,
+                };
+            }
+            if long(cuts[top]) == at {
+                return Held {
+                    depth: d,
+                    sure: top,
+                };
+            }
+            if d < KEPT {
+                cuts[d] = at as u16;
+                let more = d + 1;
+                return Held {
+                    depth: more,
+                    sure: d,
+                };
+            }
+            cuts[top] = at as u16;
+            return Held {
+                depth: d,
+                sure: top,
+            };
         }
         at = next;
+        if skipped(all, next, due) {
+            continue;
+        }
+        if d < KEPT {
+            cuts[d] = next as u16;
+            d += 1;
+            due = later(all, next, to, d);
+            continue;
+        }
+        all = false;
+        if depth < KEPT {
+            cuts[depth] = next as u16;
+            d = depth + 1;
+            due = spaced(next, to, d);
+            continue;
+        }
+        due = to;
     }
 }
 
-// Finds the last field.
-fn last(p: &[u8], w: Walk) -> Walk
-    requires { ⌜ Backward (now p) w × (0 < w .to) × (length (now p) ≤ 65535) ⌝ }
-    ensures { λ r. ⌜ Sought (now (p .entry)) true w r ⌝ }
+// Begins a walk of the list from `from` to `to`.
+pub fn begin(p: &[u8], from: usize, to: usize, back: bool, cuts: &mut [u16; KEPT]) -> Begun
+    requires { ⌜ (from ≤ to) × (to ≤ length (now p)) × (to ≤ 65535) ⌝ }
+    ensures { λ r. ⌜ Starting (now (p .entry)) from to back (now (cuts .exit)) r ⌝ }
 {
-    let to = w.to;
-    let mut cuts = w.cuts;
-    tell(cuts);
-    let mut depth = settled(cuts, w.depth, to);
-    loop {
-        let s = top(cuts, depth);
-        match search(p, s, to, halfway(s, to, depth)) {
-            Split::Last(here) => {
-                return Walk {
-                    at: w.at,
-                    to,
-                    here,
-                    depth,
-                    cuts,
-                };
-            }
-            Split::Middle(c) => {
-                cuts[depth] = c as u16;
-                depth += 1;
-            }
+    if back {
+        if to <= from {
+            return Begun::With(0, 0);
         }
+        tell(*cuts);
+        cuts[0] = from as u16;
+        let held = last(p, from, to, cuts, 1);
+        if held.depth == 0 {
+            return Begun::Broken;
+        }
+        return Begun::With(held.depth, held.sure);
+    }
+    Begun::With(0, 0)
+}
+
+// All of a list, so many positions of which are kept.
+pub fn whole(from: usize, to: usize, depth: usize, sure: usize) -> Walk
+    ensures { λ r. ⌜ r ≡ wholeOf from to depth sure ⌝ }
+{
+    Walk {
+        at: from,
+        to,
+        here: from,
+        depth,
+        sure,
     }
 }
 
 // Finds the next field.
-pub fn seek(p: &[u8], w: Walk, back: bool) -> Walk
-    requires { ⌜ Walking (now p) back w × (w .at < w .to) × (length (now p) ≤ 65535) ⌝ }
-    ensures { λ r. ⌜ Sought (now (p .entry)) back w r ⌝ }
+pub fn seek(p: &[u8], w: Walk, back: bool, cuts: &mut [u16; KEPT]) -> Walk
+    requires { ⌜ Walking (now p) back w (now cuts) × (w .at < w .to) × (w .to ≤ 65535) ⌝ }
+    ensures { λ r. ⌜ Sought (now (p .entry)) back w r (now (cuts .exit)) ⌝ }
 {
+    let at = w.at;
+    let to = w.to;
     if back {
-        return last(p, w);
+        if w.sure < w.depth {
+            tell(*cuts);
+            let below = w.depth - 1;
+            let top = long(cuts[below]);
+            return Walk {
+                at,
+                to,
+                here: top,
+                depth: below,
+                sure: w.sure,
+            };
+        }
+        let held = last(p, at, to, cuts, w.depth);
+        tell(*cuts);
+        let depth = held.depth - 1;
+        let here = long(cuts[depth]);
+        return Walk {
+            at,
+            to,
+            here,
+            depth,
+            sure: held.sure,
+        };
     }
-    let cuts = w.cuts;
     Walk {
-        at: w.at,
-        to: w.to,
-        here: w.at,
+        at,
+        to,
+        here: at,
         depth: w.depth,
-        cuts,
+        sure: w.sure,
     }
 }
 
@@ -168,7 +220,6 @@ pub fn seek(p: &[u8], w: Walk, back: bool) -> Walk
 pub fn passed(w: Walk, back: bool, end: usize) -> Walk
     ensures { λ r. ⌜ r ≡ passedOf w back end ⌝ }
 {
-    let cuts = w.cuts;
     let here = w.here;
     if back {
         return Walk {
@@ -176,7 +227,7 @@ pub fn passed(w: Walk, back: bool, end: usize) -> Walk
             to: here,
             here,
             depth: w.depth,
-            cuts,
+            sure: w.sure,
         };
     }
     Walk {
@@ -184,6 +235,6 @@ pub fn passed(w: Walk, back: bool, end: usize) -> Walk
         to: w.to,
         here,
         depth: w.depth,
-        cuts,
+        sure: w.sure,
     }
 }

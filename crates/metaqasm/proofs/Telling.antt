@@ -1,26 +1,20 @@
 -- Accepted programs run to an answer that a result can tell. Assumes nothing.
-use Prim.Native.Nat.{ℕ, zero, suc, _+_, _*_, _≤_, _<_}
+use Prim.Native.Nat.{ℕ, _*_, _≤_}
 use native.Mathlib.Omega.{arith}
 use mathlib.Core.Path.{_≡_, refl, sym, ap, _∙_, subst}
-use mathlib.Core.Logic.{_⊎_, inl, inr}
-use mathlib.Core.List.{List, [], map}
-use mathlib.Core.Bool.{Bool, true, false, cond}
-use mathlib.Core.Option.{Option, none, some}
+use mathlib.Core.List.{List, []}
 use borrow.Author.Tests.{leb-true}
-use lib.Dec.{leb, eqb}
-use lib.IntN.{ℤ, pos}
+use lib.Dec.{leb}
 use lib.ListN.{length, getElem?}
-use Rattle.language.specs.Limits.{longestProgram, recordSize}
+use Rattle.language.specs.Limits.{longestProgram}
 use Rattle.language.specs.Read.{read}
 use Rattle.language.specs.Check.{Checked, Declared, good, refused, require, check}
-use Rattle.language.specs.Machine.{Outcome, Family, going, ended, stuck, allDeclared, runProgram, runInstance}
-use Rattle.language.specs.Result.{Result, Answer as Reply, Conclusion, finished, gotStuck, untouched, resultOf, conclusionOf, checkProgram, verdict, checkResult, ifAccepted, runOutcome, fourBytes, allSizesFit, instanceOf, instanceOutcome}
-use Rattle.language.specs.Sound.{qubitsDeclared, bitsDeclared, wiresLaidOut, Sound, Finishes}
+use Rattle.language.specs.Machine.{allDeclared, runProgram}
+use Rattle.language.specs.Result.{Result, Answer as Reply, Conclusion, finished, gotStuck, conclusionOf, checkProgram, verdict, checkResult, ifAccepted, runOutcome, instanceOf, instanceOutcome}
+use Rattle.language.specs.Sound.{qubitsDeclared, bitsDeclared, wiresLaidOut, Finishes}
 use Rattle.language.proofs.Safe.{then-both, required}
 use Rattle.language.proofs.Refusals.{accepted}
-use Rattle.language.proofs.Places.{EndsIn, run-within, instance-within}
 use Rattle.language.proofs.Soundness.{run-sound, instance-sound, run-refused, instance-refused}
-use Rattle.emit.specs.declared.State.{State}
 use Rattle.emit.specs.declared.Answer.{Answer}
 use Rattle.emit.specs.declared.Answer.the-variants.{Going, Ended, Stuck}
 use Rattle.runs.specs.Whole.{Acceptable}
@@ -49,38 +43,16 @@ check-counts l = go (checkProgram l)
 
 -- ---- the answer of the code
 
-abbrev numberIn : Conclusion → ℕ
-numberIn (finished a) = a .result .number
-numberIn gotStuck = 0
-
-abbrev placeIn : Conclusion → ℕ
-placeIn (finished a) = a .result .place
-placeIn gotStuck = 0
-
 abbrev isStuck : Conclusion → ℕ
 isStuck (finished a) = 0
 isStuck gotStuck = 1
 
--- where an outcome ends
-place-in : {A : Type 0} (size : ℕ) (lent : List ℕ) (o : Outcome A) → EndsIn size o → placeIn (conclusionOf lent o) ≤ size
-unfolding conclusionOf resultOf
-place-in size lent (going a t) h = omega arith
-place-in size lent (ended m q t) h = h
-place-in size lent stuck h = omega arith
-
-few-number : {least n : ℕ} → (n ≡ 0) ⊎ ((least ≤ n) × (n ≤ 27)) → n ≤ 27
-few-number (inl e) = omega arith
-few-number (inr h) = h .1
-
--- an answer that concludes soundly, at a place of a program, can be told
-told-by : (least limit q b : ℕ) (lent out : List ℕ) (r : Answer) (c : Conclusion) → Finishes least limit q b lent c → concluded out r ≡ c → placeIn c ≤ 65535 → Told r
+-- an answer that concludes soundly can be told
+told-by : (least limit q b : ℕ) (lent out : List ℕ) (r : Answer) (c : Conclusion) → Finishes least limit q b lent c → concluded out r ≡ c → Told r
 unfolding concluded
-told-by least limit q b lent out (Going s) c f e h = tt
-told-by least limit q b lent out (Ended n p s) c f e h =
-    let i : n ≡ f .answer .result .number = ap numberIn (e ∙ f .is) in
-    let k : p ≡ placeIn c = ap placeIn e in
-    (omega (arith, few-number (f .sound .number)), omega arith)
-told-by least limit q b lent out Stuck c f e h = absurd (let z = ap isStuck (e ∙ f .is) in omega arith)
+told-by least limit q b lent out (Going s) c f e = tt
+told-by least limit q b lent out (Ended n p s) c f e = tt
+told-by least limit q b lent out Stuck c f e = absurd (let z = ap isStuck (e ∙ f .is) in omega arith)
 
 -- what a sound conclusion says of the records and the steps
 sound-of : (least limit q b : ℕ) (lent : List ℕ) (a : Reply) → Finishes least limit q b lent (finished a) → (8 * a .result .records ≤ length (a .output)) × (a .result .steps ≤ limit)
@@ -97,7 +69,6 @@ module _ (l : List ℕ) (limit : ℕ) (lent : List ℕ) (e : checkResult l .numb
 
   pub run-told : (out : List ℕ) (r : Answer) → concluded out r ≡ conclusionOf lent (runProgram limit (length lent) (read l)) → Told r
   run-told out r h = told-by 24 limit _ _ lent out r _ (run-sound l limit lent e) (h ∙ run-is)
-      (rw (← run-is) (let p = place-in (length l) lent (runProgram limit (length lent) (read l)) (run-within l limit (length lent)) in omega (arith, acceptable l e .short)))
 
   pub run-answers : (out : List ℕ) (r : Answer) (x : Result) → concluded out r ≡ conclusionOf lent (runProgram limit (length lent) (read l)) → concluded out r ≡ finished (record { result = x; output = out })
       → (runOutcome l limit lent ≡ finished (record { result = x; output = out })) × (8 * x .records ≤ length out) × (x .steps ≤ limit)
@@ -107,17 +78,6 @@ module _ (l : List ℕ) (limit : ℕ) (lent : List ℕ) (e : checkResult l .numb
       (g, s .0, s .1)
 
 -- ---- instances
-
--- where an instance ends
-instance-place : (size : ℕ) (o : Option Family) (sizes lent : List ℕ) → ((f : Family) (values : List ℤ) → o ≡ some f → EndsIn size (runInstance f values)) → placeIn (instanceOf o sizes lent) ≤ size
-unfolding instanceOf
-instance-place size none sizes lent h = omega arith
-instance-place size (some f) sizes lent h = go (eqb (length sizes) (4 * f .variables)) (allSizesFit (fourBytes sizes))
-  where
-    go : (b c : Bool) → placeIn (cond b (cond c (conclusionOf lent (runInstance f (map pos (fourBytes sizes)))) (untouched lent 22 0)) (untouched lent 21 0)) ≤ size
-    go true true = place-in size lent (runInstance f (map pos (fourBytes sizes))) (h f (map pos (fourBytes sizes)) refl)
-    go true false = omega arith
-    go false c = omega arith
 
 module _ (l : List ℕ) (k : ℕ) (sizes : List ℕ) (limit : ℕ) (lent : List ℕ) (e : checkResult l .number ≡ 0) where
   abbrev asked : Conclusion
@@ -129,7 +89,6 @@ module _ (l : List ℕ) (k : ℕ) (sizes : List ℕ) (limit : ℕ) (lent : List 
 
   pub instance-told : (out : List ℕ) (r : Answer) → concluded out r ≡ instanceOf (getElem? (allDeclared limit (length lent) (read l) []) k) sizes lent → Told r
   instance-told out r h = told-by 20 limit _ _ lent out r _ (instance-sound l k sizes limit lent e .0) (h ∙ instance-is)
-      (rw (← instance-is) (let p = instance-place (length l) (getElem? (allDeclared limit (length lent) (read l) []) k) sizes lent (λ f values q. instance-within l limit (length lent) k f values q) in omega (arith, acceptable l e .short)))
 
   pub instance-answers : (out : List ℕ) (r : Answer) (x : Result) → concluded out r ≡ instanceOf (getElem? (allDeclared limit (length lent) (read l) []) k) sizes lent
       → concluded out r ≡ finished (record { result = x; output = out })

@@ -62,8 +62,8 @@ fn told(a: Answer) -> MetaqasmResult
     match a {
         Answer::Going(s) => result(0, 0, s),
         Answer::Ended(n, p, s) => result(n as u32, p as u32, s),
-        // Not reached: what is required rules it out, and the theorem gives that.
-        Answer::Stuck => result(0, 0, State { at: 0, steps: 0 }),
+        // Not reached: what is required rules it out, and the theorem gives that. Its number is none that a call answers.
+        Answer::Stuck => result(4294967295, 0, State { at: 0, steps: 0 }),
     }
 }
 

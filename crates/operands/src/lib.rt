@@ -3,6 +3,7 @@ ghost use mathlib.Core.Path.{_≡_};
 ghost use mathlib.Core.Bool.{true, false};
 ghost use Prim.Native.Nat.{ℕ, _+_, _*_, _<_, _≤_};
 ghost use lib.ListN.{length, getD};
+ghost use lib.Seq.{slice};
 ghost use Rattle.language.specs.Form.{inRange};
 ghost use lib.IntN.{ℤ};
 ghost use lib.ListN.{getElem?, take};
@@ -27,11 +28,11 @@ pub struct Parameter {
     pub operand: Operand,
 }
 
-// The operands in scope: a family's parameters, or at the top the registers of a table.
+// The operands in scope: the first `count` of a family's parameters, or at the top of the registers of a table.
 pub struct Scope {
-    pub top: bool,
-    pub count: usize,
     pub params: [Parameter; 8],
+    pub count: u8,
+    pub top: bool,
 }
 
 // What an operand stands for, or that an index is out of range, or that it stands for nothing.
@@ -50,17 +51,23 @@ pub enum Spot {
     Nowhere,
 }
 
-// The register n of a table that has three numbers for each: 0 or 1 for a quantum or a classical one, its first location, its size.
-fn register(regs: &[u16], n: usize) -> Stands
-    requires { ⌜ n < 256 ⌝ }
-    ensures { λ r. ⌜ Names (registersOf (now (regs .entry))) n r ⌝ }
+// A table tells how long it is.
+fn tell_table(regs: [u16; 765])
+    ensures { λ _. ⌜ length regs ≡ 765 ⌝ }
+{}
+
+// The register n of the first `count` in a table that has three numbers for each: 0 or 1 for a quantum or a classical one, its
+// first location, its size.
+fn register(regs: &[u16; 765], count: u8, n: usize) -> Stands
+    ensures { λ r. ⌜ Names (registersOf (take (3 * count) (now (regs .entry)))) n r ⌝ }
 {
-    let at = 3 * n;
-    let size = at + 2;
-    if regs.len() <= size {
+    tell_table(*regs);
+    if fields::wide(count) <= n {
         return Stands::Stuck;
     }
+    let at = 3 * n;
     let first = at + 1;
+    let size = at + 2;
     if regs[at] == 0 {
         return Stands::Wires(Wire(regs[first]), regs[size]);
     }
@@ -69,11 +76,11 @@ fn register(regs: &[u16], n: usize) -> Stands
 
 // Puts a register into the table, behind the `count` that it has: 0 or 1 for a quantum or a classical one, its first location
 // and its size.
-pub fn declare(regs: &mut [u16], count: usize, kind: u16, first: u16, size: u16)
-    requires { ⌜ 3 * count + 2 < length (now regs) ⌝ }
-    ensures { λ _. ⌜ length (now (regs .exit)) ≡ length (now (regs .entry)) ⌝ }
+pub fn declare(regs: &mut [u16; 765], count: usize, kind: u16, first: u16, size: u16)
+    requires { ⌜ count < 255 ⌝ }
     ensures { λ _. ⌜ registersOf (take (3 * (count + 1)) (now (regs .exit))) ≡ registersOf (take (3 * count) (now (regs .entry))) ++ (registerOf kind first size ∷ []) ⌝ }
 {
+    tell_table(*regs);
     let at = 3 * count;
     let second = at + 1;
     let third = at + 2;
@@ -87,13 +94,13 @@ fn tell(ps: [Parameter; 8])
     ensures { λ _. ⌜ length ps ≡ 8 ⌝ }
 {}
 
+// What the parameter n stands for.
 fn bound(scope: Scope, n: usize) -> Stands
     ensures { λ r. ⌜ Names (map ofParameter (take (scope .count) (scope .params))) n r ⌝ }
 {
-    let count = scope.count;
     let ps = scope.params;
     tell(ps);
-    if count <= n {
+    if fields::wide(scope.count) <= n {
         return Stands::Stuck;
     }
     if 8 <= n {
@@ -108,12 +115,11 @@ fn bound(scope: Scope, n: usize) -> Stands
 }
 
 // What the operand number n stands for.
-fn named(scope: Scope, regs: &[u16], n: usize) -> Stands
-    requires { ⌜ n < 256 ⌝ }
+fn named(scope: Scope, regs: &[u16; 765], n: usize) -> Stands
     ensures { λ r. ⌜ Names (operandsOf scope (now (regs .entry))) n r ⌝ }
 {
     if scope.top {
-        return register(regs, n);
+        return register(regs, scope.count, n);
     }
     bound(scope, n)
 }
@@ -174,26 +180,40 @@ fn element(s: Stands, z: i64) -> Stands
     }
 }
 
-// What the operand with this tag and content stands for.
-pub fn meaning(p: &[u8], tag: u8, vars: &[i64], scope: Scope, regs: &[u16]) -> Stands
-    ensures { λ r. ⌜ Operands tag (now (p .entry)) (now (vars .entry)) (operandsOf scope (now (regs .entry))) r ⌝ }
+// What the operand with this tag, whose content is from `from` to `to`, stands for.
+pub fn meaning(
+    p: &[u8],
+    from: usize,
+    to: usize,
+    tag: u8,
+    vars: &[i32; 20],
+    many: usize,
+    scope: Scope,
+    regs: &[u16; 765],
+) -> Stands
+    requires { ⌜ (from ≤ to) × (to ≤ length (now p)) ⌝ }
+    requires { ⌜ many ≤ 20 ⌝ }
+    ensures { λ r. ⌜ Operands tag (slice from to (now (p .entry))) (take many (now (vars .entry))) (operandsOf scope (now (regs .entry))) r ⌝ }
 {
-    if p.len() == 0 {
+    if from == to {
         return Stands::Stuck;
     }
+    let s = named(scope, regs, fields::wide(p[from]));
     if tag == 48 {
-        return named(scope, regs, fields::wide(p[0]));
+        return s;
     }
     if tag != 49 {
         return Stands::Stuck;
     }
-    let s = named(scope, regs, fields::wide(p[0]));
-    if let Stands::Stuck = s {
-        return Stands::Stuck;
-    }
-    match indexes::index_at(p, 1, vars) {
+    let at = from + 1;
+    match indexes::index_at(p, at, to, vars, many) {
         Value::Is(z) => element(s, z),
-        Value::Over => Stands::Over,
+        Value::Over => {
+            if let Stands::Stuck = s {
+                return Stands::Stuck;
+            }
+            Stands::Over
+        }
         Value::Stuck => Stands::Stuck,
     }
 }
@@ -218,15 +238,29 @@ fn as_wire(s: Stands) -> Wired
     }
 }
 
-// The wire of the operand due at `at`.
-pub fn wire_at(p: &[u8], at: usize, vars: &[i64], scope: Scope, regs: &[u16]) -> Wired
-    ensures { λ r. ⌜ WireAt (now (p .entry)) at (now (vars .entry)) (operandsOf scope (now (regs .entry))) r ⌝ }
+// The wire of the operand due at `at` in the bytes up to `to`.
+pub fn wire_at(
+    p: &[u8],
+    at: usize,
+    to: usize,
+    vars: &[i32; 20],
+    many: usize,
+    scope: Scope,
+    regs: &[u16; 765],
+) -> Wired
+    requires { ⌜ to ≤ length (now p) ⌝ }
+    requires { ⌜ many ≤ 20 ⌝ }
+    ensures { λ r. ⌜ WireAt (slice at to (now (p .entry))) 0 (take many (now (vars .entry))) (operandsOf scope (now (regs .entry))) r ⌝ }
 {
-    let Header::Whole(tag, to) = fields::header_at(p, at, p.len()) else {
+    let Header::Whole(tag, end) = fields::header_at(p, at, to) else {
         return Wired::Stuck;
     };
     let from = at + 3;
-    as_wire(meaning(&p[from..to], tag, vars, scope, regs))
+    // a whole operand is read in place, and the scope is not copied
+    if tag == 48 && from < end {
+        return as_wire(named(scope, regs, fields::wide(p[from])));
+    }
+    as_wire(meaning(p, from, end, tag, vars, many, scope, regs))
 }
 
 // The bit that an operand stands for.
@@ -249,13 +283,23 @@ fn as_bit(s: Stands) -> Bitten
     }
 }
 
-// The bit of the operand due at `at`.
-pub fn bit_at(p: &[u8], at: usize, vars: &[i64], scope: Scope, regs: &[u16]) -> Bitten
-    ensures { λ r. ⌜ BitAt (now (p .entry)) at (now (vars .entry)) (operandsOf scope (now (regs .entry))) r ⌝ }
+// The bit of the operand due at `at` in the bytes up to `to`.
+pub fn bit_at(
+    p: &[u8],
+    at: usize,
+    to: usize,
+    vars: &[i32; 20],
+    many: usize,
+    scope: Scope,
+    regs: &[u16; 765],
+) -> Bitten
+    requires { ⌜ to ≤ length (now p) ⌝ }
+    requires { ⌜ many ≤ 20 ⌝ }
+    ensures { λ r. ⌜ BitAt (slice at to (now (p .entry))) 0 (take many (now (vars .entry))) (operandsOf scope (now (regs .entry))) r ⌝ }
 {
-    let Header::Whole(tag, to) = fields::header_at(p, at, p.len()) else {
+    let Header::Whole(tag, end) = fields::header_at(p, at, to) else {
         return Bitten::Stuck;
     };
     let from = at + 3;
-    as_bit(meaning(&p[from..to], tag, vars, scope, regs))
+    as_bit(meaning(p, from, end, tag, vars, many, scope, regs))
 }

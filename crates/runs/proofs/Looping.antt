@@ -1,41 +1,40 @@
 -- The top fields of a whole run, one after the other. Assumes nothing.
-use Prim.Native.Nat.{ℕ, zero, suc, _+_, _*_, _-_, _≤_, _<_}
+use Prim.Native.Nat.{ℕ, zero, suc, _+_, _-_, _≤_, _<_}
 use native.Mathlib.Omega.{arith}
 use mathlib.Core.Path.{_≡_, refl, sym, ap, _∙_, subst}
 use mathlib.Core.List.{List, [], _∷_, map}
 use mathlib.Core.Bool.{Bool, true, false}
-use mathlib.Core.Option.{Option, none, some}
+use mathlib.Core.Option.{none, some}
 use types.Run.{OneOf}
 use denote.Enum.Declared.{tagOf}
 use lib.Dec.{leb}
 use borrow.Author.Tests.{leb-true, leb-false}
 use lib.ListN.{length, take, getD, getElem?}
-use lib.Seq.{slice, length-slice}
-use Rattle.language.specs.Limits.{longestProgram, mostFamilies}
+use lib.Seq.{slice}
+use Rattle.language.specs.Limits.{mostFamilies}
 use Rattle.language.specs.Tree.{Place, Top, family, qreg, creg, measure, reset, if, statement, badTop}
-use Rattle.language.specs.Read.{Field, field, badHeader, read, readTop, readIf, ifOf, choose}
+use Rattle.language.specs.Read.{Field, field, read, readTop, readIf, ifOf, choose}
 use Rattle.language.specs.Check.{Declared, check, good}
-use Rattle.language.specs.Lookup.{familyIn, mapped, meaning}
+use Rattle.language.specs.Lookup.{mapped}
 use Rattle.language.specs.Machine as m
-use Rattle.language.specs.Machine.{Run, Globals, Family, give, noMeaning, after, allDeclared, runTop, runTops, nothingYet, _>>=_, _>>_}
+use Rattle.language.specs.Machine.{Run, Globals, give, noMeaning, after, allDeclared, runTop, runTops, nothingYet, _>>=_, _>>_}
 use Rattle.language.proofs.Tops.{TopGood, aFamily, aQreg, aCreg, aMeasure, aReset, anIf, aStatement}
 use Rattle.language.proofs.Families.{family-at}
-use Rattle.fields.specs.Header.{fieldsAt}
 use Rattle.fields.specs.Table.{Listed}
 use Rattle.fields.specs.declared.Header.the-variants.{Whole, End, Cut}
 use Rattle.fields.proofs.Parts.{look, rest-is}
-use Rattle.fields.proofs.Reading.{when-whole, when-end, when-cut}
+use Rattle.fields.proofs.Reading.{when-end, when-cut}
 use Rattle.operands.specs.Stand.{registersOf}
 use Rattle.emit.specs.declared.State.{State}
 use Rattle.emit.specs.declared.Answer.{Answer}
-use Rattle.emit.specs.declared.Answer.the-variants.{Going, Ended, Stuck}
+use Rattle.emit.specs.declared.Answer.the-variants.{Going, Stuck}
 use Rattle.emit.specs.Squares.{told, flat, Does}
 use Rattle.emit.proofs.Answer.{the-type}
 use Rattle.runs.specs.declared.Totals.{Totals}
 use Rattle.runs.specs.Whole.{topsAt, globalsOf}
-use Rattle.runs.specs.Acting.{acting, globalsIn, IfReady, ActReady}
-use Rattle.runs.proofs.Reaching.{zero-totals, Reached, Next, topOf, tops-next, reached-next, families-seen}
-use Rattle.runs.proofs.Acting.{Acts, tag-acts, act-then, act-other}
+use Rattle.runs.specs.Acting.{acting, ActReady}
+use Rattle.runs.proofs.Reaching.{zero-totals, Reached, topOf, tops-next, reached-next, families-seen}
+use Rattle.runs.proofs.Acting.{tag-acts, act-then, act-other}
 use Rattle.runs.proofs.Topping.{acting-is}
 use Rattle.runs.proofs.Instancing.{no-family}
 
@@ -120,18 +119,13 @@ module _ (limit room : ℕ) (l : List ℕ) where
     acts-other k = does-same out st out' r _ _ acts-there (act-other out st out' r (acting limit room (topOf limit room l at tag next) g) g (runTops limit room (topsAt l next)) d k)
 
   -- what the code asks of a field that declares nothing
-  pub act-ready : (at tag next : ℕ) (t : Totals) (r : Reached limit room l at t) → length l ≤ longestProgram → look l at ≡ Whole tag next
-      → (tag ≡ 1 → ⊥) × (tag ≡ 2 → ⊥) × (tag ≡ 3 → ⊥) → ActReady tag (slice (at + 3) next l) at
-  act-ready at tag next t r short e h =
-      let w = when-whole l at (length l) tag next (omega arith) e in
-      let n = length-slice (at + 3) next l (omega (arith, w .high)) in
-      let near : at + 3 + length (slice (at + 3) next l) ≤ longestProgram = omega (arith, w .low, w .high, n) in
-      record {
-        apart = h;
-        near = near;
-        ready = λ six. let k = if-ready at (slice (at + 3) next l) (if-good (subst (λ (x : ℕ). TopGood (r .now) (readTop (field at x (slice (at + 3) next l))) (reached-next limit room l at tag next r e .next-now)) six (reached-next limit room l at tag next r e .top-good))) in
-            record { long = k .0; value = k .1; near = near };
-      }
+  pub act-ready : (at tag next : ℕ) (t : Totals) (r : Reached limit room l at t) → look l at ≡ Whole tag next
+      → (tag ≡ 1 → ⊥) × (tag ≡ 2 → ⊥) × (tag ≡ 3 → ⊥) → ActReady tag (slice (at + 3) next l)
+  act-ready at tag next t r e h = record {
+    apart = h;
+    ready = λ six. let k = if-ready at (slice (at + 3) next l) (if-good (subst (λ (x : ℕ). TopGood (r .now) (readTop (field at x (slice (at + 3) next l))) (reached-next limit room l at tag next r e .next-now)) six (reached-next limit room l at tag next r e .top-good))) in
+        record { long = k .0; value = k .1 };
+  }
 
   -- no more families are seen than the table has
   pub seen-few : (d : Declared) → check (read l) ≡ good d → (at : ℕ) (t : Totals) (r : Reached limit room l at t) (table : List ℕ) (n : ℕ) → Listed l table n → length table ≡ mostFamilies → t .families ≤ n

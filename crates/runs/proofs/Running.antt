@@ -1,5 +1,5 @@
 -- What is known at each top field of a whole run. Assumes nothing.
-use Prim.Native.Nat.{ℕ, zero, suc, _+_, _*_, _-_, _≤_, _<_}
+use Prim.Native.Nat.{ℕ, _+_, _*_, _-_, _≤_, _<_}
 use native.Mathlib.Omega.{arith}
 use mathlib.Core.Path.{_≡_, refl, sym, ap, _∙_, subst}
 use mathlib.Core.List.{List, [], _∷_}
@@ -10,37 +10,34 @@ use lib.Dec.{eqb}
 use borrow.Author.Tests.{eqb-true, eqb-false}
 use lib.ListN.{length, take}
 use lib.Seq.{slice}
-use Rattle.language.specs.Limits.{mostRegisters}
-use Rattle.language.specs.Read.{Field, field, fields, readTop}
+use Rattle.language.specs.Limits.{mostRegisters, longestProgram}
+use Rattle.language.specs.Read.{field, fields, readTop}
 use Rattle.language.specs.Machine.{Run, Globals, runTops}
 use Rattle.fields.specs.declared.Header.the-variants.{Whole, End, Cut}
-use Rattle.fields.specs.Header.{fieldsAt}
 use Rattle.fields.proofs.Parts.{look}
-use Rattle.fields.proofs.Reading.{when-whole, fields-whole, fields-end}
-use Rattle.fields.proofs.Listing.{whole-past}
+use Rattle.fields.proofs.Between.{in-whole}
 use Rattle.emit.specs.declared.State.{State}
 use Rattle.emit.specs.declared.Answer.{Answer}
-use Rattle.emit.specs.declared.Answer.the-variants.{Going, Ended, Stuck}
+use Rattle.emit.specs.declared.Answer.the-variants.{Going, Stuck}
 use Rattle.emit.specs.Squares.{Does}
 use Rattle.emit.proofs.Answer.{the-type}
 use Rattle.calls.specs.Families.{Tabled}
 use Rattle.calls.proofs.Tabling.{tabled, tabled-fewer}
 use Rattle.runs.specs.declared.Totals.{Totals}
 use Rattle.runs.specs.Whole.{topsAt, globalsOf, moreFamilies, moreLocations, sizeIn, totalOf, Acceptable, DeclareReady, OneMore, Declares, FullTable, started}
-use Rattle.runs.specs.Acting.{acting, globalsIn, ActReady}
+use Rattle.runs.specs.Acting.{acting, globalsIn, Within, ActReady}
 use Rattle.runs.proofs.Reaching.{zero-totals, Reached, reached-start}
 use Rattle.runs.proofs.Declaring.{registerTag, register-room, register-reached, register-runs, family-room, family-reached, family-runs}
 use Rattle.runs.proofs.Acting.{acting-reached}
 use Rattle.runs.proofs.Looping.{Onward, onward-same, wholeRun, starts, at-end, at-cut, acts-then, acts-other, act-ready, seen-few}
 
--- the bytes of one field, read alone
-pub field-alone : (l : List ℕ) (at tag next : ℕ) → look l at ≡ Whole tag next → fields at (slice at next l) ≡ (field at tag (slice (at + 3) next l) ∷ [])
-unfolding fieldsAt
-field-alone l at tag next e =
-    let w = when-whole l at (length l) tag next (omega arith) e in
-    let p = whole-past l at tag next e in
-    let v = fields-whole l at next (w .low) (w .high) (omega arith) in
-    v .first ∙ rw (← p, ← (w .byte)) (ap (λ (fs : List Field). field at tag (slice (at + 3) next l) ∷ fs) (fields-end l next next (omega arith)))
+-- the bytes of one field, and the field alone
+module _ (l : List ℕ) (at tag next : ℕ) (e : look l at ≡ Whole tag next) where
+  pub field-within : length l ≤ longestProgram → Within l at next
+  field-within h = let w = in-whole l at (length l) tag next e in record { low = w .low; high = w .high; short = h }
+
+  pub field-alone : fields at (slice at next l) ≡ (field at tag (slice (at + 3) next l) ∷ [])
+  field-alone = in-whole l at (length l) tag next e .alone at
 
 module _ (limit : ℕ) (l out₀ : List ℕ) where
   abbrev room : ℕ
@@ -51,15 +48,13 @@ module _ (limit : ℕ) (l out₀ : List ℕ) where
 
   pub record At (regs out : List ℕ) (at : ℕ) (t : Totals) (s : State) : Type 0 where
     pub reached : Reached limit room l at t
-    pub rows : length regs ≡ 765
     pub few : t .registers ≤ mostRegisters
     pub same : length out ≡ room
     pub onward : Onward out₀ started out s (restRun at t regs) (wholeRun limit room l)
 
-  pub at-start : (regs : List ℕ) → Acceptable l → length regs ≡ 765 → At regs out₀ 0 zero-totals started
-  at-start regs a h = record {
+  pub at-start : (regs : List ℕ) → Acceptable l → At regs out₀ 0 zero-totals started
+  at-start regs a = record {
     reached = reached-start limit room l (a .declares) (a .accepted);
-    rows = h;
     few = omega arith;
     same = refl;
     onward = onward-same out₀ started out₀ started (wholeRun limit room l) (restRun 0 zero-totals regs) (wholeRun limit room l) (sym (starts limit room l regs)) (λ x r d. d);
@@ -99,35 +94,35 @@ module _ (limit : ℕ) (l out₀ : List ℕ) where
       }
 
       -- past it
-      past : (regs′ : List ℕ) (t′ : Totals) → length regs′ ≡ 765 → t′ .registers ≤ mostRegisters → Reached limit room l next t′ → restRun at t regs ≡ restRun next t′ regs′ → At regs′ out next t′ s
-      past regs′ t′ h f r q = record { reached = r; rows = h; few = f; same = i .same; onward = onward-same out₀ started out s (restRun at t regs) (restRun next t′ regs′) (wholeRun limit room l) q (i .onward) }
+      past : (regs′ : List ℕ) (t′ : Totals) → t′ .registers ≤ mostRegisters → Reached limit room l next t′ → restRun at t regs ≡ restRun next t′ regs′ → At regs′ out next t′ s
+      past regs′ t′ f r q = record { reached = r; few = f; same = i .same; onward = onward-same out₀ started out s (restRun at t regs) (restRun next t′ regs′) (wholeRun limit room l) q (i .onward) }
 
       more-few : (b : Bool) → t .registers < mostRegisters → moreLocations b t (sizeIn content) .registers ≤ mostRegisters
       unfolding moreLocations
       more-few true h = omega arith
       more-few false h = omega arith
 
-      one-more : (b : Bool) → look l at ≡ Whole (registerTag b) next → (regs′ : List ℕ) (t′ : Totals) → length regs′ ≡ 765 → OneMore b (slice (at + 3) next l) t regs regs′ t′ → At regs′ out next t′ s
-      one-more b k regs′ t′ h m = subst (λ (x : Totals). At regs′ out next x s) (sym (m .0))
-          (past regs′ _ h (more-few b (register-room limit room l at next t (i .reached) b k .few)) (register-reached limit room l at next t (i .reached) b k) (register-runs limit room l at next t (i .reached) b k regs regs′ (m .1)))
+      one-more : (b : Bool) → look l at ≡ Whole (registerTag b) next → (regs′ : List ℕ) (t′ : Totals) → OneMore b (slice (at + 3) next l) t regs regs′ t′ → At regs′ out next t′ s
+      one-more b k regs′ t′ m = subst (λ (x : Totals). At regs′ out next x s) (sym (m .0))
+          (past regs′ _ (more-few b (register-room limit room l at next t (i .reached) b k .few)) (register-reached limit room l at next t (i .reached) b k) (register-runs limit room l at next t (i .reached) b k regs regs′ (m .1)))
 
-      pub declared-on : (regs′ : List ℕ) (t′ : Totals) → (1 ≤ tag) × (tag ≤ 3) → length regs′ ≡ 765 → Declares tag (slice (at + 3) next l) t regs regs′ t′ → At regs′ out next t′ s
-      declared-on regs′ t′ h long m = go (eqb tag 1) (eqb tag 2) (eqb-true tag 1) (eqb-true tag 2) (eqb-false tag 1) (eqb-false tag 2)
+      pub declared-on : (regs′ : List ℕ) (t′ : Totals) → (1 ≤ tag) × (tag ≤ 3) → Declares tag (slice (at + 3) next l) t regs regs′ t′ → At regs′ out next t′ s
+      declared-on regs′ t′ h m = go (eqb tag 1) (eqb tag 2) (eqb-true tag 1) (eqb-true tag 2) (eqb-false tag 1) (eqb-false tag 2)
         where
           family-on : tag ≡ 1 → At regs′ out next t′ s
           family-on k = let f = m .family k in
-              subst (λ (x : Totals). At regs′ out next x s) (sym (f .0)) (past regs′ (moreFamilies t) long (i .few) (family-reached limit room l at next t (i .reached) (tagged 1 k))
+              subst (λ (x : Totals). At regs′ out next x s) (sym (f .0)) (past regs′ (moreFamilies t) (i .few) (family-reached limit room l at next t (i .reached) (tagged 1 k))
               (family-runs limit room l at next t (i .reached) (tagged 1 k) regs ∙ ap (λ (x : List ℕ). restRun next (moreFamilies t) x) (sym (f .1))))
 
           go : (a b : Bool) → (a ≡ true → tag ≡ 1) → (b ≡ true → tag ≡ 2) → (a ≡ false → tag ≡ 1 → ⊥) → (b ≡ false → tag ≡ 2 → ⊥) → At regs′ out next t′ s
           go true b f g u v = family-on (f refl)
-          go false true f g u v = one-more true (two (g refl)) regs′ t′ long (m .quantum (g refl))
-          go false false f g u v = let k : tag ≡ 3 = (let x = u refl in let y = v refl in omega (arith, h .0, h .1)) in one-more false (three k) regs′ t′ long (m .classical k)
+          go false true f g u v = one-more true (two (g refl)) regs′ t′ (m .quantum (g refl))
+          go false false f g u v = let k : tag ≡ 3 = (let x = u refl in let y = v refl in omega (arith, h .0, h .1)) in one-more false (three k) regs′ t′ (m .classical k)
 
       -- ---- a field that declares nothing
       module _ (h : (tag ≡ 1 → ⊥) × (tag ≡ 2 → ⊥) × (tag ≡ 3 → ⊥)) where
-        pub acts-ready : Acceptable l → ActReady tag (slice (at + 3) next l) at
-        acts-ready a = act-ready limit room l at tag next t (i .reached) (a .short) e h
+        pub acts-ready : ActReady tag (slice (at + 3) next l)
+        acts-ready = act-ready limit room l at tag next t (i .reached) e h
 
         module _ (out' : List ℕ) (r : Answer)
             (d : (q b : ℕ) → Does out s out' r (acting limit (length out) (readTop (field at tag (slice (at + 3) next l))) (globalsIn limit (length out) l (t .families) (take (3 * t .registers) regs) q b))) where
@@ -137,7 +132,6 @@ module _ (limit : ℕ) (l out₀ : List ℕ) where
           pub acted-on : (u : State) → r ≡ Going u → length out' ≡ length out → At regs out' next t u
           acted-on u k n = record {
             reached = acting-reached limit room l at tag next t (i .reached) e h;
-            rows = i .rows;
             few = i .few;
             same = n ∙ i .same;
             onward = λ x q b. i .onward x q (acts-then limit room l at tag next e h (globalsOf limit room l t regs) out s out' r there u x q k b);

@@ -39,12 +39,12 @@ abbrev pub globalsIn : (limit room : ℕ) → (program : List ℕ) → (seen : �
 globalsIn limit room program seen regs qubits bits = record
     { families = take seen (allDeclared limit room (read program) []); registers = registersOf regs; qubits = qubits; bits = bits }
 
--- how statements at the top, and under a condition, are run
-abbrev pub topMode : (limit room seen : ℕ) → Mode
-topMode limit room seen = record { limit = limit; room = room; seen = seen; levels = deepest; back = false; cond = Always }
+-- how statements at the top, or those of a family with so many values, and those under a condition are run
+abbrev pub topMode : (limit seen many : ℕ) → Mode
+topMode limit seen many = record { limit = limit; seen = seen; levels = deepest; many = many; back = false; cond = Always }
 
-abbrev pub underMode : (limit room seen : ℕ) → Condition → Mode
-underMode limit room seen c = record { limit = limit; room = room; seen = seen; levels = 15; back = false; cond = c }
+abbrev pub underMode : (limit seen : ℕ) → Condition → Mode
+underMode limit seen c = record { limit = limit; seen = seen; levels = 15; many = 0; back = false; cond = c }
 
 -- the if with the content l, whose step is taken
 unfoldable pub ifRun : (limit room : ℕ) → Place → (l : List ℕ) → List Family → Frame → Run (Unit {0})
@@ -52,14 +52,18 @@ ifRun limit room p l fs f =
     bitOf p f (operandDue p 0 (fields (p + 4) (drop 1 l))) >>= (λ b.
     runStatements limit room (statementsBy (readStatement 15) (drop 1 (fields (p + 4) (drop 1 l)))) fs (inCondition f (whenBit b (getD l 0 0))))
 
--- the content of an if at p: it begins with a value that a bit can have
-pub record IfReady (l : List ℕ) (p : Place) : Type 0 where
+-- a whole field from `at` to `next`, in a program that is not too long
+pub record Within (l : List ℕ) (at next : ℕ) : Type 0 where
+  pub low : at + 3 ≤ next
+  pub high : next ≤ length l
+  pub short : length l ≤ longestProgram
+
+-- the content of an if: it begins with a value that a bit can have
+pub record IfReady (l : List ℕ) : Type 0 where
   pub long : 1 ≤ length l
   pub value : getD l 0 0 ≤ 1
-  pub near : p + 3 + length l ≤ longestProgram
 
--- the content of a field at p that declares nothing
-pub record ActReady (tag : ℕ) (l : List ℕ) (p : Place) : Type 0 where
+-- the content of a field that declares nothing
+pub record ActReady (tag : ℕ) (l : List ℕ) : Type 0 where
   pub apart : (tag ≡ 1 → ⊥) × (tag ≡ 2 → ⊥) × (tag ≡ 3 → ⊥)
-  pub near : p + 3 + length l ≤ longestProgram
-  pub ready : tag ≡ 6 → IfReady l p
+  pub ready : tag ≡ 6 → IfReady l

@@ -1,12 +1,11 @@
 // Whole runs and instances of accepted programs.
 ghost use mathlib.Core.Path.{_≡_};
-ghost use mathlib.Core.Logic.{_⊎_};
 ghost use mathlib.Core.Bool.{true};
 ghost use mathlib.Core.List.{[], _∷_, _++_};
 ghost use mathlib.Core.Option.{some};
 ghost use Prim.Native.Nat.{ℕ, _+_, _*_, _≤_, _<_};
-ghost use lib.ListN.{length, take, getD, getElem?};
-ghost use Rattle.language.specs.Tree.{Place};
+ghost use lib.ListN.{length, take, getElem?};
+ghost use lib.Seq.{slice};
 ghost use Rattle.language.specs.Read.{field, fields, read, readTop};
 ghost use Rattle.language.specs.Machine.{whenBit, runTops, runProgram, nothingYet, allDeclared, instanceRun};
 ghost use Rattle.language.specs.Result.{conclusionOf, instanceOf};
@@ -14,8 +13,9 @@ ghost use Rattle.operands.specs.Stand.{theBit, registersOf};
 ghost use Rattle.emit.specs.Squares.{Does, conditionOf};
 ghost use Rattle.gates.specs.Gates.{frameIn};
 ghost use Rattle.calls.specs.Families.{Entry, Tabled};
+ghost use Rattle.unroller.specs.Runs.{listRun};
 ghost use Rattle.runs.specs.Whole.{totalOf, moreLocations, registerFrom, sizeIn, Room, Acceptable, moreFamilies, DeclareReady, Declares, DeclaringTag, FullTable, started, familyWith};
-ghost use Rattle.runs.specs.Acting.{acting, globalsIn, topMode, underMode, ifRun, IfReady, ActReady};
+ghost use Rattle.runs.specs.Acting.{acting, globalsIn, topMode, underMode, ifRun, Within, IfReady, ActReady};
 ghost use Rattle.runs.specs.Concluded.{concluded};
 use emit::Answer;
 use emit::Condition;
@@ -40,11 +40,9 @@ pub struct Totals {
 }
 
 // Declares the register with this content: it goes to the table.
-fn register(p: &[u8], quantum: bool, t: Totals, regs: &mut [u16]) -> Totals
+fn register(p: &[u8], quantum: bool, t: Totals, regs: &mut [u16; 765]) -> Totals
     requires { ⌜ Room (now p) (t .registers) (totalOf quantum t) ⌝ }
-    requires { ⌜ length (now regs) ≡ 765 ⌝ }
     ensures { λ r. ⌜ r ≡ moreLocations quantum t (sizeIn (now (p .entry))) ⌝ }
-    ensures { λ _. ⌜ length (now (regs .exit)) ≡ 765 ⌝ }
     ensures { λ _. ⌜ registersOf (take (3 * (t .registers + 1)) (now (regs .exit))) ≡ registersOf (take (3 * t .registers) (now (regs .entry))) ++ (registerFrom quantum (totalOf quantum t) (sizeIn (now (p .entry))) ∷ []) ⌝ }
 {
     let n = fields::two_bytes(p, 0);
@@ -72,18 +70,20 @@ fn register(p: &[u8], quantum: bool, t: Totals, regs: &mut [u16]) -> Totals
     }
 }
 
-// The scope at the top: the registers of the table.
-fn top_scope() -> Scope
-    ensures { λ r. ⌜ r .top ≡ true ⌝ }
+// The scope at the top: the first so many registers of the table.
+fn top_scope(registers: usize) -> Scope
+    requires { ⌜ registers ≤ 255 ⌝ }
+    ensures { λ r. ⌜ (r .top ≡ true) × (r .count ≡ registers) ⌝ }
 {
     let none = Parameter {
         operand: Operand::Single(Wire(0)),
     };
     let params = [none; 8];
+    let count = registers as u8;
     Scope {
-        top: true,
-        count: 0,
         params,
+        count,
+        top: true,
     }
 }
 
@@ -98,152 +98,152 @@ fn condition(value: u8, b: Bit) -> Condition
     Condition::IsOne(b)
 }
 
-// How statements at the top are run.
-fn top_mode(limit: u64, room: usize, seen: u16) -> Mode
-    ensures { λ r. ⌜ r ≡ topMode limit room seen ⌝ }
+// How statements at the top are run, or those of a family with so many values.
+fn top_mode(limit: u64, seen: u16, many: u8) -> Mode
+    ensures { λ r. ⌜ r ≡ topMode limit seen many ⌝ }
 {
     Mode {
         limit,
-        room,
         seen,
         levels: 16,
+        many,
         back: false,
         cond: Condition::Always,
     }
 }
 
 // How statements under a condition are run.
-fn under_mode(limit: u64, room: usize, seen: u16, cond: Condition) -> Mode
-    ensures { λ r. ⌜ r ≡ underMode limit room seen cond ⌝ }
+fn under_mode(limit: u64, seen: u16, cond: Condition) -> Mode
+    ensures { λ r. ⌜ r ≡ underMode limit seen cond ⌝ }
 {
     Mode {
         limit,
-        room,
         seen,
         levels: 15,
+        many: 0,
         back: false,
         cond,
     }
 }
 
-// Runs the if with this content, whose tag is at `base` and whose step is taken.
+// Runs the statements of the program from `from` to `to`, once: the way into the cycle.
+fn once(
+    program: &[u8],
+    from: usize,
+    to: usize,
+    vars: &mut [i32; 20],
+    scope: Scope,
+    regs: &[u16; 765],
+    table: &[u16; 255],
+    m: Mode,
+    st: State,
+    out: &mut [u8],
+) -> Answer
+    requires { ⌜ (from ≤ to) × (to ≤ length (now program)) ⌝ }
+    requires { ⌜ m .many + m .levels ≤ 20 ⌝ }
+    requires { ⌜ Tabled (now program) (now table) (m .seen) ⌝ }
+    ensures { λ r. ⌜ Does (now (out .entry)) st (now (out .exit)) r (listRun m (length (now (out .entry))) from (slice from to (now (program .entry))) (now (program .entry)) (frameIn m (take (m .many) (now (vars .entry))) scope (now (regs .entry)))) ⌝ }
+{
+    unroller::run_list(
+        program,
+        0,
+        from,
+        to,
+        from,
+        0,
+        1,
+        false,
+        vars,
+        scope,
+        regs,
+        program,
+        table,
+        m,
+        st,
+        out,
+    )
+}
+
+// Runs the if from `at` to `to`, whose step is taken.
 fn conditional(
-    p: &[u8],
-    base: usize,
+    program: &[u8],
+    at: usize,
+    to: usize,
     seen: u16,
     scope: Scope,
-    regs: &[u16],
-    program: &[u8],
-    table: &[u16],
+    regs: &[u16; 765],
+    table: &[u16; 255],
     limit: u64,
     st: State,
     out: &mut [u8],
 ) -> Answer
-    requires { ⌜ IfReady (now p) base ⌝ }
+    requires { ⌜ Within (now program) at to ⌝ }
+    requires { ⌜ IfReady (slice (at + 3) to (now program)) ⌝ }
     requires { ⌜ Tabled (now program) (now table) seen ⌝ }
-    ensures { λ r. ⌜ Does (now (out .entry)) st (now (out .exit)) r (ifRun limit (length (now (out .entry))) base (now (p .entry)) (take seen (allDeclared limit (length (now (out .entry))) (read (now (program .entry))) [])) (frameIn (topMode limit (length (now (out .entry))) seen) [] scope (now (regs .entry)))) ⌝ }
+    ensures { λ r. ⌜ Does (now (out .entry)) st (now (out .exit)) r (ifRun limit (length (now (out .entry))) at (slice (at + 3) to (now (program .entry))) (take seen (allDeclared limit (length (now (out .entry))) (read (now (program .entry))) [])) (frameIn (topMode limit seen 0) [] scope (now (regs .entry)))) ⌝ }
 {
-    let none = [0i64; 1];
-    let vars = &none[..0];
-    let Header::Whole(_, mid) = fields::header_at(p, 1, p.len()) else {
+    let mut vars = [0i32; 20];
+    let from = at + 3;
+    let first = from + 1;
+    let Header::Whole(_, mid) = fields::header_at(program, first, to) else {
         return Answer::Stuck;
     };
-    match operands::bit_at(p, 1, vars, scope, regs) {
-        Bitten::Over => Answer::Ended(24, base, st),
+    let here = at as u16;
+    match operands::bit_at(program, first, to, &vars, 0, scope, regs) {
+        Bitten::Over => Answer::Ended(24, here, st),
         Bitten::Stuck => Answer::Stuck,
         Bitten::Is(b) => {
-            let m = under_mode(limit, out.len(), seen, condition(p[0], b));
-            let from = base + 3 + mid;
-            unroller::list(
-                &p[mid..],
-                from,
-                vars,
-                scope,
-                regs,
-                program,
-                table,
-                m,
-                st,
-                out,
-            )
+            let m = under_mode(limit, seen, condition(program[from], b));
+            once(program, mid, to, &mut vars, scope, regs, table, m, st, out)
         }
     }
 }
 
-// Runs the statement with this tag and content, whose field f is at `base`, at the top: a list of one field, so that the
-// cycle has one way in.
-fn statement_at_top(
-    p: &[u8],
-    f: &[u8],
-    base: usize,
-    tag: u8,
-    seen: u16,
-    regs: &[u16],
-    program: &[u8],
-    table: &[u16],
-    limit: u64,
-    st: State,
-    out: &mut [u8],
-) -> Answer
-    requires { ⌜ fields base (now f) ≡ (field base tag (now p) ∷ []) ⌝ }
-    requires { ⌜ base + length (now f) ≤ 65535 ⌝ }
-    requires { ⌜ Tabled (now program) (now table) seen ⌝ }
-    requires { ⌜ (tag < 1) ⊎ (6 < tag) ⌝ }
-    ensures { λ r. ⌜ ((q b : ℕ) → Does (now (out .entry)) st (now (out .exit)) r (acting limit (length (now (out .entry))) (readTop (field base tag (now (p .entry)))) (globalsIn limit (length (now (out .entry))) (now (program .entry)) seen (now (regs .entry)) q b))) ⌝ }
-{
-    let none = [0i64; 1];
-    let vars = &none[..0];
-    let scope = top_scope();
-    let m = top_mode(limit, out.len(), seen);
-    unroller::list(f, base, vars, scope, regs, program, table, m, st, out)
-}
-
-// Runs the top field f with this tag and content, which is at `base` and declares nothing.
+// Runs the top field with this tag from `at` to `next`, which declares nothing, after so much is declared. A statement is a list
+// of one field, so that the cycle has one way in.
 fn act(
-    p: &[u8],
-    f: &[u8],
-    base: usize,
-    tag: u8,
-    seen: u16,
-    regs: &[u16],
     program: &[u8],
-    table: &[u16],
+    at: usize,
+    next: usize,
+    tag: u8,
+    t: Totals,
+    regs: &[u16; 765],
+    table: &[u16; 255],
     limit: u64,
     st: State,
     out: &mut [u8],
 ) -> Answer
-    requires { ⌜ ActReady tag (now p) base ⌝ }
-    requires { ⌜ fields base (now f) ≡ (field base tag (now p) ∷ []) ⌝ }
-    requires { ⌜ base + length (now f) ≤ 65535 ⌝ }
-    requires { ⌜ Tabled (now program) (now table) seen ⌝ }
-    ensures { λ r. ⌜ ((q b : ℕ) → Does (now (out .entry)) st (now (out .exit)) r (acting limit (length (now (out .entry))) (readTop (field base tag (now (p .entry)))) (globalsIn limit (length (now (out .entry))) (now (program .entry)) seen (now (regs .entry)) q b))) ⌝ }
+    requires { ⌜ ActReady tag (slice (at + 3) next (now program)) × Within (now program) at next ⌝ }
+    requires { ⌜ fields at (slice at next (now program)) ≡ (field at tag (slice (at + 3) next (now program)) ∷ []) ⌝ }
+    requires { ⌜ (t .registers ≤ 255) × (t .families ≤ 255) ⌝ }
+    requires { ⌜ Tabled (now program) (now table) (t .families) ⌝ }
+    ensures { λ r. ⌜ ((q b : ℕ) → Does (now (out .entry)) st (now (out .exit)) r (acting limit (length (now (out .entry))) (readTop (field at tag (slice (at + 3) next (now (program .entry))))) (globalsIn limit (length (now (out .entry))) (now (program .entry)) (t .families) (take (3 * t .registers) (now (regs .entry))) q b))) ⌝ }
 {
-    if tag == 0 {
-        return statement_at_top(p, f, base, tag, seen, regs, program, table, limit, st, out);
-    }
-    if 6 < tag {
-        return statement_at_top(p, f, base, tag, seen, regs, program, table, limit, st, out);
+    let mut vars = [0i32; 20];
+    let seen = t.families as u16;
+    let scope = top_scope(t.registers);
+    let m = top_mode(limit, seen, 0);
+    if tag == 0 || 6 < tag {
+        return once(program, at, next, &mut vars, scope, regs, table, m, st, out);
     }
     let steps = st.steps;
     if limit <= steps {
-        return Answer::Ended(26, base, st);
+        let here = at as u16;
+        return Answer::Ended(26, here, st);
     }
     let taken = steps + 1;
     let s = State {
         at: st.at,
         steps: taken,
     };
-    let none = [0i64; 1];
-    let vars = &none[..0];
-    let scope = top_scope();
-    let m = top_mode(limit, out.len(), seen);
+    let from = at + 3;
     if tag == 4 {
-        return tops::measure(p, base, vars, scope, regs, m, s, out);
+        return tops::measure(program, from, next, at, &vars, scope, regs, m, s, out);
     }
     if tag == 5 {
-        return tops::reset(p, base, vars, scope, regs, m, s, out);
+        return tops::reset(program, from, next, at, &vars, scope, regs, m, s, out);
     }
-    conditional(p, base, seen, scope, regs, program, table, limit, s, out)
+    conditional(program, at, next, seen, scope, regs, table, limit, s, out)
 }
 
 // One family more.
@@ -261,11 +261,9 @@ fn more_families(t: Totals) -> Totals
 }
 
 // Declares what the top field with this tag and content declares.
-fn declare(p: &[u8], tag: u8, t: Totals, regs: &mut [u16]) -> Totals
+fn declare(p: &[u8], tag: u8, t: Totals, regs: &mut [u16; 765]) -> Totals
     requires { ⌜ DeclareReady tag (now p) t ⌝ }
-    requires { ⌜ length (now regs) ≡ 765 ⌝ }
     ensures { λ r. ⌜ Declares tag (now (p .entry)) t (now (regs .entry)) (now (regs .exit)) r ⌝ }
-    ensures { λ _. ⌜ length (now (regs .exit)) ≡ 765 ⌝ }
 {
     if tag == 1 {
         return more_families(t);
@@ -294,10 +292,15 @@ fn narrow(n: usize) -> u16
 }
 
 // Runs the top fields of a program, one after the other. The table of families is full, and that of registers is filled.
-fn top_fields(program: &[u8], table: &[u16], regs: &mut [u16], limit: u64, out: &mut [u8]) -> Answer
+fn top_fields(
+    program: &[u8],
+    table: &[u16; 255],
+    regs: &mut [u16; 765],
+    limit: u64,
+    out: &mut [u8],
+) -> Answer
     requires { ⌜ Acceptable (now program) ⌝ }
     requires { ⌜ FullTable (now program) (now table) ⌝ }
-    requires { ⌜ length (now regs) ≡ 765 ⌝ }
     ensures { λ r. ⌜ Does (now (out .entry)) started (now (out .exit)) r (runTops limit (length (now (out .entry))) (read (now (program .entry))) nothingYet) ⌝ }
 {
     let to = program.len();
@@ -316,27 +319,12 @@ fn top_fields(program: &[u8], table: &[u16], regs: &mut [u16], limit: u64, out: 
             Header::Whole(tag, next) => {
                 let from = at + 3;
                 let p = &program[from..next];
-                let f = &program[at..next];
                 if is_declaring(tag) {
                     t = declare(p, tag, t, regs);
                     at = next;
                     continue;
                 }
-                let count = 3 * t.registers;
-                let seen = narrow(t.families);
-                let r = act(
-                    p,
-                    f,
-                    at,
-                    tag,
-                    seen,
-                    &regs[..count],
-                    program,
-                    table,
-                    limit,
-                    s,
-                    out,
-                );
+                let r = act(program, at, next, tag, t, regs, table, limit, s, out);
                 let Answer::Going(u) = r else {
                     return r;
                 };
@@ -363,44 +351,39 @@ fn placed(
     program: &[u8],
     at: usize,
     k: u16,
-    table: &[u16],
-    values: &[i64],
+    table: &[u16; 255],
+    values: &mut [i32; 20],
+    many: u8,
     limit: u64,
     out: &mut [u8],
 ) -> Answer
     requires { ⌜ Entry (now program) k at ⌝ }
     requires { ⌜ Tabled (now program) (now table) k ⌝ }
-    requires { ⌜ length (now values) ≤ 4 ⌝ }
-    ensures { λ r. ⌜ Does (now (out .entry)) started (now (out .exit)) r (instanceRun (familyWith limit (length (now (out .entry))) (now (program .entry)) k at) (now (values .entry))) ⌝ }
+    requires { ⌜ many ≤ 4 ⌝ }
+    ensures { λ r. ⌜ Does (now (out .entry)) started (now (out .exit)) r (instanceRun (familyWith limit (length (now (out .entry))) (now (program .entry)) k at) (take many (now (values .entry)))) ⌝ }
 {
-    let start = State { at: 0, steps: 0 };
+    let st = State { at: 0, steps: 0 };
     let to = calls::past(program, at);
     let from = at + 5;
     let count = fields::wide(program[at + 4]);
-    let laid = layout::lay_out(&program[from..to], from, count, values);
+    let laid = layout::lay_out(program, from, to, count, values, fields::wide(many));
     let answer = laid.answer;
     match answer {
-        Layout::Past(p) => Answer::Ended(23, p, start),
-        Layout::Over(p) => Answer::Ended(24, p, start),
+        Layout::Past(p) => {
+            let past = p as u16;
+            Answer::Ended(23, past, st)
+        }
+        Layout::Over(p) => {
+            let over = p as u16;
+            Answer::Ended(24, over, st)
+        }
         Layout::Stuck => Answer::Stuck,
         Layout::Done => {
-            let body = calls::body_of(program, at);
-            let base = to - body.len();
-            let m = top_mode(limit, out.len(), k);
-            let none = [0u16; 1];
+            let body = calls::body_start(program, at);
+            let m = top_mode(limit, k, many);
+            let none = [0u16; 765];
             let scope = laid.scope;
-            unroller::list(
-                body,
-                base,
-                values,
-                scope,
-                &none[..0],
-                program,
-                table,
-                m,
-                start,
-                out,
-            )
+            once(program, body, to, values, scope, &none, table, m, st, out)
         }
     }
 }
@@ -410,7 +393,7 @@ fn sized(
     program: &[u8],
     at: usize,
     k: u16,
-    table: &[u16],
+    table: &[u16; 255],
     sizes: &[u8],
     limit: u64,
     out: &mut [u8],
@@ -420,12 +403,13 @@ fn sized(
     ensures { λ r. ⌜ concluded (now (out .exit)) r ≡ instanceOf (some (familyWith limit (length (now (out .entry))) (now (program .entry)) k at)) (now (sizes .entry)) (now (out .entry)) ⌝ }
 {
     let none = State { at: 0, steps: 0 };
-    let m = fields::wide(program[at + 3]);
-    let mut values = [0i64; 4];
+    let many = program[at + 3];
+    let m = fields::wide(many);
+    let mut values = [0i32; 20];
     match layout::read_sizes(sizes, m, &mut values) {
         Sizes::WrongLength => Answer::Ended(21, 0, none),
         Sizes::TooLarge => Answer::Ended(22, 0, none),
-        Sizes::Fit => placed(program, at, k, table, &values[..m], limit, out),
+        Sizes::Fit => placed(program, at, k, table, &mut values, many, limit, out),
     }
 }
 

@@ -1,129 +1,259 @@
 // The unroller's cycle: statements, lists, rounds and calls.
 ghost use mathlib.Core.Path.{_≡_};
-ghost use mathlib.Core.Bool.{true};
-ghost use Prim.Native.Nat.{ℕ, _+_, _<_, _≤_};
-ghost use lib.ListN.{length};
-ghost use Rattle.language.specs.Form.{inRange};
+ghost use Prim.Native.Nat.{_+_, _-_, _<_, _≤_};
+ghost use lib.ListN.{length, getD, take};
+ghost use lib.Seq.{slice};
 ghost use Rattle.emit.specs.Squares.{Does};
-ghost use Rattle.gates.specs.Gates.{frameIn};
+ghost use Rattle.gates.specs.Gates.{frameIn, Enterable};
 ghost use Rattle.calls.specs.Families.{Tabled};
-ghost use Rattle.unroller.specs.Runs.{Ready, oneRun, listRun, eachRun, callRun};
+ghost use Rattle.unroller.specs.Runs.{Ready, Often, Turns, Turned, Completes, oneRun, timesRun, keptIn};
 use calls::Taken;
 use emit::Answer;
 use emit::State;
 use fields::Header;
-use gates::Bounds;
 use gates::Mode;
+use gates::Repeats;
+use lists::Begun;
 use operands::Scope;
 
 fn wider(x: u8) -> u16
-    ensures { λ r. ⌜ (r ≡ x) × (r < 256) ⌝ }
+    ensures { λ r. ⌜ r ≡ x ⌝ }
 {
     x as u16
 }
 
 fn long(x: u16) -> usize
-    ensures { λ r. ⌜ (r ≡ x) × (r < 65536) ⌝ }
+    ensures { λ r. ⌜ r ≡ x ⌝ }
 {
     x as usize
 }
 
-// An array tells how long it is.
-fn tell(sizes: [i64; 4])
-    ensures { λ _. ⌜ length sizes ≡ 4 ⌝ }
+// A table tells how long it is.
+fn tell_table(table: [u16; 255])
+    ensures { λ _. ⌜ length table ≡ 255 ⌝ }
 {}
 
-// Runs the statement with this tag and content, whose tag is at `base`.
-fn one(
+// Where the table says that the family n is.
+fn listed(table: &[u16; 255], n: u8) -> usize
+    requires { ⌜ n < length (now table) ⌝ }
+    ensures { λ r. ⌜ r ≡ getD (now (table .entry)) n 0 ⌝ }
+{
+    tell_table(*table);
+    long(table[fields::wide(n)])
+}
+
+// An array tells how long it is.
+fn tell(vars: [i32; 20])
+    ensures { λ _. ⌜ length vars ≡ 20 ⌝ }
+{}
+
+// Begins the round i of a list: of a loop it takes a step and sets the loop's variable, the last of the values in scope.
+fn begin_round(
+    place: usize,
+    start: i64,
+    i: usize,
+    looping: bool,
+    vars: &mut [i32; 20],
+    m: Mode,
+    st: State,
+) -> Answer
+    requires { ⌜ (place ≤ 65535) × (m .many ≤ 20) ⌝ }
+    requires { ⌜ Turns looping m start i ⌝ }
+    ensures { λ r. ⌜ Turned looping m place start i (now (vars .entry)) (now (vars .exit)) st r ⌝ }
+{
+    if !looping {
+        return Answer::Going(st);
+    }
+    let steps = st.steps;
+    if m.limit <= steps {
+        return Answer::Ended(26, place as u16, st);
+    }
+    let taken = steps + 1;
+    let last = fields::wide(m.many) - 1;
+    tell(*vars);
+    vars[last] = gates::turn(m.back, start, i);
+    Answer::Going(State {
+        at: st.at,
+        steps: taken,
+    })
+}
+
+// Runs the statement with this tag and the content from `from` to `to`, whose tag is at `place` of the program.
+fn run_statement(
     p: &[u8],
     base: usize,
+    from: usize,
+    to: usize,
+    place: usize,
     tag: u8,
-    vars: &[i64],
+    vars: &mut [i32; 20],
     scope: Scope,
-    regs: &[u16],
+    regs: &[u16; 765],
     program: &[u8],
-    table: &[u16],
+    table: &[u16; 255],
     m: Mode,
     st: State,
     out: &mut [u8],
 ) -> Answer
-    requires { ⌜ Ready m (length (now vars)) (length (now out)) (base + 3) (length (now p)) ⌝ }
+    requires { ⌜ Ready m base from to (length (now p)) place ⌝ }
+    requires { ⌜ base + from ≡ place + 3 ⌝ }
     requires { ⌜ Tabled (now program) (now table) (m .seen) ⌝ }
-    ensures { λ r. ⌜ Does (now (out .entry)) st (now (out .exit)) r (oneRun m base tag (now (p .entry)) (now (program .entry)) (frameIn m (now (vars .entry)) scope (now (regs .entry)))) ⌝ }
+    ensures { λ r. ⌜ Does (now (out .entry)) st (now (out .exit)) r (oneRun m (length (now (out .entry))) place tag (slice from to (now (p .entry))) (now (program .entry)) (frameIn m (take (m .many) (now (vars .entry))) scope (now (regs .entry)))) × (take (m .many) (now (vars .exit)) ≡ take (m .many) (now (vars .entry))) ⌝ }
 {
-    let r = gates::step(tag, p.len(), base, m, st);
+    let size = to - from;
+    let r = gates::step(tag, size, place, m, st);
     let Answer::Going(s) = r else {
         return r;
     };
     if tag < 36 {
-        return gates::act(p, tag, base, vars, scope, regs, m, s, out);
+        return gates::act(p, from, to, tag, place, vars, scope, regs, m, s, out);
     }
     if tag == 36 {
-        return call(p, base, vars, scope, regs, program, table, m, s, out);
+        return run_call(
+            p,
+            base,
+            from,
+            to,
+            place,
+            vars,
+            scope,
+            regs,
+            program,
+            table,
+            m,
+            s,
+            out,
+        );
     }
-    let inner = base + 3;
-    if tag == 37 {
-        let n = gates::deeper(m, !m.back);
-        return list(p, inner, vars, scope, regs, program, table, n, s, out);
-    }
-    match gates::bounds_of(p, vars) {
-        Bounds::Are(x, y, from) => {
-            let body = inner + from;
-            each(
-                &p[from..],
-                body,
+    run_rounds(
+        p,
+        base,
+        from,
+        to,
+        place,
+        tag,
+        vars,
+        scope,
+        regs,
+        program,
+        table,
+        m,
+        s,
+        out,
+    )
+}
+
+// Runs the body of the reverse or the for with this content, whose step is taken.
+fn run_rounds(
+    p: &[u8],
+    base: usize,
+    from: usize,
+    to: usize,
+    place: usize,
+    tag: u8,
+    vars: &mut [i32; 20],
+    scope: Scope,
+    regs: &[u16; 765],
+    program: &[u8],
+    table: &[u16; 255],
+    m: Mode,
+    st: State,
+    out: &mut [u8],
+) -> Answer
+    requires { ⌜ Ready m base from to (length (now p)) place ⌝ }
+    requires { ⌜ base + from ≡ place + 3 ⌝ }
+    requires { ⌜ Tabled (now program) (now table) (m .seen) ⌝ }
+    requires { ⌜ Enterable m tag (to - from) × (36 < tag) ⌝ }
+    ensures { λ r. ⌜ Completes m tag (to - from) (now (out .entry)) st (now (out .exit)) r (oneRun m (length (now (out .entry))) place tag (slice from to (now (p .entry))) (now (program .entry)) (frameIn m (take (m .many) (now (vars .entry))) scope (now (regs .entry)))) × (take (m .many) (now (vars .exit)) ≡ take (m .many) (now (vars .entry))) ⌝ }
+{
+    let many = fields::wide(m.many);
+    match gates::repeats_of(p, from, to, tag, vars, many, m.back) {
+        Repeats::Over => Answer::Ended(24, place as u16, st),
+        Repeats::Stuck => Answer::Stuck,
+        Repeats::Are(start, total, body) => {
+            let n = gates::inner(m, tag);
+            run_list(
+                p,
                 base,
-                x,
-                y,
+                body,
+                to,
+                place,
+                start,
+                total,
+                tag == 38,
                 vars,
                 scope,
                 regs,
                 program,
                 table,
-                m,
-                s,
+                n,
+                st,
                 out,
             )
         }
-        Bounds::Over => Answer::Ended(24, base, s),
-        Bounds::Stuck => Answer::Stuck,
     }
 }
 
-// Runs a list, whose first tag is at `base`.
-pub fn list(
+// Runs a list so many times: once, or in rounds of the for at `place`.
+pub fn run_list(
     p: &[u8],
     base: usize,
-    vars: &[i64],
+    from: usize,
+    to: usize,
+    place: usize,
+    start: i64,
+    total: usize,
+    looping: bool,
+    vars: &mut [i32; 20],
     scope: Scope,
-    regs: &[u16],
+    regs: &[u16; 765],
     program: &[u8],
-    table: &[u16],
+    table: &[u16; 255],
     m: Mode,
     st: State,
     out: &mut [u8],
 ) -> Answer
-    requires { ⌜ Ready m (length (now vars)) (length (now out)) base (length (now p)) ⌝ }
+    requires { ⌜ Ready m base from to (length (now p)) place ⌝ }
     requires { ⌜ Tabled (now program) (now table) (m .seen) ⌝ }
-    ensures { λ r. ⌜ Does (now (out .entry)) st (now (out .exit)) r (listRun m base (now (p .entry)) (now (program .entry)) (frameIn m (now (vars .entry)) scope (now (regs .entry)))) ⌝ }
+    requires { ⌜ Often looping m start total ⌝ }
+    ensures { λ r. ⌜ Does (now (out .entry)) st (now (out .exit)) r (timesRun looping m (length (now (out .entry))) base from to place start total (now (p .entry)) (now (program .entry)) (frameIn m (take (keptIn m looping) (now (vars .entry))) scope (now (regs .entry)))) × (take (keptIn m looping) (now (vars .exit)) ≡ take (keptIn m looping) (now (vars .entry))) ⌝ }
 {
     let back = m.back;
-    if lists::broken(p, back) {
-        return Answer::Stuck;
-    }
-    let mut w = lists::whole(p.len());
+    let mut cuts = [0u16; lists::KEPT];
+    let mut w = lists::whole(to, to, 0, 0);
+    let mut i: usize = 0;
     let mut s = st;
-    while w.at < w.to {
-        w = lists::seek(p, w, back);
+    loop {
+        if w.to <= w.at {
+            if total <= i {
+                return Answer::Going(s);
+            }
+            let r = begin_round(place, start, i, looping, vars, m, s);
+            let Answer::Going(t) = r else {
+                return r;
+            };
+            let Begun::With(depth, sure) = lists::begin(p, from, to, back, &mut cuts) else {
+                return Answer::Stuck;
+            };
+            s = t;
+            w = lists::whole(from, to, depth, sure);
+            i += 1;
+            continue;
+        }
+        w = lists::seek(p, w, back, &mut cuts);
         let here = w.here;
-        let Header::Whole(tag, end) = fields::header_at(p, here, p.len()) else {
+        let upto = w.to;
+        let Header::Whole(tag, next) = fields::header_at(p, here, upto) else {
             return Answer::Stuck;
         };
-        let from = here + 3;
-        let place = base + here;
-        let r = one(
-            &p[from..end],
-            place,
+        let content = here + 3;
+        let at = base + here;
+        let r = run_statement(
+            p,
+            base,
+            content,
+            next,
+            at,
             tag,
             vars,
             scope,
@@ -138,113 +268,72 @@ pub fn list(
             return r;
         };
         s = t;
-        w = lists::passed(w, back, end);
+        w = lists::passed(w, back, next);
     }
-    Answer::Going(s)
-}
-
-// Runs the rounds of the for at `place`, whose body's first tag is at `base`.
-fn each(
-    p: &[u8],
-    base: usize,
-    place: usize,
-    x: i64,
-    y: i64,
-    vars: &[i64],
-    scope: Scope,
-    regs: &[u16],
-    program: &[u8],
-    table: &[u16],
-    m: Mode,
-    st: State,
-    out: &mut [u8],
-) -> Answer
-    requires { ⌜ Ready m (length (now vars)) (length (now out)) base (length (now p)) ⌝ }
-    requires { ⌜ Tabled (now program) (now table) (m .seen) ⌝ }
-    requires { ⌜ (inRange x ≡ true) × (inRange y ≡ true) × (0 < m .levels) ⌝ }
-    ensures { λ r. ⌜ Does (now (out .entry)) st (now (out .exit)) r (eachRun m base place x y (now (p .entry)) (now (program .entry)) (frameIn m (now (vars .entry)) scope (now (regs .entry)))) ⌝ }
-{
-    let total = gates::tally(x, y);
-    let inner = gates::deeper(m, m.back);
-    let last = vars.len();
-    let count = last + 1;
-    let mut all = [0i64; 20];
-    gates::copied(vars, &mut all);
-    let mut i: usize = 0;
-    let mut s = st;
-    while i < total {
-        let steps = s.steps;
-        if m.limit <= steps {
-            return Answer::Ended(26, place, s);
-        }
-        let taken = steps + 1;
-        let e = State {
-            at: s.at,
-            steps: taken,
-        };
-        all[last] = gates::turn(m.back, x, y, i);
-        let r = list(
-            p,
-            base,
-            &all[..count],
-            scope,
-            regs,
-            program,
-            table,
-            inner,
-            e,
-            out,
-        );
-        let Answer::Going(t) = r else {
-            return r;
-        };
-        s = t;
-        i += 1;
-    }
-    Answer::Going(s)
 }
 
 // Runs the call with this content, whose step is taken: the body of the family that it names.
-fn call(
+fn run_call(
     p: &[u8],
     base: usize,
-    vars: &[i64],
+    from: usize,
+    to: usize,
+    place: usize,
+    vars: &[i32; 20],
     scope: Scope,
-    regs: &[u16],
+    regs: &[u16; 765],
     program: &[u8],
-    table: &[u16],
+    table: &[u16; 255],
     m: Mode,
     st: State,
     out: &mut [u8],
 ) -> Answer
-    requires { ⌜ Ready m (length (now vars)) (length (now out)) (base + 3) (length (now p)) ⌝ }
+    requires { ⌜ Ready m base from to (length (now p)) place ⌝ }
+    requires { ⌜ base + from ≡ place + 3 ⌝ }
     requires { ⌜ Tabled (now program) (now table) (m .seen) ⌝ }
-    requires { ⌜ 1 ≤ length (now p) ⌝ }
-    ensures { λ r. ⌜ Does (now (out .entry)) st (now (out .exit)) r (callRun m base (now (p .entry)) (now (program .entry)) (frameIn m (now (vars .entry)) scope (now (regs .entry)))) ⌝ }
+    requires { ⌜ Enterable m 36 (to - from) ⌝ }
+    ensures { λ r. ⌜ Completes m 36 (to - from) (now (out .entry)) st (now (out .exit)) r (oneRun m (length (now (out .entry))) place 36 (slice from to (now (p .entry))) (now (program .entry)) (frameIn m (take (m .many) (now (vars .entry))) scope (now (regs .entry)))) ⌝ }
 {
-    let n = p[0];
+    let n = p[from];
     let number = wider(n);
     if m.seen <= number {
         return Answer::Stuck;
     }
-    let at = long(table[fields::wide(n)]);
-    let mut sizes = [0i64; 4];
-    let g = calls::arguments(p, program, at, vars, scope, regs, &mut sizes);
-    let t = g.taken;
-    match t {
-        Taken::Over => Answer::Ended(24, base, st),
+    let at = listed(table, n);
+    let many = fields::wide(m.many);
+    let mut sizes = [0i32; 20];
+    let mut given = [0u16; 24];
+    let first = from + 1;
+    match calls::arguments(
+        p,
+        first,
+        to,
+        program,
+        at,
+        vars,
+        many,
+        scope,
+        regs,
+        &mut sizes,
+        &mut given,
+    ) {
+        Taken::Over => Answer::Ended(24, place as u16, st),
         Taken::Stuck => Answer::Stuck,
-        Taken::All => {
-            tell(sizes);
-            let body = calls::body_of(program, at);
-            let place = calls::past(program, at) - body.len();
-            let many = fields::wide(program[at + 3]);
-            let inner = gates::entered(m, number);
-            list(
+        Taken::All(count, start) => {
+            let body = calls::body_of(program, at, start);
+            let size = body.len();
+            let inner = gates::entered(m, number, program[at + 3]);
+            run_list(
                 body,
+                start,
+                0,
+                size,
                 place,
-                &sizes[..many],
-                g.scope,
+                0,
+                1,
+                false,
+                &mut sizes,
+                calls::scope_of(&given, count),
                 regs,
                 program,
                 table,

@@ -1,50 +1,85 @@
--- `gates::turn` meets its contract. Assumes nothing.
-use borrow.Author.Needs.{needs}
 use Rattle.gates.proofs.turn.Statement.{statement}
 use Rattle.gates.proofs.turn.Tie as tie
 use Rattle.gates.proofs.turn.Reads as reads
 use Rattle.gates.proofs.turn.Lts as lts
-use Prim.Native.Nat.{_+_}
+use Prim.Native.Nat.{_+_, _≤_}
 use mathlib.Core.Path.{_≡_, refl, _∙_, ap, sym}
 use mathlib.Core.Bool.{true, false}
 use native.Mathlib.Omega.{arith}
 use lib.IntN.{pos, _+ℤ_, _-ℤ_}
-use mir.Syntax.{w64}
+use mir.Syntax.{w32, w64}
 use mir.Val.{toZ, ofZ}
 use mir.ValLaws.{toZ-ofZ, toZ-pos}
-use Rattle.language.proofs.Integers.{range-back}
-use Rattle.gates.specs.Gates.{turnOf}
-use Rattle.gates.proofs.Looping.{turn-sum, turn-difference}
+use Rattle.language.specs.Form.{inRange}
+use Rattle.language.proofs.Integers.{range-back, range-fits}
+use Rattle.gates.proofs.Rounding.{turn-small, turn-up, turn-down, narrow}
 
+-- src/lib.rt:196:13
 cast-k : tie.Need-cast-k
 cast-k c =
-    search needs
+    let a = c .args in
+    let s = turn-small (a .back) (a .start) (a .i) (c .pre .0) (c .pre .1) in
+    record { sfits = omega arith }
 
-sub-result : tie.Need-sub-result
-sub-result c =
+-- src/lib.rt:198:17
+sub-z : tie.Need-sub-z
+sub-z c =
     let a = c .before .args in
+    let s = turn-small (a .back) (a .start) (a .i) (c .before .pre .0) (c .before .pre .1) in
+    let e = turn-down (a .back) (a .start) (a .i) (c .if1 .taken) in
     let k : toZ w64 (a .i) ≡ pos (a .i) = toZ-pos w64 (a .i) (omega arith) in
-    rw (range-back {z = a .y} (c .before .pre .1), k) (turn-difference (a .y) (a .i) (c .before .pre .1) (c .before .pre .2))
+    let h : inRange (a .start -ℤ pos (a .i)) ≡ true = sym (ap inRange e) ∙ c .before .pre .1 in
+    rw (range-back {z = a .start} (c .before .pre .0), k) (range-fits (a .start -ℤ pos (a .i)) h)
 
+-- src/lib.rt:199:16
+cast-result : tie.Need-cast-result
+cast-result c =
+    let a = c .before .args in
+    let s = turn-small (a .back) (a .start) (a .i) (c .before .pre .0) (c .before .pre .1) in
+    let e = turn-down (a .back) (a .start) (a .i) (c .if1 .taken) in
+    let k : toZ w64 (a .i) ≡ pos (a .i) = toZ-pos w64 (a .i) (omega arith) in
+    let h : inRange (a .start -ℤ pos (a .i)) ≡ true = sym (ap inRange e) ∙ c .before .pre .1 in
+    rw (range-back {z = a .start} (c .before .pre .0), k, range-back {z = (a .start -ℤ pos (a .i))} h) (narrow (a .start -ℤ pos (a .i)) h)
+
+-- src/lib.rt:199:9
 returns : tie.Need-returns
-unfolding turnOf
 returns c =
     let a = c .before .args in
+    let s = turn-small (a .back) (a .start) (a .i) (c .before .pre .0) (c .before .pre .1) in
+    let e = turn-down (a .back) (a .start) (a .i) (c .if1 .taken) in
     let k : toZ w64 (a .i) ≡ pos (a .i) = toZ-pos w64 (a .i) (omega arith) in
-    rw (range-back {z = a .y} (c .before .pre .1), k, c .if1 .taken, toZ-ofZ w64 (a .y -ℤ pos (a .i)) (turn-difference (a .y) (a .i) (c .before .pre .1) (c .before .pre .2)))
+    let h : inRange (a .start -ℤ pos (a .i)) ≡ true = sym (ap inRange e) ∙ c .before .pre .1 in
+    rw (range-back {z = a .start} (c .before .pre .0), k, range-back {z = (a .start -ℤ pos (a .i))} h, toZ-ofZ w32 (a .start -ℤ pos (a .i)) (narrow (a .start -ℤ pos (a .i)) h)) (sym e)
 
-add-result : tie.Need-add-result
-add-result c =
+-- src/lib.rt:201:13
+add-z : tie.Need-add-z
+add-z c =
     let a = c .before .args in
+    let s = turn-small (a .back) (a .start) (a .i) (c .before .pre .0) (c .before .pre .1) in
+    let e = turn-up (a .back) (a .start) (a .i) (c .if1 .left) in
     let k : toZ w64 (a .i) ≡ pos (a .i) = toZ-pos w64 (a .i) (omega arith) in
-    rw (range-back {z = a .x} (c .before .pre .0), k) (turn-sum (a .x) (a .i) (c .before .pre .0) (c .before .pre .2))
+    let h : inRange (a .start +ℤ pos (a .i)) ≡ true = sym (ap inRange e) ∙ c .before .pre .1 in
+    rw (range-back {z = a .start} (c .before .pre .0), k) (range-fits (a .start +ℤ pos (a .i)) h)
 
+-- src/lib.rt:202:5
+cast-result-2 : tie.Need-cast-result-2
+cast-result-2 c =
+    let a = c .before .args in
+    let s = turn-small (a .back) (a .start) (a .i) (c .before .pre .0) (c .before .pre .1) in
+    let e = turn-up (a .back) (a .start) (a .i) (c .if1 .left) in
+    let k : toZ w64 (a .i) ≡ pos (a .i) = toZ-pos w64 (a .i) (omega arith) in
+    let h : inRange (a .start +ℤ pos (a .i)) ≡ true = sym (ap inRange e) ∙ c .before .pre .1 in
+    rw (range-back {z = a .start} (c .before .pre .0), k, range-back {z = (a .start +ℤ pos (a .i))} h) (narrow (a .start +ℤ pos (a .i)) h)
+
+-- src/lib.rt:192:1
 returns-2 : tie.Need-returns-2
-unfolding turnOf
 returns-2 c =
     let a = c .before .args in
+    let s = turn-small (a .back) (a .start) (a .i) (c .before .pre .0) (c .before .pre .1) in
+    let e = turn-up (a .back) (a .start) (a .i) (c .if1 .left) in
     let k : toZ w64 (a .i) ≡ pos (a .i) = toZ-pos w64 (a .i) (omega arith) in
-    rw (range-back {z = a .x} (c .before .pre .0), k, c .if1 .left, toZ-ofZ w64 (a .x +ℤ pos (a .i)) (turn-sum (a .x) (a .i) (c .before .pre .0) (c .before .pre .2)))
+    let h : inRange (a .start +ℤ pos (a .i)) ≡ true = sym (ap inRange e) ∙ c .before .pre .1 in
+    rw (range-back {z = a .start} (c .before .pre .0), k, range-back {z = (a .start +ℤ pos (a .i))} h, toZ-ofZ w32 (a .start +ℤ pos (a .i)) (narrow (a .start +ℤ pos (a .i)) h)) (sym e)
 
 pub turn-spec : {M : Type 1} → statement M
-turn-spec = tie.close (tie.spec cast-k sub-result returns add-result returns-2)
+turn-spec = tie.close (tie.spec cast-k sub-z cast-result returns add-z cast-result-2 returns-2)

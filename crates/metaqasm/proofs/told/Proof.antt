@@ -4,11 +4,9 @@ use Rattle.metaqasm.proofs.told.Tie as tie
 use Rattle.metaqasm.proofs.told.Reads as reads
 use Rattle.metaqasm.proofs.told.Lts as lts
 use Rattle.metaqasm.proofs.result.Reads as result-reads
-use mathlib.Core.Path.{_≡_, refl, sym, ap, _∙_, subst}
-use mathlib.Core.List.{List}
-use Prim.Native.Nat.{ℕ}
-use native.Mathlib.Omega.{arith}
-use Rattle.language.specs.Result.{Result, Conclusion, finished}
+use borrow.Author.Needs.{needs}
+use mathlib.Core.Path.{sym, ap, _∙_, subst}
+use Rattle.language.specs.Result.{Result, finished}
 use Rattle.runs.specs.Concluded.{concluded}
 use Rattle.metaqasm.specs.Answers.{Told}
 
@@ -30,26 +28,24 @@ enum-known-a-2 c =
 -- src/lib.rt:64:42
 cast-result : tie.Need-cast-result
 cast-result c =
-    let h = subst Told (c .before .a2 .given .1) (c .before .before .before .pre) in
-    omega (arith, h .0, h .1)
+    search needs
 
 -- src/lib.rt:64:52
 cast-result-2 : tie.Need-cast-result-2
 cast-result-2 c =
-    let h = subst Told (c .before .a2 .given .1) (c .before .before .before .pre) in
-    omega (arith, h .0, h .1)
+    search needs
 
 -- src/lib.rt:64:35
 result-requires-2 : tie.Need-result-requires-2
 result-requires-2 c κs =
     search needs
 
--- src/lib.rt:65:39
+-- src/lib.rt:66:48
 enum-told : tie.Need-enum-told
 enum-told c =
     search needs
 
--- src/lib.rt:65:26
+-- src/lib.rt:66:26
 result-requires-3 : tie.Need-result-requires-3
 result-requires-3 c κs =
     search needs

@@ -4,72 +4,101 @@ use Rattle.operands.proofs.wire_at.Tie as tie
 use Rattle.operands.proofs.wire_at.Reads as reads
 use Rattle.operands.proofs.wire_at.Lts as lts
 use Rattle.fields.proofs.header_at.Reads as header-at-reads
+use Rattle.fields.proofs.wide.Reads as wide-reads
 use Rattle.operands.proofs.as_wire.Reads as as-wire-reads
 use Rattle.operands.proofs.meaning.Reads as meaning-reads
-use Prim.Native.Nat.{_+_, _-_}
+use Rattle.operands.proofs.named.Reads as named-reads
+use Prim.Native.Nat.{_+_, _-_, _<_, _≤_}
+use borrow.Author.Tests.{ltb-true}
 use native.Mathlib.Omega.{arith}
 use denote.Ref.{now}
-use lib.ListN.{getD, take, drop}
+use lib.ListN.{length, getD, take, drop}
+use lib.Seq.{slice}
 use mathlib.Core.Path.{_≡_, refl, _∙_, ap, sym}
-use Rattle.fields.proofs.Parts.{when-part}
+use Rattle.fields.proofs.Between.{in-whole, not-empty, first-byte}
 use Rattle.operands.specs.Stand.{operandsOf, Operands}
-use Rattle.operands.proofs.Naming.{wire-none, wire-some}
+use Rattle.operands.proofs.Naming.{wire-none, wire-some, whole-operand}
 
--- src/lib.rt:210:34
+-- src/lib.rt:255:35
 header-at-requires : tie.Need-header-at-requires
 header-at-requires c κs =
     search needs
 
--- src/lib.rt:210:23
+-- src/lib.rt:255:23
 enum-known-tag : tie.Need-enum-known-tag
 enum-known-tag c =
     search needs
 
--- src/lib.rt:211:9
+-- src/lib.rt:256:9
 returns : tie.Need-returns
 returns c =
-    let a = c .before .before .before .before .args in
-    wire-none (now (a .p)) (a .at) (now (a .vars)) (operandsOf (a .scope) (now (a .regs))) (rw (c .before .header-at .ensures) at (c .match .keys2))
+    let a = c .before .before .before .args in
+    wire-none (now (a .p)) (a .at) (a .to) (take (a .many) (now (a .vars))) (operandsOf (a .scope) (now (a .regs))) (rw (c .before .header-at .ensures) at (c .match .keys2))
 
--- src/lib.rt:213:16
+-- src/lib.rt:258:16
 add-from : tie.Need-add-from
 add-from c =
-    let w = when-part (now (c .before .before .before .before .before .before .args .p)) (c .before .before .before .before .before .before .args .at) _ _ (sym (c .before .before .before .header-at .ensures) ∙ c .before .tag .given .1) in
-    omega (arith, w .low, w .high)
+    let a = c .before .before .before .before .before .args in
+    let f = in-whole (now (a .p)) (a .at) (a .to) _ _ (sym (c .before .before .before .header-at .ensures) ∙ c .before .tag .given .1) in
+    omega (arith, f .low, f .high)
 
--- src/lib.rt:214:21
-sub-meaning : tie.Need-sub-meaning
-sub-meaning c =
-    let w = when-part (now (c .before .before .before .before .before .before .args .p)) (c .before .before .before .before .before .before .args .at) _ _ (sym (c .before .before .before .header-at .ensures) ∙ c .before .tag .given .1) in
-    omega (arith, w .low, w .high)
+-- src/lib.rt:261:56
+shared-slice-read-wide : tie.Need-shared-slice-read-wide
+shared-slice-read-wide c =
+    let a = c .before .before .before .before .before .before .before .before .args in
+    let end = c .before .before .before .before .tag .given .0 .1 .0 in
+    let f = in-whole (now (a .p)) (a .at) (a .to) _ _ (sym (c .before .before .before .before .before .before .header-at .ensures) ∙ c .before .before .before .before .tag .given .1) in
+    let low = ltb-true (a .at + 3) end (c .before .if2 .taken) in
+    omega (arith, f .low, f .high)
 
--- src/lib.rt:214:21
-part-meaning-start : tie.Need-part-meaning-start
-part-meaning-start c =
-    let w = when-part (now (c .before .before .before .before .before .before .args .p)) (c .before .before .before .before .before .before .args .at) _ _ (sym (c .before .before .before .header-at .ensures) ∙ c .before .tag .given .1) in
-    omega (arith, w .low, w .high)
-
--- src/lib.rt:214:21
-part-meaning-end : tie.Need-part-meaning-end
-part-meaning-end c =
-    let w = when-part (now (c .before .before .before .before .before .before .args .p)) (c .before .before .before .before .before .before .args .at) _ _ (sym (c .before .before .before .header-at .ensures) ∙ c .before .tag .given .1) in
-    omega (arith, w .low, w .high)
-
--- src/lib.rt:214:13
-meaning-requires : tie.Need-meaning-requires
-meaning-requires c κs =
+-- src/lib.rt:261:43
+wide-requires : tie.Need-wide-requires
+wide-requires c κs =
     search needs
 
--- src/lib.rt:214:5
+-- src/lib.rt:261:24
+named-requires : tie.Need-named-requires
+named-requires c κs =
+    search needs
+
+-- src/lib.rt:261:9
 as-wire-requires : tie.Need-as-wire-requires
 as-wire-requires c κs =
     search needs
 
--- src/lib.rt:207:1
+-- src/lib.rt:261:9
 returns-2 : tie.Need-returns-2
 returns-2 c =
-    let a = c .before .before .before .before .before .before .before .before .before .args in
-    wire-some (now (a .p)) (a .at) (now (a .vars)) (operandsOf (a .scope) (now (a .regs))) _ _ (c .before .meaning .result) (c .as-wire .result) (sym (c .before .before .before .before .before .before .header-at .ensures) ∙ c .before .before .before .before .tag .given .1) (c .before .meaning .ensures) (c .as-wire .ensures)
+    let a = c .before .before .before .before .before .before .before .before .before .before .before .args in
+    let l = now (a .p) in
+    let v = take (a .many) (now (a .vars)) in
+    let ms = operandsOf (a .scope) (now (a .regs)) in
+    let e = sym (c .before .before .before .before .before .before .before .before .before .header-at .ensures) ∙ c .before .before .before .before .before .before .before .tag .given .1 in
+    let f = in-whole l (a .at) (a .to) _ _ e in
+    let end = c .before .before .before .before .before .before .before .tag .given .0 .1 .0 in
+    let low : a .at + 3 < end = ltb-true (a .at + 3) end (c .before .before .before .before .if2 .taken) in
+    let high : end ≤ length l = omega (arith, f .high) in
+    let n : c .before .before .wide .result ≡ getD (slice (a .at + 3) end l) 0 0 = c .before .before .wide .ensures .0 ∙ sym (first-byte l (a .at + 3) end low high) in
+    let o = whole-operand _ (slice (a .at + 3) end l) v ms (c .before .before .wide .result) (c .before .named .result) (not-empty l (a .at + 3) end low high) (c .before .before .before .before .before .if1 .taken) n (c .before .named .ensures) in
+    wire-some l (a .at) (a .to) v ms _ _ (c .before .named .result) (c .as-wire .result) e o (c .as-wire .ensures)
+
+-- src/lib.rt:263:13
+meaning-requires : tie.Need-meaning-requires
+meaning-requires c κs =
+    let a = c .before .before .before .before .before .before .args in
+    let f = in-whole (now (a .p)) (a .at) (a .to) _ _ (sym (c .before .before .before .before .header-at .ensures) ∙ c .before .before .tag .given .1) in
+    search needs
+
+-- src/lib.rt:263:5
+as-wire-requires-2 : tie.Need-as-wire-requires-2
+as-wire-requires-2 c κs =
+    search needs
+
+-- src/lib.rt:242:1
+returns-3 : tie.Need-returns-3
+returns-3 c =
+    let a = c .before .before .before .before .before .before .before .before .args in
+    wire-some (now (a .p)) (a .at) (a .to) (take (a .many) (now (a .vars))) (operandsOf (a .scope) (now (a .regs))) _ _ (c .before .meaning .result) (c .as-wire2 .result) (sym (c .before .before .before .before .before .before .header-at .ensures) ∙ c .before .before .before .before .tag .given .1) (c .before .meaning .ensures) (c .as-wire2 .ensures)
 
 pub wire-at-spec : {M : Type 1} → statement M
 wire-at-spec =
@@ -79,9 +108,11 @@ wire-at-spec =
     enum-known-tag
     returns
     add-from
-    sub-meaning
-    part-meaning-start
-    part-meaning-end
-    meaning-requires
+    shared-slice-read-wide
+    wide-requires
+    named-requires
     as-wire-requires
-    returns-2)
+    returns-2
+    meaning-requires
+    as-wire-requires-2
+    returns-3)

@@ -3,19 +3,19 @@ use Rattle.runs.proofs.condition.Tie as tie
 use Rattle.runs.proofs.condition.Reads as reads
 use Rattle.runs.proofs.condition.Lts as lts
 use Prim.Native.Nat.{ℕ}
-use mathlib.Core.Path.{_≡_, refl, sym, ap}
+use mathlib.Core.Path.{_≡_, sym, ap}
 use native.Mathlib.Omega.{arith}
 use Rattle.language.specs.Machine.{whenBit}
 use Rattle.operands.specs.Stand.{theBit}
 use Rattle.emit.specs.Squares.{conditionOf}
 
--- src/lib.rt:94:9
+-- src/lib.rt:96:9
 returns : tie.Need-returns
 unfolding conditionOf
 returns c =
     ap (λ (n : ℕ). whenBit (theBit (c .before .args .b .0)) n) (sym (c .if1 .taken))
 
--- src/lib.rt:89:1
+-- src/lib.rt:91:1
 returns-2 : tie.Need-returns-2
 unfolding conditionOf
 returns-2 c =

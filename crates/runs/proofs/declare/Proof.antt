@@ -1,60 +1,48 @@
-use borrow.Author.Needs.{needs}
 use Rattle.runs.proofs.declare.Statement.{statement}
 use Rattle.runs.proofs.declare.Tie as tie
 use Rattle.runs.proofs.declare.Reads as reads
 use Rattle.runs.proofs.declare.Lts as lts
 use Rattle.runs.proofs.more_families.Reads as more-families-reads
 use Rattle.runs.proofs.register.Reads as register-reads
-use Prim.Native.Nat.{ℕ, _+_}
-use mathlib.Core.Path.{_≡_, refl, sym, ap, _∙_}
+use Prim.Native.Nat.{ℕ}
+use mathlib.Core.Path.{_≡_, refl}
 use native.Mathlib.Omega.{arith}
-use denote.Ref.{now}
 use Rattle.runs.specs.Whole.{totalOf}
 
--- src/lib.rt:253:9
+-- src/lib.rt:281:9
 more-families-requires : tie.Need-more-families-requires
 more-families-requires c κs =
-    c .before .before .before .pre .0 .family (c .if1 .taken)
+    c .before .before .pre .family (c .if1 .taken)
 
--- src/lib.rt:253:9
+-- src/lib.rt:281:9
 returns : tie.Need-returns
 returns c =
     let e = c .before .if1 .taken in
-    (record { family = λ _. (c .more-families .ensures, refl); quantum = λ h. absurd (omega (arith, e, h)); classical = λ h. absurd (omega (arith, e, h)) }, c .before .before .before .before .pre .1)
+    record { family = λ _. (c .more-families .ensures, refl); quantum = λ h. absurd (omega (arith, e, h)); classical = λ h. absurd (omega (arith, e, h)) }
 
--- src/lib.rt:256:9
+-- src/lib.rt:284:9
 register-requires : tie.Need-register-requires
 unfolding totalOf
 register-requires c κs =
-    (c .before .before .before .before .before .pre .0 .quantum (c .before .if2 .taken), c .before .before .before .before .before .pre .1)
+    c .before .before .before .before .pre .quantum (c .before .if2 .taken)
 
--- src/lib.rt:256:9
-same-length : tie.Need-same-length
-same-length c =
-    search needs
-
--- src/lib.rt:256:9
+-- src/lib.rt:284:9
 returns-2 : tie.Need-returns-2
 returns-2 c =
-    let e = c .before .before .before .before .if2 .taken in
-    (record { family = λ h. absurd (omega (arith, e, h)); quantum = λ _. (c .before .before .register .ensures .0, c .before .before .register .ensures .1 .1); classical = λ h. absurd (omega (arith, e, h)) }, c .before .before .register .ensures .1 .0)
+    let e = c .before .before .if2 .taken in
+    record { family = λ h. absurd (omega (arith, e, h)); quantum = λ _. c .register .ensures; classical = λ h. absurd (omega (arith, e, h)) }
 
--- src/lib.rt:258:5
+-- src/lib.rt:286:5
 register-requires-2 : tie.Need-register-requires-2
 unfolding totalOf
 register-requires-2 c κs =
-    let e : _≡_ {A = ℕ} (c .before .before .before .before .before .args .tag) 3 = omega (arith, c .before .before .if1 .left, c .before .if2 .left, c .before .before .before .before .before .pre .0 .least, c .before .before .before .before .before .pre .0 .most) in
-    (c .before .before .before .before .before .pre .0 .classical e, c .before .before .before .before .before .pre .1)
+    let e : _≡_ {A = ℕ} (c .before .before .before .before .args .tag) 3 = omega (arith, c .before .before .if1 .left, c .before .if2 .left, c .before .before .before .before .pre .least, c .before .before .before .before .pre .most) in
+    c .before .before .before .before .pre .classical e
 
--- src/lib.rt:246:1
-same-length-2 : tie.Need-same-length-2
-same-length-2 c =
-    search needs
-
--- src/lib.rt:246:1
+-- src/lib.rt:276:1
 returns-3 : tie.Need-returns-3
 returns-3 c =
-    (record { family = λ h. absurd (c .before .before .before .before .before .if1 .left h); quantum = λ h. absurd (c .before .before .before .before .if2 .left h); classical = λ _. (c .before .before .register2 .ensures .0, c .before .before .register2 .ensures .1 .1) }, c .before .before .register2 .ensures .1 .0)
+    record { family = λ h. absurd (c .before .before .before .if1 .left h); quantum = λ h. absurd (c .before .before .if2 .left h); classical = λ _. c .register2 .ensures }
 
 pub declare-spec : {M : Type 1} → statement M
 declare-spec =
@@ -63,8 +51,6 @@ declare-spec =
     more-families-requires
     returns
     register-requires
-    same-length
     returns-2
     register-requires-2
-    same-length-2
     returns-3)

@@ -2,20 +2,18 @@ use Rattle.runs.proofs.is_declaring.Statement.{statement}
 use Rattle.runs.proofs.is_declaring.Tie as tie
 use Rattle.runs.proofs.is_declaring.Reads as reads
 use Rattle.runs.proofs.is_declaring.Lts as lts
-use mathlib.Core.Path.{_≡_, refl, sym}
-use mathlib.Core.Bool.{Bool, true, false}
+use mathlib.Core.Path.{sym}
 use native.Mathlib.Omega.{arith}
-use lib.Dec.{ltb}
 use borrow.Author.Tests.{ltb-true, ltb-false}
 use Rattle.language.proofs.Integers.{clash}
 
--- src/lib.rt:266:9
+-- src/lib.rt:294:9
 returns : tie.Need-returns
 returns c =
     let e = c .if1 .taken in
     record { yes = λ h. absurd (clash (sym h)); no = λ h. ((λ i. omega (arith, e, i)), (λ i. omega (arith, e, i)), (λ i. omega (arith, e, i))) }
 
--- src/lib.rt:262:1
+-- src/lib.rt:290:1
 returns-2 : tie.Need-returns-2
 returns-2 c =
     let t = c .before .args .tag in

@@ -5,58 +5,41 @@ use Rattle.runs.proofs.run.Reads as reads
 use Rattle.runs.proofs.run.Lts as lts
 use Rattle.fields.proofs.families.Reads as families-reads
 use Rattle.runs.proofs.top_fields.Reads as top-fields-reads
-use mathlib.Core.Path.{_≡_, refl}
+use borrow.Author.Needs.{needs}
 use denote.Ref.{now}
 use lib.ListN.{length}
 use Rattle.language.specs.Read.{read}
 use Rattle.language.specs.Machine.{runTops, runProgram, nothingYet}
 use Rattle.runs.proofs.Concluding.{does-all}
 
--- src/lib.rt:326:31
+-- src/lib.rt:370:31
 slice-aggregate-families : tie.Need-slice-aggregate-families
 slice-aggregate-families c =
     search needs
 
--- src/lib.rt:326:5
+-- src/lib.rt:370:5
 families-requires : tie.Need-families-requires
 families-requires c κs =
     search needs
 
--- src/lib.rt:327:25
-slice-aggregate-top-fields : tie.Need-slice-aggregate-top-fields
-slice-aggregate-top-fields c =
-    search needs
-
--- src/lib.rt:327:33
-slice-aggregate-top-fields-2 : tie.Need-slice-aggregate-top-fields-2
-slice-aggregate-top-fields-2 c =
-    search needs
-
--- src/lib.rt:327:5
+-- src/lib.rt:371:5
 top-fields-requires : tie.Need-top-fields-requires
 top-fields-requires c κs =
     search needs
 
--- src/lib.rt:320:1
+-- src/lib.rt:364:1
 same-length : tie.Need-same-length
 same-length c =
     search needs
 
--- src/lib.rt:320:1
+-- src/lib.rt:364:1
 returns : tie.Need-returns
 unfolding runProgram
 returns c =
-    let a = c .before .before .before .before .before .before .before .before .before .before .before .before .args in
-    does-all (now (a .out)) _ (c .before .before .before .top-fields .result) (runTops (a .limit) (length (now (a .out))) (read (now (a .program))) nothingYet) (c .before .before .before .top-fields .ensures)
+    let a = c .before .before .before .before .before .before .before .before .before .before .before .args in
+    does-all (now (a .out)) _ (c .before .before .top-fields .result) (runTops (a .limit) (length (now (a .out))) (read (now (a .program))) nothingYet) (c .before .before .top-fields .ensures)
 
 pub run-spec : {M : Type 1} → statement M
 run-spec =
     tie.close
-    (tie.spec
-    slice-aggregate-families
-    families-requires
-    slice-aggregate-top-fields
-    slice-aggregate-top-fields-2
-    top-fields-requires
-    same-length
-    returns)
+    (tie.spec slice-aggregate-families families-requires top-fields-requires same-length returns)

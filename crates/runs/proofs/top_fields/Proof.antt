@@ -6,24 +6,16 @@ use Rattle.fields.proofs.header_at.Reads as header-at-reads
 use Rattle.runs.proofs.act.Reads as act-reads
 use Rattle.runs.proofs.declare.Reads as declare-reads
 use Rattle.runs.proofs.is_declaring.Reads as is-declaring-reads
-use Rattle.runs.proofs.narrow.Reads as narrow-reads
-use Prim.Native.Nat.{ℕ, _+_, _*_, _-_, _≤_}
-use mathlib.Core.Path.{_≡_, refl, sym, ap, _∙_, subst}
-use mathlib.Core.Bool.{Bool, true, false}
-use mathlib.Core.List.{List, []}
+use Prim.Native.Nat.{ℕ, _+_, _-_}
+use mathlib.Core.Path.{sym, _∙_, subst}
+use mathlib.Core.List.{List}
 use native.Mathlib.Omega.{arith}
 use borrow.Author.Needs.{needs}
 use denote.Ref.{now}
-use lib.ListN.{length, take, drop}
-use lib.Seq.{slice, length-slice, length-take-le}
-use Rattle.language.specs.Limits.{mostRegisters}
-use Rattle.language.specs.Read.{field, readTop}
-use Rattle.emit.specs.Squares.{Does}
-use Rattle.emit.specs.declared.Answer.the-variants.{Going, Ended, Stuck}
+use lib.ListN.{length}
 use Rattle.fields.proofs.Reading.{when-whole, part-slice}
-use Rattle.runs.specs.Acting.{acting, globalsIn, ActReady}
-use Rattle.runs.specs.Whole.{DeclareReady, Declares}
-use Rattle.runs.proofs.Running.{field-alone, At, at-start, ends-here, cut-here, declare-ready, declared-on, acts-ready, acted-on, acted-last, tabled-here, few-families}
+use Rattle.runs.specs.Whole.{DeclareReady}
+use Rattle.runs.proofs.Running.{field-alone, field-within, At, at-start, ends-here, cut-here, declare-ready, declared-on, acts-ready, acted-on, acted-last, tabled-here, few-families}
 
 abbrev Inv-loop : tie.InvT-loop
 Inv-loop program table regs₀ limit out₀ to at₀ t₀ s₀ regs out at t s =
@@ -33,72 +25,62 @@ abbrev μ-loop : tie.MeasureT-loop
 μ-loop program table regs₀ limit out₀ to at₀ t₀ s₀ regs out at t s =
     length program - at
 
--- src/lib.rt:312:5
+-- src/lib.rt:326:5
 loop-holds : tie.Need-loop-holds Inv-loop μ-loop
 loop-holds c =
-    let a = c .before .before .before .before .args in
-    at-start (a .limit) (now (a .program)) (now (a .out)) (now (a .regs)) (c .before .before .before .before .pre .0) (c .before .before .before .before .pre .1 .1)
+    let a = c .before .before .args in
+    at-start (a .limit) (now (a .program)) (now (a .out)) (now (a .regs)) (c .before .before .pre .0)
 
--- src/lib.rt:313:15
+-- src/lib.rt:327:15
 header-at-requires : tie.Need-header-at-requires Inv-loop μ-loop
 header-at-requires c κs =
     omega arith
 
--- src/lib.rt:314:28
+-- src/lib.rt:328:28
 enum-told : tie.Need-enum-told Inv-loop μ-loop
 enum-told c =
     search needs
 
--- src/lib.rt:314:28
+-- src/lib.rt:328:28
 same-length : tie.Need-same-length Inv-loop μ-loop
 same-length c =
-    c .before .before .before .loop .inv .rows ∙ sym (c .before .before .before .before .before .before .before .before .pre .1 .1)
-
--- src/lib.rt:314:28
-same-length-2 : tie.Need-same-length-2 Inv-loop μ-loop
-same-length-2 c =
     c .before .before .before .loop .inv .same
 
--- src/lib.rt:314:28
+-- src/lib.rt:328:28
 returns : tie.Need-returns Inv-loop μ-loop
 returns c =
-    let a = c .before .before .before .before .before .before .before .before .args in
+    let a = c .before .before .before .before .before .before .args in
     let l = now (a .program) in
     let i = c .before .before .before .loop in
     ends-here (a .limit) l (now (a .out)) (i .regs) (i .out) (i .at) (i .t) (i .s) (i .inv) (sym (c .before .before .header-at .ensures) ∙ c .enum-told .given .1)
 
--- src/lib.rt:315:28
+-- src/lib.rt:329:28
 enum-told-2 : tie.Need-enum-told-2 Inv-loop μ-loop
 enum-told-2 c =
     search needs
 
--- src/lib.rt:315:28
-same-length-3 : tie.Need-same-length-3 Inv-loop μ-loop
-same-length-3 c =
-    c .before .before .before .loop .inv .rows ∙ sym (c .before .before .before .before .before .before .before .before .pre .1 .1)
-
--- src/lib.rt:315:28
-same-length-4 : tie.Need-same-length-4 Inv-loop μ-loop
-same-length-4 c =
+-- src/lib.rt:329:28
+same-length-2 : tie.Need-same-length-2 Inv-loop μ-loop
+same-length-2 c =
     c .before .before .before .loop .inv .same
 
--- src/lib.rt:315:28
+-- src/lib.rt:329:28
 returns-2 : tie.Need-returns-2 Inv-loop μ-loop
 returns-2 c =
-    let a = c .before .before .before .before .before .before .before .before .args in
+    let a = c .before .before .before .before .before .before .args in
     let l = now (a .program) in
     let i = c .before .before .before .loop in
     cut-here (a .limit) l (now (a .out)) (i .regs) (i .out) (i .at) (i .t) (i .s) (i .inv) (sym (c .before .before .header-at .ensures) ∙ c .enum-told2 .given .1)
 
--- src/lib.rt:316:27
+-- src/lib.rt:330:27
 enum-known-tag : tie.Need-enum-known-tag Inv-loop μ-loop
 enum-known-tag c =
     search needs
 
--- src/lib.rt:317:28
+-- src/lib.rt:331:28
 add-from : tie.Need-add-from Inv-loop μ-loop
 add-from c =
-    let a = c .before .before .before .before .before .before .before .before .before .args in
+    let a = c .before .before .before .before .before .before .before .args in
     let l = now (a .program) in
     let i = c .before .before .before .before .loop in
     let e = sym (c .before .before .before .header-at .ensures) ∙ c .before .tag .given .1 in
@@ -107,10 +89,10 @@ add-from c =
     let w = when-whole l (i .at) (length l) tag next (omega arith) e in
     omega (arith, w .low, w .high)
 
--- src/lib.rt:318:25
+-- src/lib.rt:332:25
 sub-p : tie.Need-sub-p Inv-loop μ-loop
 sub-p c =
-    let a = c .before .before .before .before .before .before .before .before .before .args in
+    let a = c .before .before .before .before .before .before .before .args in
     let l = now (a .program) in
     let i = c .before .before .before .before .loop in
     let e = sym (c .before .before .before .header-at .ensures) ∙ c .before .tag .given .1 in
@@ -119,10 +101,10 @@ sub-p c =
     let w = when-whole l (i .at) (length l) tag next (omega arith) e in
     omega (arith, w .low, w .high)
 
--- src/lib.rt:318:25
+-- src/lib.rt:332:25
 part-p-start : tie.Need-part-p-start Inv-loop μ-loop
 part-p-start c =
-    let a = c .before .before .before .before .before .before .before .before .before .args in
+    let a = c .before .before .before .before .before .before .before .args in
     let l = now (a .program) in
     let i = c .before .before .before .before .loop in
     let e = sym (c .before .before .before .header-at .ensures) ∙ c .before .tag .given .1 in
@@ -131,10 +113,10 @@ part-p-start c =
     let w = when-whole l (i .at) (length l) tag next (omega arith) e in
     omega (arith, w .low, w .high)
 
--- src/lib.rt:318:25
+-- src/lib.rt:332:25
 part-p-end : tie.Need-part-p-end Inv-loop μ-loop
 part-p-end c =
-    let a = c .before .before .before .before .before .before .before .before .before .args in
+    let a = c .before .before .before .before .before .before .before .args in
     let l = now (a .program) in
     let i = c .before .before .before .before .loop in
     let e = sym (c .before .before .before .header-at .ensures) ∙ c .before .tag .given .1 in
@@ -143,51 +125,41 @@ part-p-end c =
     let w = when-whole l (i .at) (length l) tag next (omega arith) e in
     omega (arith, w .low, w .high)
 
--- src/lib.rt:319:25
-sub-f : tie.Need-sub-f Inv-loop μ-loop
-sub-f c =
-    let a = c .before .before .before .before .before .before .before .before .before .before .args in
-    let l = now (a .program) in
-    let i = c .before .before .before .before .before .loop in
-    let e = sym (c .before .before .before .before .header-at .ensures) ∙ c .before .before .tag .given .1 in
-    let tag = c .before .before .tag .given .0 .0 in
-    let next = c .before .before .tag .given .0 .1 .0 in
-    let w = when-whole l (i .at) (length l) tag next (omega arith) e in
-    omega (arith, w .low, w .high)
-
--- src/lib.rt:319:25
-part-f-start : tie.Need-part-f-start Inv-loop μ-loop
-part-f-start c =
-    let a = c .before .before .before .before .before .before .before .before .before .before .args in
-    let l = now (a .program) in
-    let i = c .before .before .before .before .before .loop in
-    let e = sym (c .before .before .before .before .header-at .ensures) ∙ c .before .before .tag .given .1 in
-    let tag = c .before .before .tag .given .0 .0 in
-    let next = c .before .before .tag .given .0 .1 .0 in
-    let w = when-whole l (i .at) (length l) tag next (omega arith) e in
-    omega (arith, w .low, w .high)
-
--- src/lib.rt:319:25
-part-f-end : tie.Need-part-f-end Inv-loop μ-loop
-part-f-end c =
-    let a = c .before .before .before .before .before .before .before .before .before .before .args in
-    let l = now (a .program) in
-    let i = c .before .before .before .before .before .loop in
-    let e = sym (c .before .before .before .before .header-at .ensures) ∙ c .before .before .tag .given .1 in
-    let tag = c .before .before .tag .given .0 .0 in
-    let next = c .before .before .tag .given .0 .1 .0 in
-    let w = when-whole l (i .at) (length l) tag next (omega arith) e in
-    omega (arith, w .low, w .high)
-
--- src/lib.rt:320:20
+-- src/lib.rt:333:20
 is-declaring-requires : tie.Need-is-declaring-requires Inv-loop μ-loop
 is-declaring-requires c κs =
     search needs
 
--- src/lib.rt:321:21
+-- src/lib.rt:334:21
 declare-requires : tie.Need-declare-requires Inv-loop μ-loop
 declare-requires c κs =
-    let a = c .before .before .before .before .before .before .before .before .before .before .before .before .before .before .args in
+    let a = c .before .before .before .before .before .before .before .before .before .before .before .args in
+    let l = now (a .program) in
+    let i = c .before .before .before .before .before .before .before .before .loop in
+    let e = sym (c .before .before .before .before .before .before .before .header-at .ensures) ∙ c .before .before .before .before .before .tag .given .1 in
+    let tag = c .before .before .before .before .before .tag .given .0 .0 in
+    let next = c .before .before .before .before .before .tag .given .0 .1 .0 in
+    let w = when-whole l (i .at) (length l) tag next (omega arith) e in
+    let k = part-slice (i .at + 3) next l (w .low) in
+    let d = declare-ready (a .limit) l (now (a .out)) (i .regs) (i .out) (i .at) (i .t) (i .s) (i .inv) tag next e (c .before .before .is-declaring .ensures .yes (c .before .if1 .taken)) in
+    subst (λ (p : List ℕ). DeclareReady tag p (i .t)) (sym k) d
+
+-- src/lib.rt:326:5
+loop-less : tie.Need-loop-less Inv-loop μ-loop
+loop-less c =
+    let a = c .before .before .before .before .before .before .before .before .before .before .before .before .args in
+    let l = now (a .program) in
+    let i = c .before .before .before .before .before .before .before .before .before .loop in
+    let e = sym (c .before .before .before .before .before .before .before .before .header-at .ensures) ∙ c .before .before .before .before .before .before .tag .given .1 in
+    let tag = c .before .before .before .before .before .before .tag .given .0 .0 in
+    let next = c .before .before .before .before .before .before .tag .given .0 .1 .0 in
+    let w = when-whole l (i .at) (length l) tag next (omega arith) e in
+    omega (arith, w .low, w .high)
+
+-- src/lib.rt:326:5
+loop-again : tie.Need-loop-again Inv-loop μ-loop
+loop-again c =
+    let a = c .before .before .before .before .before .before .before .before .before .before .before .before .args in
     let l = now (a .program) in
     let i = c .before .before .before .before .before .before .before .before .before .loop in
     let e = sym (c .before .before .before .before .before .before .before .before .header-at .ensures) ∙ c .before .before .before .before .before .before .tag .given .1 in
@@ -195,124 +167,62 @@ declare-requires c κs =
     let next = c .before .before .before .before .before .before .tag .given .0 .1 .0 in
     let w = when-whole l (i .at) (length l) tag next (omega arith) e in
     let k = part-slice (i .at + 3) next l (w .low) in
-    let d = declare-ready (a .limit) l (now (a .out)) (i .regs) (i .out) (i .at) (i .t) (i .s) (i .inv) tag next e (c .before .before .is-declaring .ensures .yes (c .before .if1 .taken)) in
-    (subst (λ (p : List ℕ). DeclareReady tag p (i .t)) (sym k) d, i .inv .rows)
+    declared-on (a .limit) l (now (a .out)) (i .regs) (i .out) (i .at) (i .t) (i .s) (i .inv) tag next e _ _ (c .before .before .before .is-declaring .ensures .yes (c .before .before .if1 .taken)) (rw k at (c .declare .ensures))
 
--- src/lib.rt:312:5
-loop-less : tie.Need-loop-less Inv-loop μ-loop
-loop-less c =
-    let a = c .before .before .before .before .before .before .before .before .before .before .before .before .before .before .before .before .before .args in
-    let l = now (a .program) in
-    let i = c .before .before .before .before .before .before .before .before .before .before .before .before .loop in
-    let e = sym (c .before .before .before .before .before .before .before .before .before .before .before .header-at .ensures) ∙ c .before .before .before .before .before .before .before .before .before .tag .given .1 in
-    let tag = c .before .before .before .before .before .before .before .before .before .tag .given .0 .0 in
-    let next = c .before .before .before .before .before .before .before .before .before .tag .given .0 .1 .0 in
-    let w = when-whole l (i .at) (length l) tag next (omega arith) e in
-    omega (arith, w .low, w .high)
-
--- src/lib.rt:312:5
-loop-again : tie.Need-loop-again Inv-loop μ-loop
-loop-again c =
-    let a = c .before .before .before .before .before .before .before .before .before .before .before .before .before .before .before .before .before .args in
-    let l = now (a .program) in
-    let i = c .before .before .before .before .before .before .before .before .before .before .before .before .loop in
-    let e = sym (c .before .before .before .before .before .before .before .before .before .before .before .header-at .ensures) ∙ c .before .before .before .before .before .before .before .before .before .tag .given .1 in
-    let tag = c .before .before .before .before .before .before .before .before .before .tag .given .0 .0 in
-    let next = c .before .before .before .before .before .before .before .before .before .tag .given .0 .1 .0 in
-    let w = when-whole l (i .at) (length l) tag next (omega arith) e in
-    let k = part-slice (i .at + 3) next l (w .low) in
-    declared-on (a .limit) l (now (a .out)) (i .regs) (i .out) (i .at) (i .t) (i .s) (i .inv) tag next e _ _ (c .before .before .before .before .before .is-declaring .ensures .yes (c .before .before .before .before .if1 .taken)) (c .before .before .declare .ensures .1) (rw k at (c .before .before .declare .ensures .0))
-
--- src/lib.rt:325:29
-mul-count : tie.Need-mul-count Inv-loop μ-loop
-mul-count c =
-    omega (arith, c .before .before .before .before .before .before .before .before .before .loop .inv .few, c .before .before .before .before .before .before .before .before .before .loop .inv .rows)
-
--- src/lib.rt:326:21
-narrow-requires : tie.Need-narrow-requires Inv-loop μ-loop
-narrow-requires c κs =
-    let a = c .before .before .before .before .before .before .before .before .before .before .before .before .before .before .args in
-    let l = now (a .program) in
-    let i = c .before .before .before .before .before .before .before .before .before .loop in
-    omega (arith, few-families (a .limit) l (now (a .out)) (i .regs) (i .out) (i .at) (i .t) (i .s) (i .inv) (now (a .table)) (c .before .before .before .before .before .before .before .before .before .before .before .before .before .before .pre .0) (c .before .before .before .before .before .before .before .before .before .before .before .before .before .before .pre .1 .0))
-
--- src/lib.rt:327:50
-slice-reshare-prefix-act : tie.Need-slice-reshare-prefix-act Inv-loop μ-loop
-slice-reshare-prefix-act c =
-    omega (arith, c .before .before .before .before .before .before .before .before .before .before .loop .inv .few, c .before .before .before .before .before .before .before .before .before .before .loop .inv .rows)
-
--- src/lib.rt:327:50
-slice-aggregate-act : tie.Need-slice-aggregate-act Inv-loop μ-loop
-slice-aggregate-act c =
-    sym (length-take-le (3 * c .before .before .before .before .before .before .before .before .before .before .before .loop .t .registers) (c .before .before .before .before .before .before .before .before .before .before .before .loop .regs) (omega (arith, c .before .before .before .before .before .before .before .before .before .before .before .loop .inv .few, c .before .before .before .before .before .before .before .before .before .before .before .loop .inv .rows)))
-
--- src/lib.rt:327:21
+-- src/lib.rt:338:21
 act-requires : tie.Need-act-requires Inv-loop μ-loop
 act-requires c κs =
-    let a = c .before .before .before .before .before .before .before .before .before .before .before .before .before .before .before .before .before .args in
+    let a = c .before .before .before .before .before .before .before .before .before .before .before .before .args in
     let l = now (a .program) in
-    let i = c .before .before .before .before .before .before .before .before .before .before .before .before .loop in
-    let e = sym (c .before .before .before .before .before .before .before .before .before .before .before .header-at .ensures) ∙ c .before .before .before .before .before .before .before .before .before .tag .given .1 in
-    let tag = c .before .before .before .before .before .before .before .before .before .tag .given .0 .0 in
-    let next = c .before .before .before .before .before .before .before .before .before .tag .given .0 .1 .0 in
-    let w = when-whole l (i .at) (length l) tag next (omega arith) e in
-    let k = part-slice (i .at + 3) next l (w .low) in
-    let d = acts-ready (a .limit) l (now (a .out)) (i .regs) (i .out) (i .at) (i .t) (i .s) (i .inv) tag next e (c .before .before .before .before .before .is-declaring .ensures .no (c .before .before .before .before .if1 .left)) (c .before .before .before .before .before .before .before .before .before .before .before .before .before .before .before .before .before .pre .0) in
-    let j = part-slice (i .at) next l (omega (arith, w .low)) in
-    (subst (λ (p : List ℕ). ActReady tag p (i .at)) (sym k) d, (rw (j, k) (field-alone l (i .at) tag next e), (rw j (omega (arith, length-slice (i .at) next l (w .high), w .low, w .high, c .before .before .before .before .before .before .before .before .before .before .before .before .before .before .before .before .before .pre .0 .short)), rw (c .before .before .narrow .ensures) (tabled-here (a .limit) l (now (a .out)) (i .regs) (i .out) (i .at) (i .t) (i .s) (i .inv) (now (a .table)) (c .before .before .before .before .before .before .before .before .before .before .before .before .before .before .before .before .before .pre .0) (c .before .before .before .before .before .before .before .before .before .before .before .before .before .before .before .before .before .pre .1 .0)))))
+    let i = c .before .before .before .before .before .before .before .before .before .loop in
+    let e = sym (c .before .before .before .before .before .before .before .before .header-at .ensures) ∙ c .before .before .before .before .before .before .tag .given .1 in
+    let tag = c .before .before .before .before .before .before .tag .given .0 .0 in
+    let next = c .before .before .before .before .before .before .tag .given .0 .1 .0 in
+    ((acts-ready (a .limit) l (now (a .out)) (i .regs) (i .out) (i .at) (i .t) (i .s) (i .inv) tag next e (c .before .before .before .is-declaring .ensures .no (c .before .before .if1 .left)), field-within l (i .at) tag next e (c .before .before .before .before .before .before .before .before .before .before .before .before .pre .0 .short)), (field-alone l (i .at) tag next e, ((i .inv .few, few-families (a .limit) l (now (a .out)) (i .regs) (i .out) (i .at) (i .t) (i .s) (i .inv) (now (a .table)) (c .before .before .before .before .before .before .before .before .before .before .before .before .pre .0) (c .before .before .before .before .before .before .before .before .before .before .before .before .pre .1)), tabled-here (a .limit) l (now (a .out)) (i .regs) (i .out) (i .at) (i .t) (i .s) (i .inv) (now (a .table)) (c .before .before .before .before .before .before .before .before .before .before .before .before .pre .0) (c .before .before .before .before .before .before .before .before .before .before .before .before .pre .1))))
 
--- src/lib.rt:328:35
+-- src/lib.rt:339:35
 enum-known-r : tie.Need-enum-known-r Inv-loop μ-loop
 enum-known-r c =
     search needs
 
--- src/lib.rt:329:21
-same-length-5 : tie.Need-same-length-5 Inv-loop μ-loop
-same-length-5 c =
-    c .before .before .before .before .before .before .before .before .before .before .before .before .before .before .before .before .loop .inv .rows ∙ sym (c .before .before .before .before .before .before .before .before .before .before .before .before .before .before .before .before .before .before .before .before .before .pre .1 .1)
+-- src/lib.rt:340:21
+same-length-3 : tie.Need-same-length-3 Inv-loop μ-loop
+same-length-3 c =
+    omega (arith, c .before .before .before .before .before .before .before .before .before .before .before .before .before .loop .inv .same)
 
--- src/lib.rt:329:21
-same-length-6 : tie.Need-same-length-6 Inv-loop μ-loop
-same-length-6 c =
-    omega (arith, c .before .before .before .before .before .before .before .before .before .before .before .before .before .before .before .before .loop .inv .same)
-
--- src/lib.rt:329:21
+-- src/lib.rt:340:21
 returns-3 : tie.Need-returns-3 Inv-loop μ-loop
 returns-3 c =
-    let a = c .before .before .before .before .before .before .before .before .before .before .before .before .before .before .before .before .before .before .before .before .before .args in
+    let a = c .before .before .before .before .before .before .before .before .before .before .before .before .before .before .before .before .args in
     let l = now (a .program) in
-    let i = c .before .before .before .before .before .before .before .before .before .before .before .before .before .before .before .before .loop in
-    let e = sym (c .before .before .before .before .before .before .before .before .before .before .before .before .before .before .before .header-at .ensures) ∙ c .before .before .before .before .before .before .before .before .before .before .before .before .before .tag .given .1 in
-    let tag = c .before .before .before .before .before .before .before .before .before .before .before .before .before .tag .given .0 .0 in
-    let next = c .before .before .before .before .before .before .before .before .before .before .before .before .before .tag .given .0 .1 .0 in
-    let w = when-whole l (i .at) (length l) tag next (omega arith) e in
-    let k = part-slice (i .at + 3) next l (w .low) in
-    acted-last (a .limit) l (now (a .out)) (i .regs) (i .out) (i .at) (i .t) (i .s) (i .inv) tag next e (c .before .before .before .before .before .before .before .before .before .is-declaring .ensures .no (c .before .before .before .before .before .before .before .before .if1 .left)) _ (c .before .before .before .act .result) (rw (k, c .before .before .before .before .before .before .narrow .ensures) at (c .before .before .before .act .ensures)) (c .match2 .keys2)
+    let i = c .before .before .before .before .before .before .before .before .before .before .before .before .before .loop in
+    let e = sym (c .before .before .before .before .before .before .before .before .before .before .before .before .header-at .ensures) ∙ c .before .before .before .before .before .before .before .before .before .before .tag .given .1 in
+    let tag = c .before .before .before .before .before .before .before .before .before .before .tag .given .0 .0 in
+    let next = c .before .before .before .before .before .before .before .before .before .before .tag .given .0 .1 .0 in
+    acted-last (a .limit) l (now (a .out)) (i .regs) (i .out) (i .at) (i .t) (i .s) (i .inv) tag next e (c .before .before .before .before .before .before .before .is-declaring .ensures .no (c .before .before .before .before .before .before .if1 .left)) _ (c .before .before .before .act .result) (c .before .before .before .act .ensures) (c .match2 .keys2)
 
--- src/lib.rt:312:5
+-- src/lib.rt:326:5
 loop-less-2 : tie.Need-loop-less-2 Inv-loop μ-loop
 loop-less-2 c =
-    let a = c .before .before .before .before .before .before .before .before .before .before .before .before .before .before .before .before .before .before .before .before .before .before .before .args in
+    let a = c .before .before .before .before .before .before .before .before .before .before .before .before .before .before .before .before .before .before .args in
     let l = now (a .program) in
-    let i = c .before .before .before .before .before .before .before .before .before .before .before .before .before .before .before .before .before .before .loop in
-    let e = sym (c .before .before .before .before .before .before .before .before .before .before .before .before .before .before .before .before .before .header-at .ensures) ∙ c .before .before .before .before .before .before .before .before .before .before .before .before .before .before .before .tag .given .1 in
-    let tag = c .before .before .before .before .before .before .before .before .before .before .before .before .before .before .before .tag .given .0 .0 in
-    let next = c .before .before .before .before .before .before .before .before .before .before .before .before .before .before .before .tag .given .0 .1 .0 in
+    let i = c .before .before .before .before .before .before .before .before .before .before .before .before .before .before .before .loop in
+    let e = sym (c .before .before .before .before .before .before .before .before .before .before .before .before .before .before .header-at .ensures) ∙ c .before .before .before .before .before .before .before .before .before .before .before .before .tag .given .1 in
+    let tag = c .before .before .before .before .before .before .before .before .before .before .before .before .tag .given .0 .0 in
+    let next = c .before .before .before .before .before .before .before .before .before .before .before .before .tag .given .0 .1 .0 in
     let w = when-whole l (i .at) (length l) tag next (omega arith) e in
     omega (arith, w .low, w .high)
 
--- src/lib.rt:312:5
+-- src/lib.rt:326:5
 loop-again-2 : tie.Need-loop-again-2 Inv-loop μ-loop
 loop-again-2 c =
-    let a = c .before .before .before .before .before .before .before .before .before .before .before .before .before .before .before .before .before .before .before .before .before .before .before .args in
+    let a = c .before .before .before .before .before .before .before .before .before .before .before .before .before .before .before .before .before .before .args in
     let l = now (a .program) in
-    let i = c .before .before .before .before .before .before .before .before .before .before .before .before .before .before .before .before .before .before .loop in
-    let e = sym (c .before .before .before .before .before .before .before .before .before .before .before .before .before .before .before .before .before .header-at .ensures) ∙ c .before .before .before .before .before .before .before .before .before .before .before .before .before .before .before .tag .given .1 in
-    let tag = c .before .before .before .before .before .before .before .before .before .before .before .before .before .before .before .tag .given .0 .0 in
-    let next = c .before .before .before .before .before .before .before .before .before .before .before .before .before .before .before .tag .given .0 .1 .0 in
-    let w = when-whole l (i .at) (length l) tag next (omega arith) e in
-    let k = part-slice (i .at + 3) next l (w .low) in
-    acted-on (a .limit) l (now (a .out)) (i .regs) (i .out) (i .at) (i .t) (i .s) (i .inv) tag next e (c .before .before .before .before .before .before .before .before .before .before .before .is-declaring .ensures .no (c .before .before .before .before .before .before .before .before .before .before .if1 .left)) _ (c .before .before .before .before .before .act .result) (rw (k, c .before .before .before .before .before .before .before .before .narrow .ensures) at (c .before .before .before .before .before .act .ensures)) (c .before .r .given .0 .0) (c .before .r .given .1) (omega arith)
+    let i = c .before .before .before .before .before .before .before .before .before .before .before .before .before .before .before .loop in
+    let e = sym (c .before .before .before .before .before .before .before .before .before .before .before .before .before .before .header-at .ensures) ∙ c .before .before .before .before .before .before .before .before .before .before .before .before .tag .given .1 in
+    let tag = c .before .before .before .before .before .before .before .before .before .before .before .before .tag .given .0 .0 in
+    let next = c .before .before .before .before .before .before .before .before .before .before .before .before .tag .given .0 .1 .0 in
+    acted-on (a .limit) l (now (a .out)) (i .regs) (i .out) (i .at) (i .t) (i .s) (i .inv) tag next e (c .before .before .before .before .before .before .before .before .before .is-declaring .ensures .no (c .before .before .before .before .before .before .before .before .if1 .left)) _ (c .before .before .before .before .before .act .result) (c .before .before .before .before .before .act .ensures) (c .before .r .given .0 .0) (c .before .r .given .1) (omega arith)
 
 pub top-fields-spec : {M : Type 1} → statement M
 top-fields-spec =
@@ -324,32 +234,22 @@ top-fields-spec =
     header-at-requires
     enum-told
     same-length
-    same-length-2
     returns
     enum-told-2
-    same-length-3
-    same-length-4
+    same-length-2
     returns-2
     enum-known-tag
     add-from
     sub-p
     part-p-start
     part-p-end
-    sub-f
-    part-f-start
-    part-f-end
     is-declaring-requires
     declare-requires
     loop-less
     loop-again
-    mul-count
-    narrow-requires
-    slice-reshare-prefix-act
-    slice-aggregate-act
     act-requires
     enum-known-r
-    same-length-5
-    same-length-6
+    same-length-3
     returns-3
     loop-less-2
     loop-again-2)

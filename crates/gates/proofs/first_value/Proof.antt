@@ -1,0 +1,23 @@
+use Rattle.gates.proofs.first_value.Statement.{statement}
+use Rattle.gates.proofs.first_value.Tie as tie
+use Rattle.gates.proofs.first_value.Reads as reads
+use Rattle.gates.proofs.first_value.Lts as lts
+use mir.ValLaws.{toZ-ofZ}
+use mir.Syntax.{w64}
+use Rattle.language.specs.Machine.{startOf}
+use Rattle.gates.specs.Gates.{directionOf}
+
+-- src/lib.rt:151:9
+returns : tie.Need-returns
+unfolding startOf directionOf
+returns c =
+    rw (c .if1 .taken) (toZ-ofZ w64 (c .before .args .y) (c .before .fits .y))
+
+-- src/lib.rt:147:1
+returns-2 : tie.Need-returns-2
+unfolding startOf directionOf
+returns-2 c =
+    rw (c .if1 .left) (toZ-ofZ w64 (c .before .args .x) (c .before .fits .x))
+
+pub first-value-spec : {M : Type 1} → statement M
+first-value-spec = tie.close (tie.spec returns returns-2)

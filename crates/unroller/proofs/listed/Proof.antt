@@ -1,0 +1,53 @@
+use borrow.Author.Needs.{needs}
+use Rattle.unroller.proofs.listed.Statement.{statement}
+use Rattle.unroller.proofs.listed.Tie as tie
+use Rattle.unroller.proofs.listed.Reads as reads
+use Rattle.unroller.proofs.listed.Lts as lts
+use Rattle.fields.proofs.wide.Reads as wide-reads
+use Rattle.unroller.proofs.long.Reads as long-reads
+use Rattle.unroller.proofs.tell_table.Reads as tell-table-reads
+use Prim.Native.Nat.{ℕ}
+use mathlib.Core.Path.{ap, _∙_}
+use lib.ListN.{getD}
+use denote.Ref.{now}
+
+-- src/lib.rt:41:5
+tell-table-requires : tie.Need-tell-table-requires
+tell-table-requires c κs =
+    search needs
+
+-- src/lib.rt:42:16
+wide-requires : tie.Need-wide-requires
+wide-requires c κs =
+    search needs
+
+-- src/lib.rt:42:10
+mul-long : tie.Need-mul-long
+mul-long c =
+    search needs
+
+-- src/lib.rt:42:10
+element-copy-out-long : tie.Need-element-copy-out-long
+element-copy-out-long c =
+    search needs
+
+-- src/lib.rt:42:5
+long-requires : tie.Need-long-requires
+long-requires c κs =
+    search needs
+
+-- src/lib.rt:37:1
+returns : tie.Need-returns
+returns c =
+    c .long .ensures ∙ ap (λ (i : ℕ). getD (now (c .before .before .before .before .before .args .table)) i 0) (c .before .before .wide .ensures .0)
+
+pub listed-spec : {M : Type 1} → statement M
+listed-spec =
+    tie.close
+    (tie.spec
+    tell-table-requires
+    wide-requires
+    mul-long
+    element-copy-out-long
+    long-requires
+    returns)
