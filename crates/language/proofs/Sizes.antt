@@ -1,15 +1,14 @@
 -- Every list of sizes is said by bytes.
 use mathlib.Core.Path.{_≡_, refl, ap₂}
 use mathlib.Core.List.{List, [], _∷_}
-use mathlib.Core.Bool.{true, _&&_}
-use Prim.Native.Nat.{ℕ, _+_, _*_, _/_, _%_}
+use mathlib.Core.Bool.{true}
+use Prim.Native.Nat.{ℕ, _*_}
 use native.Mathlib.Omega.{arith}
-use lib.Dec.{leb}
 use borrow.Author.Tests.{le-leb}
 use lib.ListN.{length}
 use Rattle.language.specs.Limits.{largestSize}
 use Rattle.language.specs.Result.{bytesOf, fourBytes, allSizesFit}
-use Rattle.language.specs.Sizes.{bytesOfSizes, AllAtMost, Say, EverySizeSaid}
+use Rattle.language.specs.Sizes.{bytesOfSizes, AllAtMost, EverySizeSaid}
 use Rattle.language.proofs.Safe.{and-is}
 
 bytes-each : (sizes : List ℕ) → AllAtMost largestSize sizes → AllAtMost 255 (bytesOfSizes sizes)
