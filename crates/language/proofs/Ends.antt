@@ -2,14 +2,14 @@
 use mathlib.Core.Path.{_≡_, refl, sym, ap, _∙_, fun-ext, subst₂}
 use mathlib.Core.List.{List, [], _∷_, _++_}
 use mathlib.Core.Bool.{Bool, true, false, cond}
-use Prim.Native.Nat.{ℕ, suc, _*_, _≤_, _<_}
+use Prim.Native.Nat.{ℕ, suc, _*_}
 use native.Mathlib.Omega.{arith}
 use lib.IntN.{ℤ}
 use lib.Dec.{leb, ltb, eqb}
 use borrow.Author.Tests.{ltb-true, ltb-false, leb-true, leb-false, eqb-true, le-ltb, lt-leb, eq-eqb}
 use lib.ListN.{length, length-append}
 use Rattle.language.specs.Limits.{mostWires, recordSize}
-use Rattle.language.specs.Tree.{Place, Refusal}
+use Rattle.language.specs.Tree.{Place}
 use Rattle.language.specs.Form.{inRange}
 use Rattle.language.specs.Machine as M
 use Rattle.language.specs.Machine.{Wire, Action, doCx, Frame, State, Outcome, going, ended, stuck, Run, after, done}
@@ -25,11 +25,6 @@ record Parts (n m p q : ℕ) (s t : State) : Type 0 where
   number : n ≡ m
   place : p ≡ q
   state : s ≡ t
-
-abbrev numberOf : Outcome (Unit {0}) → ℕ
-numberOf (going a s) = 0
-numberOf (ended n p s) = n
-numberOf stuck = 0
 
 parts : {n m p q : ℕ} {s t : State} → _≡_ {A = Outcome (Unit {0})} (ended n p s) (ended m q t) → Parts n m p q s t
 parts e = record { number = cc; place = cc; state = cc }

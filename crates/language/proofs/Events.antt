@@ -4,19 +4,18 @@ use mathlib.Core.List.{List, [], _∷_, _++_, map}
 use mathlib.Core.Bool.{Bool, true, false, cond, _&&_}
 use mathlib.Core.Option.{Option, none, some}
 use Prim.Native.Nat.{ℕ, zero, suc, _+_}
-use lib.IntN.{ℤ, pos, negsuc, _-ℤ_}
-use lib.Dec.{leb, ltb, eqb}
+use lib.IntN.{ℤ, pos, negsuc}
+use native.Mathlib.Omega.{arith}
+use lib.Dec.{ltb, eqb}
 use lib.ListN.{length, getElem?}
-use Rattle.language.specs.Limits.{mostWires}
 use Rattle.language.specs.Form.{inRange}
 use Rattle.language.specs.Tree.{Place, number, missing, Index, literal, variable, operation, badIndex, Operand, whole, element, badOperand, ParameterType, qbit, qbits, badType, Argument, index, operand, badArgument}
 use Rattle.language.specs.Tree.{Statement, Statements, gate, cx, call, reverse, for, badStatement, nil, cons, Top, family, qreg, creg, measure, reset, if, statement, badTop}
 use Rattle.language.specs.Machine as M
 use Rattle.language.specs.Machine.{Wire, Meaning, aWire, aBit, wires, bits, Direction, forward, backward, Frame, State, Outcome, going, ended, stuck, Run, after, done, give, Family, Globals}
-use Rattle.language.specs.Lookup.{mapped}
-use Rattle.language.specs.Ends.{Event, stepAt, valueAt, pairAt, recordAt, layoutAt, noMeaning, meet, meetAll, plain, RunEvents, InstanceEvents}
-use Rattle.language.proofs.Runs.{after-after, then-then, then-done, done-then}
-use Rattle.language.proofs.Ends.{meet-append}
+use Rattle.language.specs.Ends.{Event, stepAt, valueAt, pairAt, recordAt, layoutAt, noMeaning, meet, meetAll, plain, Meets, RunEvents, InstanceEvents}
+use Rattle.language.proofs.Runs.{after-after}
+use Rattle.language.proofs.Ends.{meet-append, first-law}
 
 -- a run for each step limit and length of the output
 abbrev Runs : Type 0 → Type 0
@@ -333,20 +332,31 @@ plain-stuck A (going tt s) next h = sym (h s)
 plain-stuck A (ended n p s) next h = refl
 plain-stuck A stuck next h = refl
 
-events-of : {A B : Type 0} {at : (limit room : ℕ) → B → A} {run : Runs A} → Through at run → (s : State) → (es : List Event) × ((limit room : ℕ) → plain (run limit room s) ≡ meetAll limit room es s)
+plain-ended : {A : Type 0} (o : Outcome A) (n p : ℕ) (s : State) → plain o ≡ ended n p s → o ≡ ended n p s
+unfolding plain
+plain-ended (going a t) n p s e = absurd (let z : _≡_ {A = ℕ} 0 1 = cc in omega arith)
+plain-ended (ended m q t) n p s e = cc
+plain-ended stuck n p s e = absurd (let z : _≡_ {A = ℕ} 0 1 = cc in omega arith)
+
+-- runs that come to what a list of events comes to
+meets : {A : Type 0} (run : (limit room : ℕ) → Outcome A) (es : List Event) → ((limit room : ℕ) → plain (run limit room) ≡ meetAll limit room es M.begin) → Meets run
+unfolding plain
+meets run es e = record {
+  events = es;
+  comes = e;
+  ends = λ l r n p s f. plain-ended (run l r) n p s (e l r ∙ first-law l r es M.begin .ends n p s f);
+  only = λ l r n p s h. first-law l r es M.begin .only n p s (sym (e l r) ∙ ap plain h);
+}
+
+through-meets : {A B : Type 0} {at : (limit room : ℕ) → B → A} {run : Runs A} → Through at run → Meets (λ l r. run l r M.begin)
 unfolding M._>>_ meetAll meet after
-events-of {A = A} (stops es e) s = (es ++ (noMeaning ∷ []), λ l r. ap (λ x. plain (x s)) (e l r) ∙ plain-stuck A (meetAll l r es s) (meetAll l r (noMeaning ∷ [])) (λ t. refl) ∙ sym (ap (λ x. x s) (meet-append l r es (noMeaning ∷ []))))
-events-of {at = at} (gives es b e) s = (es, λ l r. ap (λ x. plain (x s)) (e l r) ∙ plain-after (meetAll l r es s) (at l r b))
+through-meets {A} {run = run} (stops es e) = meets (λ l r. run l r M.begin) (es ++ (noMeaning ∷ []))
+    (λ l r. ap (λ x. plain (x M.begin)) (e l r) ∙ plain-stuck A (meetAll l r es M.begin) (meetAll l r (noMeaning ∷ [])) (λ t. refl) ∙ sym (ap (λ x. x M.begin) (meet-append l r es (noMeaning ∷ []))))
+through-meets {at = at} {run = run} (gives es b e) = meets (λ l r. run l r M.begin) es (λ l r. ap (λ x. plain (x M.begin)) (e l r) ∙ plain-after (meetAll l r es M.begin) (at l r b))
 
 pub run-events : RunEvents
 unfolding M.runProgram
-run-events xs = events-of (through-tops xs (record { families = []; registers = []; qubits = 0; bits = 0 })) M.begin
-
-plain-unit : (o : Outcome (Unit {0})) → plain o ≡ o
-unfolding plain
-plain-unit (going tt s) = refl
-plain-unit (ended n p s) = refl
-plain-unit stuck = refl
+run-events xs = through-meets (through-tops xs (record { families = []; registers = []; qubits = 0; bits = 0 }))
 
 -- an instance of a family that is found
 found-instance : (xs : List Everywhere) (n : ℕ) (values : List ℤ) → Passes (λ l r. M._>>=_ (M.found (getElem? (map (familyAt l r) xs) n)) (λ f. M.instanceRun f values))
@@ -355,5 +365,5 @@ found-instance xs n values = through-read (λ l r f. M.instanceRun f values) (fo
 
 pub instance-events : InstanceEvents
 instance-events xs n values =
-    let e = events-of (found-instance (allDeclare xs []) n values) M.begin in
-    (e .0, λ l r. ap (λ (fs : List Family). M._>>=_ (M.found (getElem? fs n)) (λ f. M.instanceRun f values) M.begin) (all-declared-at xs [] l r) ∙ sym (plain-unit _) ∙ e .1 l r)
+    let m = through-meets (found-instance (allDeclare xs []) n values) in
+    meets _ (m .events) (λ l r. ap (λ (fs : List Family). plain (M._>>=_ (M.found (getElem? fs n)) (λ f. M.instanceRun f values) M.begin)) (all-declared-at xs [] l r) ∙ m .comes l r)

@@ -110,12 +110,20 @@ plain (going a s) = going tt s
 plain (ended n p s) = ended n p s
 plain stuck = stuck
 
--- Every program has one list of events, which is the same for every step limit and every length of the output: the machine goes through it in order.
-abbrev pub RunEvents : Type 0
-RunEvents = (xs : List Top) → (es : List Event) × ((limit room : ℕ) → plain (M.runProgram limit room xs) ≡ meetAll limit room es begin)
+-- A run has one list of events, the same for every step limit and every length of the output. The machine goes through it in order, and ends exactly with
+-- the first event that ends it.
+pub record Meets {A : Type 0} (run : (limit room : ℕ) → Outcome A) : Type 0 where
+  pub events : List Event
+  pub comes : (limit room : ℕ) → plain (run limit room) ≡ meetAll limit room events begin
+  pub ends : (limit room : ℕ) (n : Refusal) (p : Place) (s : State) → First limit room events begin n p s → run limit room ≡ ended n p s
+  pub only : (limit room : ℕ) (n : Refusal) (p : Place) (s : State) → run limit room ≡ ended n p s → First limit room events begin n p s
 
--- and so has every instance
+-- every program, checked or not
+abbrev pub RunEvents : Type 0
+RunEvents = (xs : List Top) → Meets (λ limit room. M.runProgram limit room xs)
+
+-- and every instance of one
 abbrev pub InstanceEvents : Type 0
 InstanceEvents =
     (xs : List Top) (family : ℕ) (values : List ℤ)
-    → (es : List Event) × ((limit room : ℕ) → (found (getElem? (M.allDeclared limit room xs []) family) >>= λ f. M.instanceRun f values) begin ≡ meetAll limit room es begin)
+    → Meets (λ limit room. (found (getElem? (M.allDeclared limit room xs []) family) >>= λ f. M.instanceRun f values) begin)
