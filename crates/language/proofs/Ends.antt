@@ -40,11 +40,12 @@ module _ (limit room : ℕ) where
 
   ends-so : (s : State) {e : Event} {n p : ℕ} → Ends limit room s e n p → meet limit room e s ≡ ended n p s
   unfolding meet M.step M.write M.inside M.laidOut M._>>=_ after
-  ends-so s (tooManyWires {n = n} h) = rw (lt-leb n mostWires h) refl
-  ends-so s (outOfRange h) = rw h refl
-  ends-so s (oneWire {x = x} {y = y} h) = rw (eq-eqb (x .number) (y .number) h) refl
-  ends-so s (limitUsedUp h) = rw (le-ltb (s .steps) limit h) refl
-  ends-so s (outputFull h) = rw (lt-leb (recordSize * suc (length (s .records))) room h) refl
+  ends-so s (tooManyWires {p = p} {n = n} h) = ap (λ (b : Bool). cond b done (M.endAt 23 p) s) (lt-leb n mostWires h)
+  ends-so s (outOfRange {p = p} {z = z} h) = ap (λ (b : Bool). after (cond b (M.give z) (M.endAt 24 p) s) (λ x. done)) h
+  ends-so s (oneWire {p = p} {x = x} {y = y} h) = ap (λ (b : Bool). cond b (M.endAt 25 p) done s) (eq-eqb (x .number) (y .number) h)
+  ends-so s (limitUsedUp {p = p} h) = ap (λ (b : Bool). cond b (going tt (record { records = s .records; steps = suc (s .steps) })) (ended 26 p s)) (le-ltb (s .steps) limit h)
+  ends-so s (outputFull {p = p} {f = f} {a = a} h) =
+      ap (λ (b : Bool). cond b (going tt (record { records = s .records ++ (record { action = a; condition = f .condition } ∷ []); steps = s .steps })) (ended 27 p s)) (lt-leb (recordSize * suc (length (s .records))) room h)
 
   step-only : (p : Place) (s : State) (n q : ℕ) (t : State) → M.step limit room p s ≡ ended n q t → (t ≡ s) × Ends limit room s (stepAt p) n q
   unfolding M.step

@@ -24,8 +24,9 @@ pub record Reports {A : Type 0} (least limit wireCount bitCount : ℕ) (lent : L
   pub last : State
   -- The number 0, with place 0, says that the machine came to the end of the body or of the program: the list is complete.
   pub complete : answer .result .number ≡ 0 → (answer .result .place ≡ 0) × ((value : A) × (o ≡ going value last))
-  -- Any other number, with its place, is the machine's own end, one from `least` to 27.
-  pub cut : 1 ≤ answer .result .number → (o ≡ ended (answer .result .number) (answer .result .place) last) × (least ≤ answer .result .number) × (answer .result .number ≤ 27)
+  -- Any other number, with its place, is the machine's own end, one from `least` to 27. Ends says what they come of.
+  pub cut : 1 ≤ answer .result .number
+      → (o ≡ ended (answer .result .number) (answer .result .place) last) × (least ≤ answer .result .number) × (answer .result .number ≤ 27)
   -- The records and the steps are the machine's: so many are counted, and these records and no others are written, at the output's front.
   pub records : answer .result .records ≡ length (last .records)
   pub steps : answer .result .steps ≡ last .steps
@@ -44,7 +45,8 @@ pub record Reports {A : Type 0} (least limit wireCount bitCount : ℕ) (lent : L
 abbrev pub RunTheorem : Type 0
 RunTheorem =
     (program : List ℕ) (limit : ℕ) (output : List ℕ) → checkResult program .number ≡ 0
-    → Reports 24 limit (qubitsDeclared program) (bitsDeclared program) output (runProgram limit (length output) (read program)) (runOutcome program limit output)
+    → Reports 24 limit (qubitsDeclared program) (bitsDeclared program) output (runProgram limit (length output) (read program))
+    (runOutcome program limit output)
 
 -- ---- instances
 
@@ -57,13 +59,15 @@ pub record InstanceAnswers (program : List ℕ) (family : ℕ) (sizes : List ℕ
   -- no such family
   pub noFamily : familyIn (read program) family ≡ none → instanceOutcome program family sizes limit output ≡ untouched output 20 0
   -- not four bytes for each of its index variables
-  pub miscounted : (d : Declaration) → familyIn (read program) family ≡ some d → (length sizes ≡ 4 * d .variables → ⊥) → instanceOutcome program family sizes limit output ≡ untouched output 21 0
+  pub miscounted : (d : Declaration) → familyIn (read program) family ≡ some d → (length sizes ≡ 4 * d .variables → ⊥)
+      → instanceOutcome program family sizes limit output ≡ untouched output 21 0
   -- a size that is too large
   pub tooLarge : (d : Declaration) → familyIn (read program) family ≡ some d → length sizes ≡ 4 * d .variables → allSizesFit (fourBytes sizes) ≡ false
       → instanceOutcome program family sizes limit output ≡ untouched output 22 0
   -- any other: the number is 0 or 23 to 27
   pub suited : Suits program family sizes
-      → Reports 23 limit (wiresLaidOut program family sizes) 0 output (instanceAt program family (fourBytes sizes) limit (length output)) (instanceOutcome program family sizes limit output)
+      → Reports 23 limit (wiresLaidOut program family sizes) 0 output (instanceAt program family (fourBytes sizes) limit (length output))
+      (instanceOutcome program family sizes limit output)
 
 -- every instance of an accepted program, at every family number and sizes, under every step limit and into every output
 abbrev pub InstanceTheorem : Type 0
@@ -71,9 +75,11 @@ InstanceTheorem =
     (program : List ℕ) (family : ℕ) (sizes : List ℕ) (limit : ℕ) (output : List ℕ) → checkResult program .number ≡ 0
     → InstanceAnswers program family sizes limit output
 
--- the same over sizes as numbers: every family that an accepted program declares, at every list of as many sizes as it has index variables, each from 0 to 65,535
+-- The same over sizes as numbers: every family that an accepted program declares, at every list of as many sizes as it has index variables, each from 0 to
+-- 65,535. Each such list is what some bytes say (Sizes).
 abbrev pub SizesTheorem : Type 0
 SizesTheorem =
     (program : List ℕ) (family : ℕ) (d : Declaration) (sizes : List ℕ) (limit : ℕ) (output : List ℕ) → checkResult program .number ≡ 0
     → familyIn (read program) family ≡ some d → length sizes ≡ d .variables → AllAtMost largestSize sizes
-    → Reports 23 limit (wiresOf (some d) (map pos sizes)) 0 output (instanceAt program family sizes limit (length output)) (instanceOutcome program family (bytesOfSizes sizes) limit output)
+    → Reports 23 limit (wiresOf (some d) (map pos sizes)) 0 output (instanceAt program family sizes limit (length output))
+    (instanceOutcome program family (bytesOfSizes sizes) limit output)
