@@ -32,6 +32,10 @@ parts e = record { number = cc; place = cc; state = cc }
 not-ended : {n p : ℕ} {s t : State} → _≡_ {A = Outcome (Unit {0})} (going tt s) (ended n p t) → ⊥
 not-ended e = let z : _≡_ {A = ℕ} 0 1 = cc in omega arith
 
+cond-false : {A : Type 0} (b : Bool) (x y : A) → b ≡ false → cond b x y ≡ y
+cond-false true x y e = absurd (let z : _≡_ {A = ℕ} 0 1 = cc in omega arith)
+cond-false false x y e = refl
+
 module _ (limit room : ℕ) where
   same-ends : {s : State} {e : Event} {n m p q : ℕ} {t u : State} → Ends limit room s e n p → Parts n m p q t u → (u ≡ t) × Ends limit room s e m q
   same-ends {s} {e} h k = (sym (k .state), subst₂ (λ (a b : ℕ). Ends limit room s e a b) (k .number) (k .place) h)
@@ -43,17 +47,16 @@ module _ (limit room : ℕ) where
   ends-so s (tooManyWires {p = p} {n = n} h) = ap (λ (b : Bool). cond b done (M.endAt 23 p) s) (lt-leb n mostWires h)
   ends-so s (outOfRange {p = p} {z = z} h) = ap (λ (b : Bool). after (cond b (M.give z) (M.endAt 24 p) s) (λ x. done)) h
   ends-so s (oneWire {p = p} {x = x} {y = y} h) = ap (λ (b : Bool). cond b (M.endAt 25 p) done s) (eq-eqb (x .number) (y .number) h)
-  ends-so s (limitUsedUp {p = p} h) = ap (λ (b : Bool). cond b (going tt (record { records = s .records; steps = suc (s .steps) })) (ended 26 p s)) (le-ltb (s .steps) limit h)
-  ends-so s (outputFull {p = p} {f = f} {a = a} h) =
-      ap (λ (b : Bool). cond b (going tt (record { records = s .records ++ (record { action = a; condition = f .condition } ∷ []); steps = s .steps })) (ended 27 p s)) (lt-leb (recordSize * suc (length (s .records))) room h)
+  ends-so s (limitUsedUp h) = cond-false (ltb (s .steps) limit) _ _ (le-ltb (s .steps) limit h)
+  ends-so s (outputFull h) = cond-false (leb (recordSize * suc (length (s .records))) room) _ _ (lt-leb (recordSize * suc (length (s .records))) room h)
 
   step-only : (p : Place) (s : State) (n q : ℕ) (t : State) → M.step limit room p s ≡ ended n q t → (t ≡ s) × Ends limit room s (stepAt p) n q
   unfolding M.step
-  step-only p s n q t h = go (ltb (s .steps) limit) refl h
+  step-only p s n q t h = go (ltb (s .steps) limit) _ refl h
     where
-      go : (b : Bool) → ltb (s .steps) limit ≡ b → _≡_ {A = Outcome (Unit {0})} (cond b (going tt (record { records = s .records; steps = suc (s .steps) })) (ended 26 p s)) (ended n q t) → (t ≡ s) × Ends limit room s (stepAt p) n q
-      go true e k = absurd (not-ended k)
-      go false e k = same-ends (limitUsedUp (ltb-false (s .steps) limit e)) (parts k)
+      go : (b : Bool) (u : State) → ltb (s .steps) limit ≡ b → _≡_ {A = Outcome (Unit {0})} (cond b (going tt u) (ended 26 p s)) (ended n q t) → (t ≡ s) × Ends limit room s (stepAt p) n q
+      go true u e k = absurd (not-ended k)
+      go false u e k = same-ends (limitUsedUp (ltb-false (s .steps) limit e)) (parts k)
 
   value-only : (p : Place) (z : ℤ) (s : State) (n q : ℕ) (t : State) → meet limit room (valueAt p z) s ≡ ended n q t → (t ≡ s) × Ends limit room s (valueAt p z) n q
   unfolding meet M.inside M._>>=_ after
@@ -73,12 +76,11 @@ module _ (limit room : ℕ) where
 
   record-only : (p : Place) (f : Frame) (a : Action) (s : State) (n q : ℕ) (t : State) → M.write limit room p f a s ≡ ended n q t → (t ≡ s) × Ends limit room s (recordAt p f a) n q
   unfolding M.write
-  record-only p f a s n q t h = go (leb (recordSize * suc (length (s .records))) room) refl h
+  record-only p f a s n q t h = go (leb (recordSize * suc (length (s .records))) room) _ refl h
     where
-      go : (b : Bool) → leb (recordSize * suc (length (s .records))) room ≡ b
-          → _≡_ {A = Outcome (Unit {0})} (cond b (going tt (record { records = s .records ++ (record { action = a; condition = f .condition } ∷ []); steps = s .steps })) (ended 27 p s)) (ended n q t) → (t ≡ s) × Ends limit room s (recordAt p f a) n q
-      go true e k = absurd (not-ended k)
-      go false e k = same-ends (outputFull (leb-false (recordSize * suc (length (s .records))) room e)) (parts k)
+      go : (b : Bool) (u : State) → leb (recordSize * suc (length (s .records))) room ≡ b → _≡_ {A = Outcome (Unit {0})} (cond b (going tt u) (ended 27 p s)) (ended n q t) → (t ≡ s) × Ends limit room s (recordAt p f a) n q
+      go true u e k = absurd (not-ended k)
+      go false u e k = same-ends (outputFull (leb-false (recordSize * suc (length (s .records))) room e)) (parts k)
 
   layout-only : (p : Place) (m : ℕ) (s : State) (n q : ℕ) (t : State) → M.laidOut p m s ≡ ended n q t → (t ≡ s) × Ends limit room s (layoutAt p m) n q
   unfolding M.laidOut

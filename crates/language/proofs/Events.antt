@@ -295,6 +295,10 @@ record Global : Type 0 where
 abbrev globalsAt : (limit room : ℕ) → Global → Globals
 globalsAt l r g = record { families = map (familyAt l r) (g .families); registers = g .registers; qubits = g .qubits; bits = g .bits }
 
+-- the same families, and what else the machine declares
+abbrev besides : Global → Globals → Global
+besides g h = record { families = g .families; registers = h .registers; qubits = h .qubits; bits = h .bits }
+
 -- a given value, up to an equation
 give-at : {x : Runs Globals} (g : Global) → ((l r : ℕ) → x l r ≡ give (globalsAt l r g)) → Through globalsAt x
 unfolding meetAll M._>>_ after
@@ -304,9 +308,9 @@ through-top : (x : Top) (g : Global) → Through globalsAt (λ l r. M.runTop l r
 unfolding M.runTop M.withFamilies M.withWires M.withBits M.topFrame
 through-top (family p m n types body) g = give-at (record { families = declares (family p m n types body) (g .families); registers = g .registers; qubits = g .qubits; bits = g .bits })
     (λ l r. ap (λ (fs : List Family). give (record { families = fs; registers = g .registers; qubits = g .qubits; bits = g .bits })) (declared-at (family p m n types body) (g .families) l r))
-through-top (qreg p (number n) e) g = through-give (record { families = g .families; registers = g .registers ++ (wires (record { number = g .qubits }) n ∷ []); qubits = g .qubits + n; bits = g .bits })
+through-top (qreg p (number n) e) g = through-give (besides g (M.withWires (globalsAt 0 0 g) n))
 through-top (qreg p missing e) g = through-nothing
-through-top (creg p (number n) e) g = through-give (record { families = g .families; registers = g .registers ++ (bits (record { number = g .bits }) n ∷ []); qubits = g .qubits; bits = g .bits + n })
+through-top (creg p (number n) e) g = through-give (besides g (M.withBits (globalsAt 0 0 g) n))
 through-top (creg p missing e) g = through-nothing
 through-top (measure p o c e) g = through-then (through-step p) (through-bind (through-wire p _ o) λ w. through-bind (through-bit p _ c) λ b. through-then (through-write p _ _) (through-give g))
 through-top (reset p o e) g = through-then (through-step p) (through-bind (through-wire p _ o) λ w. through-then (through-write p _ _) (through-give g))
