@@ -13,7 +13,7 @@ use Rattle.language.specs.Tree.{Place}
 use Rattle.language.specs.Form.{inRange}
 use Rattle.language.specs.Machine as M
 use Rattle.language.specs.Machine.{Wire, Action, doCx, Frame, State, Outcome, going, ended, stuck, Run, after, done}
-use Rattle.language.specs.Ends.{Event, stepAt, valueAt, pairAt, recordAt, layoutAt, noMeaning, meet, Ends, tooManyWires, outOfRange, oneWire, limitUsedUp, outputFull, EventLaw, meetAll, First, FirstLaw, Room, RoomIn, RoomLaw, HandedOn, GateLaw, CxLaw}
+use Rattle.language.specs.Ends.{Event, stepAt, valueAt, pairAt, recordAt, layoutAt, noMeaning, changed, meet, Ends, tooManyWires, outOfRange, oneWire, limitUsedUp, outputFull, EventLaw, meetAll, First, FirstLaw, Room, RoomIn, RoomLaw, HandedOn, GateLaw, CxLaw}
 use Rattle.language.proofs.Runs.{then-then, done-then}
 
 pub handed-on : HandedOn
@@ -31,6 +31,13 @@ parts e = record { number = cc; place = cc; state = cc }
 
 not-ended : {n p : ℕ} {s t : State} → _≡_ {A = Outcome (Unit {0})} (going tt s) (ended n p t) → ⊥
 not-ended e = let z : _≡_ {A = ℕ} 0 1 = cc in omega arith
+
+same-going : {s t : State} → _≡_ {A = Outcome (Unit {0})} (going tt s) (going tt t) → t ≡ s
+same-going e = cc
+
+going-either : (n p : ℕ) (s : State) {t u : State} (b : Bool) → _≡_ {A = Outcome (Unit {0})} (cond b (going tt u) (ended n p s)) (going tt t) → t ≡ u
+going-either n p s true e = same-going e
+going-either n p s false e = absurd (not-ended (sym e))
 
 cond-false : {A : Type 0} (b : Bool) (x y : A) → b ≡ false → cond b x y ≡ y
 cond-false true x y e = absurd (let z : _≡_ {A = ℕ} 0 1 = cc in omega arith)
@@ -99,8 +106,29 @@ module _ (limit room : ℕ) where
   ends-only (layoutAt p m) s n q t h = layout-only p m s n q t h
   ends-only noMeaning s n q t h = absurd (let z : _≡_ {A = ℕ} 0 1 = cc in omega arith)
 
+  goes-so : (e : Event) (s t : State) → meet limit room e s ≡ going tt t → t ≡ changed e s
+  unfolding meet changed M.step M.write M.inside M.laidOut M._>>=_ after
+  goes-so (stepAt p) s t h = going-either 26 p s (ltb (s .steps) limit) h
+  goes-so (valueAt p z) s t h = go (inRange z) h
+    where
+      go : (b : Bool) → after (cond b (M.give z) (M.endAt 24 p) s) (λ x. done) ≡ going tt t → t ≡ s
+      go true k = same-going k
+      go false k = absurd (not-ended (sym k))
+  goes-so (pairAt p x y) s t h = go (eqb (x .number) (y .number)) h
+    where
+      go : (b : Bool) → cond b (M.endAt 25 p) done s ≡ going tt t → t ≡ s
+      go true k = absurd (not-ended (sym k))
+      go false k = same-going k
+  goes-so (recordAt p f a) s t h = going-either 27 p s (leb (recordSize * suc (length (s .records))) room) h
+  goes-so (layoutAt p m) s t h = go (leb m mostWires) h
+    where
+      go : (b : Bool) → cond b done (M.endAt 23 p) s ≡ going tt t → t ≡ s
+      go true k = same-going k
+      go false k = absurd (not-ended (sym k))
+  goes-so noMeaning s t h = absurd (let z : _≡_ {A = ℕ} 0 1 = cc in omega arith)
+
   pub event-law : (e : Event) (s : State) → EventLaw limit room e s
-  event-law e s = record { ends = λ n p h. ends-so s h; only = ends-only e s }
+  event-law e s = record { ends = λ n p h. ends-so s h; only = ends-only e s; goes = goes-so e s }
 
   -- ---- one event after the other
 

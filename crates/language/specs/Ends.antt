@@ -27,6 +27,15 @@ pub data Event : Type 0 where
   -- a part that has no meaning
   noMeaning : Event
 
+-- the state after an event that goes on: one step more, one record more, or the same
+unfoldable pub changed : Event → State → State
+changed (stepAt p) s = record { records = s .records; steps = suc (s .steps) }
+changed (valueAt p z) s = s
+changed (pairAt p x y) s = s
+changed (recordAt p f a) s = record { records = s .records ++ (record { action = a; condition = f .condition } ∷ []); steps = s .steps }
+changed (layoutAt p n) s = s
+changed noMeaning s = s
+
 -- ---- one event
 
 module _ (limit room : ℕ) where
@@ -47,10 +56,11 @@ module _ (limit room : ℕ) where
     limitUsedUp : {p : Place} → limit ≤ s .steps → Ends s (stepAt p) 26 p
     outputFull : {p : Place} {f : Frame} {a : Action} → room < recordSize * suc (length (s .records)) → Ends s (recordAt p f a) 27 p
 
-  -- an event ends a run exactly under its condition, and changes nothing then
+  -- an event ends a run exactly under its condition, and changes nothing then; and it changes no more than it says
   pub record EventLaw (e : Event) (s : State) : Type 0 where
     pub ends : (n : Refusal) (p : Place) → Ends s e n p → meet e s ≡ ended n p s
     pub only : (n : Refusal) (p : Place) (t : State) → meet e s ≡ ended n p t → (t ≡ s) × Ends s e n p
+    pub goes : (t : State) → meet e s ≡ going tt t → t ≡ changed e s
 
   -- ---- one event after the other
 
