@@ -1,11 +1,11 @@
 -- Where a run ends: at a place of the program, whatever the program.
-use mathlib.Core.Path.{_≡_, refl, subst}
+use mathlib.Core.Path.{_≡_, refl}
 use mathlib.Core.List.{List, [], _∷_, _++_}
 use mathlib.Core.Bool.{Bool, true, false, cond, _&&_}
 use mathlib.Core.Option.{Option, none, some}
-use Prim.Native.Nat.{ℕ, zero, suc, _+_, _*_, _≤_}
+use Prim.Native.Nat.{ℕ, zero, suc, _*_, _≤_}
 use native.Mathlib.Omega.{arith}
-use lib.IntN.{ℤ, pos, negsuc, _-ℤ_}
+use lib.IntN.{ℤ, pos, negsuc}
 use lib.Dec.{leb, ltb, eqb}
 use lib.ListN.{length, getElem?}
 use Rattle.language.specs.Limits.{mostWires, recordSize}
@@ -15,7 +15,7 @@ use Rattle.language.specs.Tree.{Statement, Statements, gate, cx, call, r
 use Rattle.language.specs.Read.{read}
 use Rattle.language.specs.Machine as M
 use Rattle.language.specs.Machine.{Meaning, aWire, aBit, wires, bits, Direction, forward, backward, Frame, Outcome, going, ended, stuck, Run, Family, Globals}
-use Rattle.language.proofs.Refusals.{AllOf, FairType, FairStatement, FairStatements, FairTop, tops-fair}
+use Rattle.language.proofs.Trees.{AllOf, FairType, FairStatement, FairStatements, FairTop, tops-fair}
 
 module _ (size : ℕ) where
   abbrev pub EndsIn : {A : Type 0} → Outcome A → Type 0

@@ -1,139 +1,32 @@
 -- THE THEOREM: an accepted program's runs and instances are never stuck, and their answers are Sound.
-use mathlib.Core.Path.{_≡_, refl, sym, ap, _∙_}
+use mathlib.Core.Path.{_≡_, refl}
 use mathlib.Core.Logic.{_⊎_, inl, inr}
-use mathlib.Core.List.{List, [], _∷_, _++_, map, append-assoc}
+use mathlib.Core.List.{List, [], _∷_, map}
 use mathlib.Core.Bool.{Bool, true, false, cond}
 use mathlib.Core.Option.{Option, none, some}
-use Prim.Native.Nat.{ℕ, zero, suc, _+_, _*_, _≤_, _<_}
+use Prim.Native.Nat.{ℕ, zero, suc, _*_, _≤_, _<_}
 use native.Mathlib.Omega.{arith}
-use native.Mathlib.Nat.{add-zero}
 use lib.IntN.{ℤ, pos}
 use lib.Dec.{leb, eqb}
 use borrow.Author.Tests.{eqb-true, eq-eqb}
-use lib.ListN.{length, take, drop, getD, getElem?, length-append, length-drop}
-use lib.Seq.{drop-at, getD-append-add}
+use lib.ListN.{length, getElem?}
 use Rattle.language.specs.Limits.{recordSize, longestProgram, mostWires, mostBits}
 use Rattle.language.specs.Tree.{Place, Refusal}
 use Rattle.language.specs.Read.{read}
 use Rattle.language.specs.Check.{Checked, good, refused, require, check, Declared}
-use Rattle.language.specs.Machine.{Condition, always, whenBit, Action, doH, doT, doTdg, doReset, doCx, doMeasure, Record, State, Outcome, Family, begin, layout, allDeclared, runProgram, runInstance}
-use Rattle.language.specs.Result.{Answer, Conclusion, finished, gotStuck, bytesOf, conditionByte, conditionBit, op, firstNumber, secondNumber, recordBytes, outputBytes, writtenInto, resultOf, untouched, conclusionOf, checkProgram, verdict, checkResult, ifAccepted, runOutcome, fourBytes, allSizesFit, instanceOf, instanceOutcome}
-use Rattle.language.specs.Lookup.{Declaration, familyIn, mapped, meaning}
-use Rattle.language.specs.Sound.{qubitsDeclared, bitsDeclared, wiresLaid, wiresOf, wiresLaidOut, Names, NamesBit, AllName, NamedAt, Sound, Finishes, Suits}
+use Rattle.language.specs.Machine as M
+use Rattle.language.specs.Machine.{State, Outcome, found, Family, begin, layout, allDeclared, runProgram, runInstance}
+use Rattle.language.specs.Result.{Answer, Conclusion, finished, gotStuck, outputBytes, writtenInto, resultOf, untouched, conclusionOf, checkProgram, verdict, checkResult, ifAccepted, runOutcome, fourBytes, allSizesFit, instanceOf, instanceOutcome}
+use Rattle.language.specs.Lookup.{Declaration, familyIn, meaning}
+use Rattle.language.specs.Sound.{qubitsDeclared, bitsDeclared, wiresLaid, wiresOf, wiresLaidOut, Sound, Finishes, Suits}
+use Rattle.language.specs.Theorem.{Reports, RunTheorem, instanceAt}
 use Rattle.language.proofs.FormLaws.{Naturals}
 use Rattle.language.proofs.FormLaws as L
 use Rattle.language.proofs.Safe.{World, Held, Safe, goes, ends, Any, then-both}
 use Rattle.language.proofs.Tops.{program-safe, instance-safe, program-counts, layout-few}
-use Rattle.language.proofs.Families.{family-at}
+use Rattle.language.proofs.Instances.{declared-family, family-found, family-missing}
 use Rattle.language.proofs.Refusals.{accepted}
-
--- ---- the output's bytes
-
-pub record-size : (r : Record) → length (recordBytes r) ≡ recordSize
-unfolding recordBytes bytesOf
-record-size r = refl
-
-pub output-size : (rs : List Record) → length (outputBytes rs) ≡ recordSize * length rs
-unfolding outputBytes
-output-size [] = refl
-output-size (r ∷ rs) = length-append (recordBytes r) (outputBytes rs) ∙ omega (arith, record-size r, output-size rs)
-
-first-below : (q b : ℕ) (a : Action) → Names q b a → firstNumber a < q
-unfolding firstNumber
-first-below q b (doH w) n = n
-first-below q b (doT w) n = n
-first-below q b (doTdg w) n = n
-first-below q b (doReset w) n = n
-first-below q b (doCx w x) n = n .0
-first-below q b (doMeasure w x) n = n .0
-
-target-below : (q b : ℕ) (a : Action) → Names q b a → op a ≡ 4 → secondNumber a < q
-unfolding op secondNumber
-target-below q b (doH w) n e = absurd (omega arith)
-target-below q b (doT w) n e = absurd (omega arith)
-target-below q b (doTdg w) n e = absurd (omega arith)
-target-below q b (doReset w) n e = absurd (omega arith)
-target-below q b (doCx w x) n e = n .1
-target-below q b (doMeasure w x) n e = absurd (omega arith)
-
-measured-below : (q b : ℕ) (a : Action) → Names q b a → op a ≡ 5 → secondNumber a < b
-unfolding op secondNumber
-measured-below q b (doH w) n e = absurd (omega arith)
-measured-below q b (doT w) n e = absurd (omega arith)
-measured-below q b (doTdg w) n e = absurd (omega arith)
-measured-below q b (doReset w) n e = absurd (omega arith)
-measured-below q b (doCx w x) n e = absurd (omega arith)
-measured-below q b (doMeasure w x) n e = n .1
-
-condition-below : (b : ℕ) (c : Condition) → NamesBit b c → 1 ≤ conditionByte c → conditionBit c < b
-unfolding conditionByte conditionBit
-condition-below b always n h = absurd (omega arith)
-condition-below b (whenBit x v) n h = n .0
-
-op-known : (a : Action) → (1 ≤ op a) × (op a ≤ 6)
-unfolding op
-op-known (doH w) = omega arith
-op-known (doT w) = omega arith
-op-known (doTdg w) = omega arith
-op-known (doReset w) = omega arith
-op-known (doCx w x) = omega arith
-op-known (doMeasure w x) = omega arith
-
-value-known : (b : ℕ) (c : Condition) → NamesBit b c → conditionByte c ≤ 2
-unfolding conditionByte
-value-known b always n = omega arith
-value-known b (whenBit x v) n = omega arith
-
--- the same record at another offset of another output
-named-moved : (q b : ℕ) (xs ys : List ℕ) (i j : ℕ) → ((k : ℕ) → getD xs (i + k) 0 ≡ getD ys (j + k) 0) → NamedAt q b ys j → NamedAt q b xs i
-named-moved q b xs ys i j e n =
-    let o : getD xs i 0 ≡ getD ys j 0 = simp add-zero at (e 0) in
-    record {
-      op = rw o (n .op);
-      value = rw e (n .value);
-      first = rw (e 2, e 3) (n .first);
-      target = λ h. rw (e 4, e 5) (n .target (sym o ∙ h));
-      measured = λ h. rw (e 4, e 5) (n .measured (sym o ∙ h));
-      condition = λ h. rw (e 6, e 7) (n .condition (rw e at h));
-    }
-
-first-named : (q b : ℕ) (r : Record) (rest : List ℕ) → Names q b (r .action) → NamesBit b (r .condition) → NamedAt q b (recordBytes r ++ rest) 0
-unfolding recordBytes bytesOf
-first-named q b r rest n c = record {
-  op = op-known (r .action);
-  value = value-known b (r .condition) c;
-  first = omega (arith, first-below q b (r .action) n);
-  target = λ h. omega (arith, target-below q b (r .action) n h);
-  measured = λ h. omega (arith, measured-below q b (r .action) n h);
-  condition = λ h. omega (arith, condition-below b (r .condition) c h);
-}
-
-bytes-named : (q b : ℕ) (rs : List Record) (rest : List ℕ) → AllName q b rs → (i : ℕ) → i < length rs → NamedAt q b (outputBytes rs ++ rest) (recordSize * i)
-unfolding outputBytes
-bytes-named q b [] rest n i h = absurd (omega arith)
-bytes-named q b (r ∷ rs) rest n zero h = rw (append-assoc (recordBytes r) (outputBytes rs) rest) (first-named q b r (outputBytes rs ++ rest) (n .0) (n .1))
-bytes-named q b (r ∷ rs) rest n (suc i) h = named-moved q b (recordBytes r ++ outputBytes rs ++ rest) (outputBytes rs ++ rest) (recordSize * suc i) (recordSize * i) (λ k.
-    let e : recordSize * suc i + k ≡ length (recordBytes r) + (recordSize * i + k) = omega (arith, record-size r) in
-    rw (append-assoc (recordBytes r) (outputBytes rs) rest, e) (getD-append-add (recordBytes r) (outputBytes rs ++ rest) (recordSize * i + k) 0))
-    (bytes-named q b rs rest (n .2) i (omega arith))
-
-written-size : (lent : List ℕ) (rs : List Record) → recordSize * length rs ≤ length lent → length (writtenInto lent rs) ≡ length lent
-unfolding writtenInto
-written-size lent rs h = length-append (outputBytes rs) (drop (recordSize * length rs) lent) ∙ omega (arith, output-size rs, length-drop (recordSize * length rs) lent)
-
-drop-written : (lent : List ℕ) (rs : List Record) → drop (recordSize * length rs) (writtenInto lent rs) ≡ drop (recordSize * length rs) lent
-unfolding writtenInto
-drop-written lent rs = drop-at (outputBytes rs) (drop (recordSize * length rs) lent) (recordSize * length rs) (output-size rs)
-
--- no records leave the output as lent
-none-written : (lent : List ℕ) (rs : List Record) → length rs ≡ 0 → writtenInto lent rs ≡ lent
-unfolding writtenInto outputBytes
-none-written lent [] e = refl
-none-written lent (r ∷ rs) e = absurd (omega arith)
-
-bytes-written : (q b : ℕ) (lent : List ℕ) (rs : List Record) → AllName q b rs → (i : ℕ) → i < length rs → NamedAt q b (writtenInto lent rs) (recordSize * i)
-unfolding writtenInto
-bytes-written q b lent rs n i h = bytes-named q b rs (drop (recordSize * length rs) lent) n i h
+use Rattle.language.proofs.Output.{written-size, drop-written, none-written, bytes-written}
 
 -- ---- answers
 
@@ -163,10 +56,41 @@ state-sound W lent n p s room few h number place early limited filled =
       bytes = bytes-written (W .wires) (W .bits) lent (s .records) (h .named);
     }
 
-safe-finishes : {A : Type 0} (W : World) (lent : List ℕ) (o : Outcome A) → 1 ≤ W .least → W .most ≡ 27 → W .room ≡ length lent → (W .wires ≤ mostWires) × (W .bits ≤ mostBits) → Safe W Any o → Finishes (W .least) (W .limit) (W .wires) (W .bits) lent (conclusionOf lent o)
-unfolding conclusionOf
-safe-finishes W lent o least most room few (goes {s = s} p h) = record { answer = _; is = refl; sound = state-sound W lent 0 0 s room few h (inl refl) (λ e. refl) (λ a b. absurd (omega arith)) (λ e. absurd (omega arith)) (λ e. absurd (omega arith)) }
-safe-finishes W lent o least most room few (ends {n = n} {p = p} {s = s} e h) = record { answer = _; is = refl; sound = state-sound W lent n p s room few h (inr (e .from, omega (arith, e .to))) (λ z. absurd (omega (arith, e .from))) (λ a b. (e .nothing b .1, e .nothing b .0)) (λ z. omega (arith, e .limited z, h .few)) (λ z. omega (arith, e .filled z)) }
+-- an outcome that is safe, and the answer that it comes to
+safe-reports : {A : Type 0} (W : World) (lent : List ℕ) (o : Outcome A) → 1 ≤ W .least → W .most ≡ 27 → W .room ≡ length lent → (W .wires ≤ mostWires) × (W .bits ≤ mostBits) → Safe W Any o → Reports (W .least) (W .limit) (W .wires) (W .bits) lent o (conclusionOf lent o)
+unfolding conclusionOf resultOf
+safe-reports W lent o least most room few (goes {a = a} {s = s} p h) = record {
+  answer = _;
+  is = refl;
+  last = s;
+  complete = λ e. (refl, (a, refl));
+  cut = λ l. absurd (omega arith);
+  records = refl;
+  steps = refl;
+  output = refl;
+  within = h .few;
+  fits = omega (arith, h .fit);
+  named = h .named;
+  sound = state-sound W lent 0 0 s room few h (inl refl) (λ e. refl) (λ a b. absurd (omega arith)) (λ e. absurd (omega arith)) (λ e. absurd (omega arith));
+}
+safe-reports W lent o least most room few (ends {n = n} {p = p} {s = s} e h) = record {
+  answer = _;
+  is = refl;
+  last = s;
+  complete = λ z. absurd (omega (arith, e .from));
+  cut = λ l. (refl, e .from, omega (arith, e .to));
+  records = refl;
+  steps = refl;
+  output = refl;
+  within = h .few;
+  fits = omega (arith, h .fit);
+  named = h .named;
+  sound = state-sound W lent n p s room few h (inr (e .from, omega (arith, e .to))) (λ z. absurd (omega (arith, e .from))) (λ a b. (e .nothing b .1, e .nothing b .0)) (λ z. omega (arith, e .limited z, h .few)) (λ z. omega (arith, e .filled z));
+}
+
+-- the answer alone
+finishes-of : {A : Type 0} {least limit q b : ℕ} {lent : List ℕ} {o : Outcome A} {c : Conclusion} → Reports least limit q b lent o c → Finishes least limit q b lent c
+finishes-of r = record { answer = r .answer; is = r .is; sound = r .sound }
 
 -- turned down before the machine starts
 untouched-finishes : (least limit q b : ℕ) (lent : List ℕ) (n : Refusal) → 1 ≤ least → least ≤ n → n ≤ 23 → (q ≤ mostWires) × (b ≤ mostBits) → Finishes least limit q b lent (untouched lent n 0)
@@ -228,12 +152,12 @@ checked : (program : List ℕ) (d : Declared) → checkProgram program ≡ good 
 unfolding checkProgram
 checked program d e = then-both (require 1 0 (leb (length program) longestProgram)) (check (read program)) d e .1
 
-run-finishes : (program : List ℕ) (limit : ℕ) (output : List ℕ) (d : Declared) → checkProgram program ≡ good d
-    → Finishes 24 limit (qubitsDeclared program) (bitsDeclared program) output (runOutcome program limit output)
+run-checked : (program : List ℕ) (limit : ℕ) (output : List ℕ) (d : Declared) → checkProgram program ≡ good d
+    → Reports 24 limit (qubitsDeclared program) (bitsDeclared program) output (runProgram limit (length output) (read program)) (runOutcome program limit output)
 unfolding runOutcome ifAccepted
-run-finishes program limit output d e =
+run-checked program limit output d e =
     let W : World = record { limit = limit; room = length output; wires = qubitsDeclared program; bits = bitsDeclared program; least = 24; most = 27; early = omega arith; late = omega arith } in
-    rw e (safe-finishes W output (runProgram limit (length output) (read program)) (omega arith) refl refl (omega (arith, program-counts (read program) d (checked program d e))) (program-safe W (omega arith) (read program) d (checked program d e) (omega arith) (omega arith)))
+    rw e (safe-reports W output (runProgram limit (length output) (read program)) (omega arith) refl refl (omega (arith, program-counts (read program) d (checked program d e))) (program-safe W (omega arith) (read program) d (checked program d e) (omega arith) (omega arith)))
 
 -- ---- instances
 
@@ -258,49 +182,51 @@ module _ (program : List ℕ) (n : ℕ) (sizes : List ℕ) (limit : ℕ) (output
   few-laid = (wires-few (familyIn (read program) n) (map pos (fourBytes sizes)), omega arith)
 
   -- an instance at sizes that were counted, of the family D
-  machine-finishes : (D : Declaration) (f : Family) → familyIn (read program) n ≡ some D → getElem? (allDeclared limit (length output) (read program) []) n ≡ some f → f .variables ≡ D .variables → f .types ≡ D .types
-      → length sizes ≡ 4 * f .variables → Finishes 23 limit (wiresLaidOut program n sizes) 0 output (conclusionOf output (runInstance f (map pos (fourBytes sizes))))
+  machine-reports : (D : Declaration) (f : Family) → familyIn (read program) n ≡ some D → getElem? (allDeclared limit (length output) (read program) []) n ≡ some f → f .variables ≡ D .variables → f .types ≡ D .types
+      → length sizes ≡ 4 * f .variables
+      → Reports 23 limit (wiresLaidOut program n sizes) 0 output (runInstance f (map pos (fourBytes sizes))) (conclusionOf output (runInstance f (map pos (fourBytes sizes))))
   unfolding wiresOf
-  machine-finishes D f i g v t c =
+  machine-reports D f i g v t c =
       let W : World = record { limit = limit; room = length output; wires = wiresLaidOut program n sizes; bits = 0; least = 23; most = 27; early = omega arith; late = omega arith } in
       let q : wiresLaid (layout (map pos (fourBytes sizes)) 0 (f .types) begin) ≤ wiresLaidOut program n sizes = rw (i, t) (omega arith) in
-      safe-finishes W output (runInstance f (map pos (fourBytes sizes))) (omega arith) refl refl few-laid (instance-safe W (omega arith) (read program) d n f (map pos (fourBytes sizes)) e g (sizes-natural (f .variables) sizes c) q (omega arith))
+      safe-reports W output (runInstance f (map pos (fourBytes sizes))) (omega arith) refl refl few-laid (instance-safe W (omega arith) (read program) d n f (map pos (fourBytes sizes)) e g (sizes-natural (f .variables) sizes c) q (omega arith))
 
-  -- the family that the machine knows for a declaration
-  declared-family : Declaration → Family
-  declared-family D = meaning limit (length output) (take n (allDeclared limit (length output) (read program) [])) D
-
-  family-found : (D : Declaration) → familyIn (read program) n ≡ some D → getElem? (allDeclared limit (length output) (read program) []) n ≡ some (declared-family D)
-  unfolding declared-family mapped
-  family-found D i = family-at limit (length output) (read program) n ∙ ap (mapped (meaning limit (length output) (take n (allDeclared limit (length output) (read program) [])))) i
-
-  family-missing : familyIn (read program) n ≡ none → getElem? (allDeclared limit (length output) (read program) []) n ≡ none
-  unfolding mapped
-  family-missing i = family-at limit (length output) (read program) n ∙ ap (mapped (meaning limit (length output) (take n (allDeclared limit (length output) (read program) [])))) i
-
-  suited-finishes : Suits program n sizes → Finishes 23 limit (wiresLaidOut program n sizes) 0 output (instanceOf (getElem? (allDeclared limit (length output) (read program) []) n) sizes output)
-  unfolding instanceOf declared-family meaning
-  suited-finishes s =
-      let g = family-found (s .called) (s .declared) in
-      rw (g, eq-eqb (length sizes) (4 * s .called .variables) (s .counted), s .small) (machine-finishes (s .called) (declared-family (s .called)) (s .declared) g refl refl (s .counted))
+  -- at sizes that suit, the machine runs
+  suited-reports : Suits program n sizes
+      → Reports 23 limit (wiresLaidOut program n sizes) 0 output (instanceAt program n (fourBytes sizes) limit (length output)) (instanceOf (getElem? (allDeclared limit (length output) (read program) []) n) sizes output)
+  unfolding instanceOf declared-family meaning instanceAt found M._>>=_ M.after runInstance
+  suited-reports s =
+      let g = family-found program n limit output (s .called) (s .declared) in
+      rw (g, eq-eqb (length sizes) (4 * s .called .variables) (s .counted), s .small) (machine-reports (s .called) (declared-family program n limit output (s .called)) (s .declared) g refl refl (s .counted))
 
   any-finishes : (o : Option Declaration) → familyIn (read program) n ≡ o → Finishes 20 limit (wiresLaidOut program n sizes) 0 output (instanceOf (getElem? (allDeclared limit (length output) (read program) []) n) sizes output)
   unfolding instanceOf declared-family meaning
-  any-finishes none i = rw (family-missing i) (untouched-finishes 20 limit (wiresLaidOut program n sizes) 0 output 20 (omega arith) (omega arith) (omega arith) few-laid)
-  any-finishes (some D) i = let g = family-found D i in rw g (go (eqb (length sizes) (4 * D .variables)) (allSizesFit (fourBytes sizes)) refl)
+  any-finishes none i = rw (family-missing program n limit output i) (untouched-finishes 20 limit (wiresLaidOut program n sizes) 0 output 20 (omega arith) (omega arith) (omega arith) few-laid)
+  any-finishes (some D) i = let g = family-found program n limit output D i in rw g (go (eqb (length sizes) (4 * D .variables)) (allSizesFit (fourBytes sizes)) refl)
     where
       go : (b c : Bool) → eqb (length sizes) (4 * D .variables) ≡ b
-          → Finishes 20 limit (wiresLaidOut program n sizes) 0 output (cond b (cond c (conclusionOf output (runInstance (declared-family D) (map pos (fourBytes sizes)))) (untouched output 22 0)) (untouched output 21 0))
-      go true true h = finishes-from (omega arith) (machine-finishes D (declared-family D) i (family-found D i) refl refl (eqb-true (length sizes) (4 * D .variables) h))
+          → Finishes 20 limit (wiresLaidOut program n sizes) 0 output (cond b (cond c (conclusionOf output (runInstance (declared-family program n limit output D) (map pos (fourBytes sizes)))) (untouched output 22 0)) (untouched output 21 0))
+      go true true h = finishes-from (omega arith) (finishes-of (machine-reports D (declared-family program n limit output D) i (family-found program n limit output D i) refl refl (eqb-true (length sizes) (4 * D .variables) h)))
       go true false h = untouched-finishes 20 limit (wiresLaidOut program n sizes) 0 output 22 (omega arith) (omega arith) (omega arith) few-laid
       go false c h = untouched-finishes 20 limit (wiresLaidOut program n sizes) 0 output 21 (omega arith) (omega arith) (omega arith) few-laid
 
 -- ---- THE THEOREM
 
 -- every whole run of an accepted program, at every limit and output
+pub run-reports : RunTheorem
+run-reports program limit output e = let a = accepted program e in run-checked program limit output (a .0) (a .1)
+
 pub run-sound : (program : List ℕ) (limit : ℕ) (output : List ℕ) → checkResult program .number ≡ 0
     → Finishes 24 limit (qubitsDeclared program) (bitsDeclared program) output (runOutcome program limit output)
-run-sound program limit output e = let a = accepted program e in run-finishes program limit output (a .0) (a .1)
+run-sound program limit output e = finishes-of (run-reports program limit output e)
+
+-- every instance of an accepted program at sizes that suit
+pub instance-reports : (program : List ℕ) (family : ℕ) (sizes : List ℕ) (limit : ℕ) (output : List ℕ) → checkResult program .number ≡ 0 → Suits program family sizes
+    → Reports 23 limit (wiresLaidOut program family sizes) 0 output (instanceAt program family (fourBytes sizes) limit (length output)) (instanceOutcome program family sizes limit output)
+unfolding instanceOutcome ifAccepted
+instance-reports program family sizes limit output e s =
+    let a = accepted program e in
+    rw (a .1) (suited-reports program family sizes limit output (a .0) (checked program (a .0) (a .1)) s)
 
 -- every instance of an accepted program, at every family number, sizes, limit and output; at sizes that suit, the number is 0 or 23 to 27
 pub instance-sound : (program : List ℕ) (family : ℕ) (sizes : List ℕ) (limit : ℕ) (output : List ℕ) → checkResult program .number ≡ 0
@@ -309,8 +235,7 @@ pub instance-sound : (program : List ℕ) (family : ℕ) (sizes : List ℕ) (lim
 unfolding instanceOutcome ifAccepted
 instance-sound program family sizes limit output e =
     let a = accepted program e in
-    let c = checked program (a .0) (a .1) in
-    (rw (a .1) (any-finishes program family sizes limit output (a .0) c _ refl), λ s. rw (a .1) (suited-finishes program family sizes limit output (a .0) c s))
+    (rw (a .1) (any-finishes program family sizes limit output (a .0) (checked program (a .0) (a .1)) _ refl), λ s. finishes-of (instance-reports program family sizes limit output e s))
 
 -- ---- a program that is turned down
 

@@ -1,4 +1,4 @@
--- What is said of every answer for an accepted program: never stuck, and this.
+-- What an answer for an accepted program says by itself, down to its bytes. Theorem ties it to the machine.
 use mathlib.Core.Path.{_≡_}
 use mathlib.Core.Logic.{_⊎_}
 use mathlib.Core.List.{List, [], _∷_, map}
