@@ -9,7 +9,7 @@ ghost use Rattle.language.specs.Form.{inRange};
 ghost use Rattle.language.specs.Read.{isIndexTag, isOperandTag};
 ghost use Rattle.fields.specs.Table.{pastOf};
 ghost use Rattle.operands.specs.Stand.{operandsOf, ofParameter};
-ghost use Rattle.calls.specs.Families.{FamilyHead, Passed, BodyFrom, BodyOf};
+ghost use Rattle.calls.specs.Families.{FamilyHead, Passed, BodyFrom};
 ghost use Rattle.calls.specs.Arguments.{handedOf, handedIn, operandsIn, SizesAre, KeepsMore, Handed, Takes, Fits, Fitting, Scopes, Arguments};
 use fields::Header;
 use indexes::Value;
