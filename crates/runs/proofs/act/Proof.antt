@@ -78,7 +78,7 @@ returns-2 c =
     let run = acting (a .limit) room (readTop (field (a .at) (a .tag) content)) g in
     let ap₀ = c .before .before .before .before .before .before .before .before .pre .0 .0 .apart in
     let t = timed (a .limit) room (a .t .families) (a .t .registers) l (now (a .regs)) q b (c .before .before .before .before .top-scope .result) (c .before .before .before .before .top-scope .ensures) (a .at) (a .tag) content (omega (arith, c .before .before .if1 .left, ap₀ .0, ap₀ .1, ap₀ .2)) (omega (arith, ltb-false 6 (a .tag) (c .before .if2 .left))) (λ e. c .before .before .before .before .before .before .before .before .pre .0 .0 .ready e .long) in
-    does-as _ _ _ _ _ run (t .1) (step-full (a .limit) room (now (a .out)) (a .st) (a .at) (t .0) (c .if3 .taken))
+    does-as _ _ _ _ _ run (t .1) (step-full (a .limit) room (now (a .out)) (a .st) (a .at) (t .0) (omega (arith, c .if3 .taken)))
 
 -- src/lib.rt:245:17
 add-taken : tie.Need-add-taken

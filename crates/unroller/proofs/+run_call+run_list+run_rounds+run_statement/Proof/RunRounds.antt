@@ -12,8 +12,9 @@ use lib.ListN.{length, take}
 use lib.Seq.{slice}
 use Rattle.language.proofs.Integers.{range-back}
 use Rattle.emit.proofs.Doing.{does-end, does-stuck, step-taken}
-use Rattle.gates.specs.Gates.{frameIn, Repeated}
+use Rattle.gates.specs.Gates.{frameIn, Repeated, innerOf}
 use Rattle.gates.proofs.Acting.{does-as}
+use Rattle.calls.proofs.Tabling.{tabled-fewer}
 use Rattle.unroller.specs.Runs.{oneRun}
 use Rattle.unroller.proofs.Loops.{inner-seen, inner-few, inner-stays, loop-over, loop-stuck, loop-opens}
 
@@ -85,7 +86,7 @@ module _ (t : ℕ) where
       let total = c .before .before .before .before .start .given .0 .1 .0 in
       let body = c .before .before .before .before .start .given .0 .1 .1 .0 in
       let o = loop-opens (a .m) room (a .base) (a .from) (a .to) (a .place) (a .tag) l g vs (a .scope) (now (a .regs)) en past (c .before .before .before .before .before .before .before .before .before .before .before .before .pre .1 .1 .0) (c .before .before .before .before .before .before .repeats-of .result) rep (ready .order) st0 total body (c .before .before .before .before .start .given .1) in
-      rw (c .before .before .inner .ensures, inner-seen (a .m) (a .tag), range-back {z = st0} (o .ranged)) (omega (arith, c .before .before .before .before .before .before .before .before .before .before .before .before .pre .0, o .low), (record { few = inner-few (a .m) (a .tag) (ready .few) (en .deep); order = o .high; within = ready .within; near = ready .near; here = ready .here }, (c .before .before .before .before .before .before .before .before .before .before .before .before .pre .1 .1 .1 .0, o .often)))
+      rw (c .before .before .inner .ensures, range-back {z = st0} (o .ranged)) (omega (arith, c .before .before .before .before .before .before .before .before .before .before .before .before .pre .0, o .low, inner-seen (a .m) (a .tag)), (record { few = inner-few (a .m) (a .tag) (ready .few) (en .deep); order = o .high; within = ready .within; near = ready .near; here = ready .here }, (tabled-fewer g (now (a .table)) (a .m .seen) (innerOf (a .m) (a .tag) .seen) (omega (arith, inner-seen (a .m) (a .tag))) (c .before .before .before .before .before .before .before .before .before .before .before .before .pre .1 .1 .1 .0), o .often)))
 
   -- src/lib.rt:126:1
   pub returns : lts.Need-returns (calls t) (at t) Post
