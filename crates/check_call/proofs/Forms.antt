@@ -1,46 +1,41 @@
 -- The forms of a call's indexes. Assumes nothing.
 use mathlib.Core.Path.{_≡_, refl, sym, ap, _∙_}
 use mathlib.Core.List.{List, [], _∷_, _++_, map, append-assoc}
-use mathlib.Core.Bool.{Bool, true, false, cond}
+use mathlib.Core.Bool.{Bool, true, false, cond, _&&_}
 use Prim.Native.Nat.{ℕ, suc, _+_, _≤_, _<_}
 use native.Mathlib.Omega.{arith}
 use native.Mathlib.Numerals.{add-one}
 use lib.IntN.{ℤ, pos}
 use lib.ListN.{length, take, drop, set, replicate, getD-replicate}
 use lib.Seq.{slice, take-suc-set}
+use borrow.Author.Tests.{ne-eqb, le-leb}
 use types.Run.{OneOf}
 use denote.Enum.Declared.{tagOf}
 use Rattle.language.specs.Tree.{Index, badIndex, Argument, index, operand, badArgument}
-use Rattle.language.specs.Read.{Field, field, due, outerIndex, isIndexTag, isOperandTag, indexBy, readIndex, readOperand, readArgument}
+use Rattle.language.specs.Read.{Field, field, choose, due, outerIndex, isIndexTag, isOperandTag, indexBy, readIndex, readOperand, readArgument}
 use Rattle.language.specs.Form.{Form, built}
 use Rattle.language.specs.Check.{Checked, good, refused, _>>=_, _>>_, formOf, mustShow, callForms}
+use Rattle.language.proofs.Integers.{clash}
 use Rattle.fields.specs.Header.{fieldsAt}
 use Rattle.fields.proofs.Reading.{View, ends, cuts, goes, view}
 use Rattle.forms.proofs.Laws.{zeros-kept}
 use Rattle.forms.specs.Flat.{asForm}
 use Rattle.forms.specs.Rows.{Rows, formsOf}
 use Rattle.check_index.proofs.Read.{the-type}
-use Rattle.check_index.specs.Indexes.{indexTag, deepNumber}
 use Rattle.check_index.specs.Answers.{formTold, PastField, partTold}
 use Rattle.check_call.specs.Calls.{formsTold}
-use Rattle.check_index.specs.declared.IndexTag.{IndexTag}
-use Rattle.check_index.specs.declared.IndexTag.the-variants.{Literal, Variable, Both, Other}
 use Rattle.check_index.specs.declared.Read.{Read}
 use Rattle.check_index.specs.declared.Read.the-variants.{Upto, Refused}
-use Rattle.check_index.proofs.Forms.{readerOf, by-tag, other-tag}
 use Rattle.check_index.proofs.Answers.{not-first}
 use Rattle.language.specs.Check as C
 
-three-other : (k : IndexTag) → deepNumber k ≡ 3 → k ≡ Other
-three-other Literal e = absurd (omega arith)
-three-other Variable e = absurd (omega arith)
-three-other (Both o) e = absurd (omega arith)
-three-other Other e = refl
-
 not-index : (part : Field → Index) (p tag : ℕ) (content : List ℕ) → isIndexTag tag ≡ false → indexBy part (field p tag content) ≡ badIndex 3 p
+unfolding indexBy choose
 not-index part p tag content e =
-    by-tag part p tag content
-    ∙ ap (λ (k : IndexTag). readerOf part k p content) (three-other (indexTag tag) (other-tag tag ∙ ap (λ (t : Bool). cond t 5 3) e))
+    rw (ne-eqb tag 64 (λ z. never (omega arith) (omega arith)), ne-eqb tag 65 (λ z. never (omega arith) (omega arith)), ne-eqb tag 66 (λ z. never (omega arith) (omega arith)), ne-eqb tag 67 (λ z. never (omega arith) (omega arith)), ne-eqb tag 68 (λ z. never (omega arith) (omega arith)))
+  where
+    never : 64 ≤ tag → tag ≤ 68 → ⊥
+    never h k = clash (sym (λ j. le-leb 64 tag h j && le-leb tag 68 k j) ∙ e)
 
 module _ (s : C.Scope) (place n : ℕ) where
   -- the first index of a call, and those after it

@@ -1,15 +1,15 @@
 -- The form that an index field means, by its tag. Assumes nothing.
 use mathlib.Core.Path.{_≡_, refl, sym, ap, _∙_}
 use mathlib.Core.List.{List, [], _∷_}
-use mathlib.Core.Bool.{Bool, true, false, cond, _&&_}
+use mathlib.Core.Bool.{Bool, true, false, cond}
 use Prim.Native.Nat.{ℕ, zero, suc, _+_, _-_, _≤_, _<_}
 use native.Mathlib.Omega.{arith}
 use native.Mathlib.Nat.{add-zero}
-use lib.Dec.{eqb, leb, ltb}
+use lib.Dec.{ltb}
 use lib.IntN.{ℤ, pos}
 use lib.ListN.{length, drop}
 use lib.Seq.{slice}
-use borrow.Author.Tests.{eqb-true, eqb-false, le-leb, lt-ltb, le-ltb, leb-true}
+use borrow.Author.Tests.{le-leb, lt-ltb, le-ltb, lt-leb}
 use types.Run.{OneOf}
 use denote.Enum.Declared.{tagOf}
 use Rattle.language.specs.Tree.{Index, badIndex}
@@ -20,10 +20,9 @@ use Rattle.fields.specs.Header.{fieldsAt}
 use Rattle.fields.proofs.Reading.{Wholly}
 use Rattle.forms.specs.Flat.{asForm, builtOf}
 use Rattle.check_index.proofs.Read.{the-type}
-use Rattle.check_index.specs.Indexes.{indexTag, deepNumber, scopeOf, treeOperation}
+use Rattle.check_index.specs.Indexes.{indexTag, scopeOf, treeOperation}
 use Rattle.check_index.specs.Answers.{formTold, PastField}
 use Rattle.check_index.specs.declared.Operation.{Operation}
-use Rattle.check_index.specs.declared.Operation.the-variants.{Sum, Difference, Product}
 use Rattle.check_index.specs.declared.IndexTag.{IndexTag}
 use Rattle.check_index.specs.declared.IndexTag.the-variants.{Literal, Variable, Both, Other}
 use Rattle.check_index.specs.declared.Read.{Read}
@@ -42,30 +41,20 @@ pub by-tag : (part : Field → Index) (p tag : ℕ) (content : List ℕ) → ind
 unfolding indexBy indexTag choose treeOperation
 by-tag part p tag content = simp (push (λ (k : IndexTag). readerOf part k p content), push (λ (r : Reader Index). r p content))
 
--- whether the tag is an index's
-pub other-tag : (tag : ℕ) → deepNumber (indexTag tag) ≡ cond (isIndexTag tag) 5 3
-unfolding indexTag choose
-other-tag tag = go (eqb tag 64) refl (eqb tag 65) refl (eqb tag 66) refl (eqb tag 67) refl (eqb tag 68) refl
-  where
-    within : 64 ≤ tag → tag ≤ 68 → _≡_ {A = ℕ} 5 (cond (isIndexTag tag) 5 3)
-    within h k = rw (le-leb 64 tag h, le-leb tag 68 k)
+-- past the deepest level
+module _ (p tag : ℕ) (content : List ℕ) where
+  deep-by : (t : Bool) → isIndexTag tag ≡ t → cond t (badIndex 5 p) (badIndex 3 p) ≡ deepIndex (field p tag content)
+  unfolding deepIndex
+  deep-by t e = sym (ap (λ (t : Bool). cond t (badIndex 5 p) (badIndex 3 p)) e)
 
-    beyond : (tag ≡ 64 → ⊥) → (tag ≡ 65 → ⊥) → (tag ≡ 66 → ⊥) → (tag ≡ 67 → ⊥) → (tag ≡ 68 → ⊥) → _≡_ {A = ℕ} 3 (cond (isIndexTag tag) 5 3)
-    beyond a b c d e = by (leb 64 tag) (leb-true 64 tag) (leb tag 68) (leb-true tag 68)
-      where
-        by : (x : Bool) → (x ≡ true → 64 ≤ tag) → (y : Bool) → (y ≡ true → tag ≤ 68) → _≡_ {A = ℕ} 3 (cond (x && y) 5 3)
-        by false f y g = refl
-        by true f false g = refl
-        by true f true g = absurd (let p = f refl in let q = g refl in omega arith)
+  pub deep-below : tag < 64 → badIndex 3 p ≡ deepIndex (field p tag content)
+  deep-below h = deep-by false (rw (lt-leb 64 tag h))
 
-    go : (a : Bool) → eqb tag 64 ≡ a → (b : Bool) → eqb tag 65 ≡ b → (c : Bool) → eqb tag 66 ≡ c → (d : Bool) → eqb tag 67 ≡ d → (e : Bool) → eqb tag 68 ≡ e
-        → deepNumber (cond a Literal (cond b Variable (cond c (Both Sum) (cond d (Both Difference) (cond e (Both Product) Other))))) ≡ cond (isIndexTag tag) 5 3
-    go true a b p c q d r e s = let z = eqb-true tag 64 a in within (omega arith) (omega arith)
-    go false a true p c q d r e s = let z = eqb-true tag 65 p in within (omega arith) (omega arith)
-    go false a false p true q d r e s = let z = eqb-true tag 66 q in within (omega arith) (omega arith)
-    go false a false p false q true r e s = let z = eqb-true tag 67 r in within (omega arith) (omega arith)
-    go false a false p false q false r true s = let z = eqb-true tag 68 s in within (omega arith) (omega arith)
-    go false a false p false q false r false s = beyond (eqb-false tag 64 a) (eqb-false tag 65 p) (eqb-false tag 66 q) (eqb-false tag 67 r) (eqb-false tag 68 s)
+  pub deep-above : 68 < tag → badIndex 3 p ≡ deepIndex (field p tag content)
+  deep-above h = deep-by false (rw (le-leb 64 tag (omega arith), lt-leb tag 68 h))
+
+  pub deep-index : 64 ≤ tag → tag ≤ 68 → badIndex 5 p ≡ deepIndex (field p tag content)
+  deep-index h k = deep-by true (rw (le-leb 64 tag h, le-leb tag 68 k))
 
 pub literal-bad : (p n : ℕ) (l : List ℕ) → (length l ≡ 2 → ⊥) → refused 4 p ≡ formOf (scopeOf n) (readLiteral p l)
 unfolding formOf readLiteral
@@ -111,9 +100,6 @@ pub unmade : (p : ℕ) (l m : List ℤ) {t : Bool} {b : Built} → builtOf t l �
 unfolding formTold inForm
 unmade p l m e q = ap (λ (t : Bool). inForm p (builtOf t l)) (sym q) ∙ ap (inForm p) e
 
-abbrev pub refusal : ℕ → ℕ → Checked Form
-refusal p n = refused n p
-
 module _ (p : List ℕ) (at to place levels n : ℕ) where
   abbrev pub meant : Checked Form
   meant = formOf (scopeOf n) (due (readIndex levels) (badIndex 4 place) (fieldsAt p at to))
@@ -134,11 +120,10 @@ module _ (p : List ℕ) (at to place levels n : ℕ) where
       by (suc k) = refl
 
   module _ (tag next : ℕ) (w : Wholly p at to tag next) where
-    pub index-deep : levels ≡ 0 → refused (deepNumber (indexTag tag)) at ≡ meant
-    unfolding due formOf readIndex deepIndex
-    index-deep z =
-        sym (due-by (w .first) ∙ ap (λ (k : ℕ). formOf (scopeOf n) (readIndex k (field at tag (slice (at + 3) next p)))) z
-        ∙ push (formOf (scopeOf n)) (isIndexTag tag) (badIndex 5 at) (badIndex 3 at) ∙ sym (push (refusal at) (isIndexTag tag) 5 3) ∙ ap (refusal at) (sym (other-tag tag)))
+    pub index-deep : (r : ℕ) → badIndex r at ≡ deepIndex (field at tag (slice (at + 3) next p)) → levels ≡ 0 → refused r at ≡ meant
+    unfolding due formOf readIndex
+    index-deep r e z =
+        sym (due-by (w .first) ∙ ap (λ (k : ℕ). formOf (scopeOf n) (readIndex k (field at tag (slice (at + 3) next p)))) z ∙ ap (formOf (scopeOf n)) (sym e))
 
     pub index-acts : (k : IndexTag) → (levels ≡ 0 → ⊥) → indexTag tag ≡ k → formOf (scopeOf n) (readerOf (readIndex (levels - 1)) k at (slice (at + 3) next p)) ≡ meant
     unfolding due readIndex

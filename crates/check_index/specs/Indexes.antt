@@ -17,13 +17,6 @@ formNumbers = allVariables + 1
 unfoldable pub indexTag : ℕ → IndexTag
 indexTag tag = choose tag ((64, Literal) ∷ (65, Variable) ∷ (66, Both Sum) ∷ (67, Both Difference) ∷ (68, Both Product) ∷ []) Other
 
--- the refusal of such a field past the deepest level
-abbrev pub deepNumber : IndexTag → ℕ
-deepNumber Literal = 5
-deepNumber Variable = 5
-deepNumber (Both o) = 5
-deepNumber Other = 3
-
 unfoldable pub treeOperation : Operation → T.Operation
 treeOperation Sum = T.sum
 treeOperation Difference = T.difference

@@ -1,15 +1,16 @@
 // The check of an index field: the form that it means.
 ghost use mathlib.Core.Path.{_≡_};
+ghost use mathlib.Core.List.{List};
 ghost use Prim.Native.Nat.{ℕ, _+_, _≤_};
 ghost use lib.ListN.{length};
 ghost use lib.Seq.{slice};
 ghost use Rattle.language.specs.Tree.{badIndex};
-ghost use Rattle.language.specs.Read.{due, readIndex, readLiteral, readVariable};
+ghost use Rattle.language.specs.Read.{field, due, deepIndex, readIndex, readLiteral, readVariable};
 ghost use Rattle.language.specs.Check.{formOf, combined};
 ghost use Rattle.language.specs.Limits.{allVariables};
 ghost use Rattle.fields.specs.Header.{fieldsAt};
 ghost use Rattle.forms.specs.Flat.{Kept, asForm};
-ghost use Rattle.check_index.specs.Indexes.{indexTag, deepNumber, treeOperation, scopeOf};
+ghost use Rattle.check_index.specs.Indexes.{indexTag, treeOperation, scopeOf};
 ghost use Rattle.check_index.specs.Answers.{formTold, EndsAt, Past};
 use fields::Header;
 use forms::Product;
@@ -35,6 +36,11 @@ pub const SIZE_NUMBERS: usize = MOST_VARIABLES + 1;
 pub type Form = [i64; FORM_NUMBERS];
 
 pub type Size = [i64; SIZE_NUMBERS];
+
+// The tags of index fields, from the first to the last.
+const FIRST_TAG: u8 = 64;
+
+const LAST_TAG: u8 = 68;
 
 // The operations on index forms.
 pub enum Operation {
@@ -70,16 +76,17 @@ fn index_tag(tag: u8) -> IndexTag
     }
 }
 
-// The refusal of an index past the deepest level.
-fn deep(kind: IndexTag) -> u32
-    ensures { λ r. ⌜ r ≡ deepNumber kind ⌝ }
+// The refusal of a field of a tag where an index would be past the deepest level.
+fn too_deep(tag: u8) -> u32
+    ensures { λ r. ⌜ ((p : ℕ) (content : List ℕ) → badIndex r p ≡ deepIndex (field p tag content)) ⌝ }
 {
-    match kind {
-        IndexTag::Other => 3,
-        IndexTag::Literal => 5,
-        IndexTag::Variable => 5,
-        IndexTag::Both(_) => 5,
+    if tag < FIRST_TAG {
+        return 3;
     }
+    if LAST_TAG < tag {
+        return 3;
+    }
+    5
 }
 
 // The literal at `at`, whose field ends at `next`.
@@ -178,7 +185,7 @@ pub fn index(
         Header::Whole(tag, next) => {
             let kind = index_tag(tag);
             if levels == 0 {
-                return Read::Refused(deep(kind), at);
+                return Read::Refused(too_deep(tag), at);
             }
             let below = levels - 1;
             let from = at + 3;

@@ -1,19 +1,17 @@
 -- What is shown, and which kinds fit. Assumes nothing.
 use mathlib.Core.Path.{_≡_, refl, sym, ap, _∙_}
 use mathlib.Core.List.{List}
-use mathlib.Core.Bool.{Bool, true, false, not, cond, _&&_}
+use mathlib.Core.Bool.{Bool, true, false, cond}
 use Prim.Native.Nat.{ℕ}
-use native.Mathlib.Omega.{arith}
 use lib.Dec.{eqb}
 use lib.IntN.{ℤ}
-use borrow.Author.Tests.{eqb-true, ne-eqb, eq-eqb}
+use borrow.Author.Tests.{ne-eqb, eq-eqb}
 use Rattle.language.specs.Form.{Form, Built, built, outOfRange, differenceOf, _thenBuild_, Loop, showing}
 use Rattle.language.specs.Check.{good, refused, Kind, qubit, quantum, classical, byShowing, mustShow, wholeFits, elementSize}
 use Rattle.forms.specs.Flat.{asForm, builtOf}
 use Rattle.forms.proofs.Laws.{show-outside}
 use Rattle.check_operand.specs.Tables.{kindBy}
-use Rattle.check_operand.specs.Operands.{wantedOf, elementFits}
-use Rattle.check_operand.specs.declared.Wanted.{Wanted}
+use Rattle.check_operand.specs.Operands.{wantedOf}
 use Rattle.check_operand.specs.declared.Wanted.the-variants.{Wire, Bit, Register}
 use Rattle.language.specs.Check as C
 
@@ -57,19 +55,32 @@ module _ (p : ℕ) (s : C.Scope) (b : ℕ) (f : Form) where
       by true = refl
       by false = refl
 
-pub size-is : (p : ℕ) (w : Wanted) (l : List ℤ) (b : ℕ) (f : Form) → elementSize p (wantedOf w l) (kindBy b f) ≡ cond (elementFits w b) (good f) (refused 9 p)
-unfolding wantedOf elementSize kindBy elementFits
-size-is p Wire l b f = by (eqb b 0) refl (eqb b 1) refl
-  where
-    by : (t : Bool) → eqb b 0 ≡ t → (u : Bool) → eqb b 1 ≡ u → elementSize p C.wire (cond t qubit (cond u (quantum f) (classical f))) ≡ cond u (good f) (refused 9 p)
-    by true d true e = absurd (let x = eqb-true b 0 d in let y = eqb-true b 1 e in omega arith)
-    by true d false e = refl
-    by false d true e = refl
-    by false d false e = refl
-size-is p Bit l b f = by (eqb b 0) (eqb b 1)
-  where
-    by : (t u : Bool) → elementSize p C.bit (cond t qubit (cond u (quantum f) (classical f))) ≡ cond (not t && not u) (good f) (refused 9 p)
-    by true u = refl
-    by false true = refl
-    by false false = refl
-size-is p (Register t) l b f = refl
+-- the kind of an operand whose element is due
+module _ (p b : ℕ) (f : Form) (l : List ℤ) where
+  pub element-wire : b ≡ 1 → good f ≡ elementSize p (wantedOf Wire l) (kindBy b f)
+  unfolding wantedOf elementSize kindBy
+  element-wire e = sym (ap (λ (k : ℕ). elementSize p C.wire (kindBy k f)) e)
+
+  pub element-no-wire : (b ≡ 1 → ⊥) → refused 9 p ≡ elementSize p (wantedOf Wire l) (kindBy b f)
+  unfolding wantedOf elementSize kindBy
+  element-no-wire e = sym (ap (λ (u : Bool). elementSize p C.wire (cond (eqb b 0) qubit (cond u (quantum f) (classical f)))) (ne-eqb b 1 e) ∙ by (eqb b 0))
+    where
+      by : (t : Bool) → elementSize p C.wire (cond t qubit (classical f)) ≡ refused 9 p
+      by true = refl
+      by false = refl
+
+  pub element-qubit : b ≡ 0 → refused 9 p ≡ elementSize p (wantedOf Bit l) (kindBy b f)
+  unfolding wantedOf elementSize kindBy
+  element-qubit e = sym (ap (λ (k : ℕ). elementSize p C.bit (kindBy k f)) e)
+
+  pub element-quantum : b ≡ 1 → refused 9 p ≡ elementSize p (wantedOf Bit l) (kindBy b f)
+  unfolding wantedOf elementSize kindBy
+  element-quantum e = sym (ap (λ (k : ℕ). elementSize p C.bit (kindBy k f)) e)
+
+  pub element-bit : (b ≡ 0 → ⊥) → (b ≡ 1 → ⊥) → good f ≡ elementSize p (wantedOf Bit l) (kindBy b f)
+  unfolding wantedOf elementSize kindBy
+  element-bit x y = sym (rw (ne-eqb b 0 x, ne-eqb b 1 y))
+
+  pub element-register : (t : Bool) → refused 9 p ≡ elementSize p (wantedOf (Register t) l) (kindBy b f)
+  unfolding wantedOf elementSize
+  element-register t = refl

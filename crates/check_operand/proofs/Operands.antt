@@ -1,7 +1,6 @@
 -- Operands: taken whole, elements, the one that is due, and two in a row. Assumes nothing.
 use mathlib.Core.Path.{_≡_, refl, sym, ap, _∙_}
 use mathlib.Core.List.{List, [], _∷_}
-use mathlib.Core.Bool.{Bool, true, false, cond}
 use mathlib.Core.Option.{Option, none, some}
 use Prim.Native.Nat.{ℕ, _+_, _≤_, _<_}
 use native.Mathlib.Omega.{arith}
@@ -11,22 +10,21 @@ use lib.Seq.{slice}
 use borrow.Author.Tests.{ne-eqb}
 use types.Run.{OneOf}
 use denote.Enum.Declared.{tagOf}
-use Rattle.language.specs.Tree.{badIndex, element, badOperand, operand}
+use Rattle.language.specs.Tree.{badIndex, badOperand}
 use Rattle.language.specs.Read.{Field, field, badHeader, choose, ending, due, outerIndex, readWhole, readElement, elementOf, readOperand}
 use Rattle.language.specs.Form.{Form, Built, built, outOfRange, constantForm, differenceOf, _thenBuild_, Loop, showing}
-use Rattle.language.specs.Check.{Checked, good, refused, _>>=_, _>>_, require, noLeftover, inScope, formOf, Kind, Signature, byShowing, mustShow, wholeFits, elementSize, roomAfter, checkOperand}
+use Rattle.language.specs.Check.{Checked, refused, _>>=_, _>>_, noLeftover, inScope, formOf, Kind, Signature, byShowing, mustShow, wholeFits, elementSize, roomAfter, checkOperand}
 use Rattle.fields.specs.Header.{fieldsAt}
-use Rattle.fields.proofs.Reading.{Wholly, ends}
+use Rattle.fields.proofs.Reading.{Wholly}
 use Rattle.forms.specs.Flat.{asForm}
 use Rattle.check_index.proofs.Read.{the-type}
 use Rattle.check_index.specs.Answers.{formTold, PastField, partTold}
 use Rattle.check_operand.specs.Tables.{kindBy, scopeWith}
-use Rattle.check_operand.specs.Operands.{wantedOf, elementFits, withinShown}
+use Rattle.check_operand.specs.Operands.{wantedOf, sizeKnown, withinShown}
 use Rattle.check_operand.specs.declared.Wanted.{Wanted}
 use Rattle.check_index.specs.declared.Read.{Read}
-use Rattle.check_index.specs.declared.Read.the-variants.{Upto}
+use Rattle.check_index.specs.declared.Read.the-variants.{Upto, Refused}
 use Rattle.check_index.proofs.Answers.{more-left, none-left, then-goes, then-stops, form-stops, told-then, drop-two}
-use Rattle.check_operand.proofs.Fits.{size-is}
 use Rattle.language.specs.Tree as T
 use Rattle.language.specs.Check as C
 
@@ -128,21 +126,13 @@ module _ (fs : List Signature) (ks : List Kind) (m : ℕ) (ls : List Loop) (at :
   abbrev pub sizing : Checked (Unit {0})
   sizing = elementSize at (wantedOf w z) (kindBy b size) >>= λ size. (mustShow at (scopeWith fs ks m ls) (built f) >> mustShow at (scopeWith fs ks m ls) (roomAfter size f))
 
-  pub kind-good : elementFits w b ≡ true → withinShown at m ls f size ≡ sizing
-  unfolding mustShow _>>=_
-  kind-good e = sym (ap (λ (c : Checked Form). c >>= λ size. (mustShow at (scopeWith fs ks m ls) (built f) >> mustShow at (scopeWith fs ks m ls) (roomAfter size f))) (size-is at w z b size ∙ ap (λ (t : Bool). cond t (good size) (refused 9 at)) e))
-
-  pub kind-bad : elementFits w b ≡ false → refused 9 at ≡ sizing
-  unfolding _>>=_
-  kind-bad e = sym (ap (λ (c : Checked Form). c >>= λ size. (mustShow at (scopeWith fs ks m ls) (built f) >> mustShow at (scopeWith fs ks m ls) (roomAfter size f))) (size-is at w z b size ∙ ap (λ (t : Bool). cond t (good size) (refused 9 at)) e))
-
-  pub kind-tested : (require 9 at (elementFits w b) >> withinShown at m ls f size) ≡ sizing
-  unfolding require _>>_
-  kind-tested = by (elementFits w b) refl
+  pub kind-tested : (k : Read) → sizeKnown k size ≡ elementSize at (wantedOf w z) (kindBy b size) → (partTold k >> withinShown at m ls f size) ≡ sizing
+  unfolding sizeKnown partTold mustShow _>>=_ _>>_
+  kind-tested k e = by k ∙ ap (λ (c : Checked Form). c >>= λ size. (mustShow at (scopeWith fs ks m ls) (built f) >> mustShow at (scopeWith fs ks m ls) (roomAfter size f))) e
     where
-      by : (t : Bool) → elementFits w b ≡ t → (require 9 at t >> withinShown at m ls f size) ≡ sizing
-      by true e = kind-good e
-      by false e = kind-bad e
+      by : (k : Read) → (partTold k >> withinShown at m ls f size) ≡ (sizeKnown k size >>= λ size. (mustShow at (scopeWith fs ks m ls) (built f) >> mustShow at (scopeWith fs ks m ls) (roomAfter size f)))
+      by (Upto n) = refl
+      by (Refused n q) = refl
 
 module _ (s : C.Scope) (d : C.Due) (p : List ℕ) (at to place : ℕ) where
   abbrev pub operandMeant : Checked (Unit {0})

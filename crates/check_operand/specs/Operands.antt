@@ -1,15 +1,16 @@
 -- What an operand is due to be, and what is shown of it.
 use mathlib.Core.Path.{_≡_}
 use mathlib.Core.List.{List}
-use mathlib.Core.Bool.{Bool, true, false, not, _&&_}
+use mathlib.Core.Bool.{true}
 use Prim.Native.Nat.{ℕ}
 use lib.IntN.{ℤ}
-use lib.Dec.{eqb}
 use lib.ListN.{drop}
 use Rattle.language.specs.Form.{Form, Loop, built, showing}
-use Rattle.language.specs.Check.{Checked, _>>_, byShowing, roomAfter, noLeftover, checkOperand}
-use Rattle.language.specs.Read.{Field, due, ending, operandDue}
+use Rattle.language.specs.Check.{Checked, good, refused, _>>_, byShowing, roomAfter, noLeftover, checkOperand}
+use Rattle.language.specs.Read.{Field, ending, operandDue}
 use Rattle.forms.specs.Flat.{Kept, builtOf}
+use Rattle.check_index.specs.declared.Read.{Read}
+use Rattle.check_index.specs.declared.Read.the-variants.{Upto, Refused}
 use Rattle.check_operand.specs.declared.Wanted.{Wanted}
 use Rattle.check_operand.specs.declared.Wanted.the-variants.{Wire, Bit, Register}
 use Rattle.language.specs.Check as C
@@ -20,11 +21,10 @@ wantedOf Wire l = C.wire
 wantedOf Bit l = C.bit
 wantedOf (Register t) l = C.register (builtOf t l)
 
--- whether an element of an operand of this kind is what is due
-unfoldable pub elementFits : Wanted → ℕ → Bool
-elementFits Wire b = eqb b 1
-elementFits Bit b = not (eqb b 0) && not (eqb b 1)
-elementFits (Register t) b = false
+-- the size that is known of a register whose element is due: its own, where its kind is right
+unfoldable pub sizeKnown : Read → Form → Checked Form
+sizeKnown (Upto n) f = good f
+sizeKnown (Refused n p) f = refused n p
 
 abbrev pub SizeRight : Wanted → List ℤ → Type 0
 SizeRight Wire l = Unit {0}

@@ -8,14 +8,14 @@ ghost use lib.Seq.{slice};
 ghost use lib.IntN.{ℤ, pos};
 ghost use Rattle.language.specs.Tree.{badOperand};
 ghost use Rattle.language.specs.Read.{due, readOperand, readWhole, readElement};
-ghost use Rattle.language.specs.Form.{built, differenceOf, _thenBuild_, showing};
-ghost use Rattle.language.specs.Check.{Kind, Signature, require, byShowing, wholeFits, checkOperand};
+ghost use Rattle.language.specs.Form.{Form, built, differenceOf, _thenBuild_, showing};
+ghost use Rattle.language.specs.Check.{Kind, Signature, elementSize, byShowing, wire, wholeFits, checkOperand};
 ghost use Rattle.language.specs.Limits.{allVariables};
 ghost use Rattle.fields.specs.Header.{fieldsAt};
 ghost use Rattle.forms.specs.Flat.{Kept, Short, widened, asForm, builtOf};
 ghost use Rattle.forms.specs.Rows.{Rows, loopsOf};
 ghost use Rattle.check_operand.specs.Tables.{kindBy, TablesRight, scopeWith, scopeAt};
-ghost use Rattle.check_operand.specs.Operands.{elementFits, firstRefusal, withinShown, wantedOf, SizeRight, oneWire, twoOperands};
+ghost use Rattle.check_operand.specs.Operands.{sizeKnown, firstRefusal, withinShown, wantedOf, SizeRight, oneWire, twoOperands};
 ghost use Rattle.check_index.specs.Answers.{partTold, Upon, Passes};
 ghost use Rattle.check_index.specs.Indexes.{formNumbers};
 use check_index::DEEPEST;
@@ -179,26 +179,29 @@ fn whole_fits(
     }
 }
 
-// Whether an element of an operand of a kind is what is due.
-fn element_fits(wanted: Wanted, kind: u8) -> bool
-    ensures { λ r. ⌜ r ≡ elementFits wanted kind ⌝ }
-{
-    match wanted {
-        Wanted::Wire => kind == QUANTUM,
-        Wanted::Bit => kind != QUBIT && kind != QUANTUM,
-        Wanted::Register(_) => false,
-    }
-}
-
 // Whether an element of an operand of a kind is what is due, for the field from `at` to `next`.
 fn element_kind(wanted: Wanted, kind: u8, at: usize, next: usize) -> Read
-    ensures { λ r. ⌜ partTold r ≡ require 9 at (elementFits wanted kind) ⌝ }
+    ensures { λ r. ⌜ ((f : Form) (l : List ℤ) → sizeKnown r f ≡ elementSize at (wantedOf wanted l) (kindBy kind f)) ⌝ }
     ensures { λ r. ⌜ Upon next r ⌝ }
 {
-    if element_fits(wanted, kind) {
-        return Read::Upto(next);
+    match wanted {
+        Wanted::Wire => {
+            if kind == QUANTUM {
+                return Read::Upto(next);
+            }
+            Read::Refused(9, at)
+        }
+        Wanted::Bit => {
+            if kind == QUBIT {
+                return Read::Refused(9, at);
+            }
+            if kind == QUANTUM {
+                return Read::Refused(9, at);
+            }
+            Read::Upto(next)
+        }
+        Wanted::Register(_) => Read::Refused(9, at),
     }
-    Read::Refused(9, at)
 }
 
 // The first refusal of two tests of the same field, if there is one.
@@ -448,4 +451,22 @@ pub fn two_operands(
         return Read::Refused(4, at);
     }
     Read::Upto(next)
+}
+
+// Two wires, and no more, in the field from `at` to `next`.
+pub fn two_wires(
+    program: &[u8],
+    at: usize,
+    next: usize,
+    s: Visible,
+    kinds: &[u8],
+    sizes: &[Size],
+    lows: &[Form],
+    highs: &[Form],
+) -> Read
+    requires { ⌜ (at + 3 ≤ next) × (next ≤ length (now program)) ⌝ }
+    requires { ⌜ TablesRight s (now kinds) (now sizes) (now lows) (now highs) ⌝ }
+    ensures { λ r. ⌜ ((fs : List Signature) → partTold r ≡ twoOperands (scopeAt fs s (now (kinds .entry)) (now (sizes .entry)) (now (lows .entry)) (now (highs .entry))) wire at (fieldsAt (now (program .entry)) (at + 3) next)) ⌝ }
+{
+    two_operands(program, at, next, Wanted::Wire, s, kinds, sizes, lows, highs)
 }

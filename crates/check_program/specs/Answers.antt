@@ -1,5 +1,4 @@
 -- What the answers of the check stand for.
-use Rattle.language.specs.Tree.{number}
 use Rattle.language.specs.Result.{Result, turnedDown}
 use Rattle.check_program.specs.declared.Outcome.{Outcome}
 use Rattle.check_program.specs.declared.Outcome.the-variants.{Accepted, Turned}

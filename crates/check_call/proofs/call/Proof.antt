@@ -6,23 +6,16 @@ use Rattle.check_call.proofs.call.Lts as lts
 use Rattle.check_call.proofs.call_forms.Reads as call-forms-reads
 use Rattle.check_call.proofs.call_operands.Reads as call-operands-reads
 use Rattle.fields.proofs.wide.Reads as wide-reads
-use mathlib.Core.Path.{_≡_, refl, sym, ap, _∙_}
-use mathlib.Core.List.{List, _∷_, [], map}
-use Rattle.language.specs.Read.{readArgument}
-use Rattle.fields.specs.Header.{fieldsAt}
-use Prim.Native.Nat.{ℕ, _+_, _*_, _≤_, _<_}
+use mathlib.Core.Path.{refl, sym, ap, _∙_}
+use mathlib.Core.List.{_∷_, []}
+use Prim.Native.Nat.{ℕ, _+_}
 use native.Mathlib.Omega.{arith}
 use native.Mathlib.Nat.{zero-add}
 use mathlib.Core.Option.{some}
 use denote.Ref.{now}
-use lib.IntN.{ℤ, pos}
-use lib.ListN.{length, getD, replicate}
+use lib.ListN.{getD}
 use lib.Seq.{slice}
-use Rattle.language.specs.Check.{Kind, Signature, callOperands}
 use Rattle.fields.proofs.Reading.{one-byte, slice-none}
-use Rattle.forms.specs.Flat.{Kept}
-use Rattle.forms.specs.Rows.{Rows, formsOf}
-use Rattle.forms.proofs.Laws.{zeros-kept, fewer}
 use Rattle.check_index.specs.Answers.{partTold}
 use Rattle.check_operand.specs.Tables.{tabulated, kindsAt}
 use Rattle.check_call.specs.Calls.{scopeFull, signatureAt}

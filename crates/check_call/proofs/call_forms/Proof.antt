@@ -4,13 +4,13 @@ use Rattle.check_call.proofs.call_forms.Reads as reads
 use Rattle.check_call.proofs.call_forms.Lts as lts
 use Rattle.check_index.proofs.index.Reads as index-reads
 use Rattle.check_operand.proofs.must_show.Reads as must-show-reads
-use mathlib.Core.Path.{_≡_, refl, sym, ap, _∙_}
+use mathlib.Core.Path.{_≡_, sym, ap, _∙_}
 use mathlib.Core.List.{List, map, _++_}
-use Prim.Native.Nat.{ℕ, suc, _+_, _-_, _≤_, _<_}
+use Prim.Native.Nat.{ℕ, suc, _+_, _-_, _≤_}
 use native.Mathlib.Omega.{arith}
 use borrow.Author.Needs.{needs}
 use denote.Ref.{now}
-use lib.ListN.{length, set, length-set}
+use lib.ListN.{set}
 use Rattle.language.specs.Tree.{badIndex}
 use Rattle.language.specs.Read.{due, readIndex, readArgument}
 use Rattle.language.specs.Form.{Form}

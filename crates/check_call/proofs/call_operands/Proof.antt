@@ -5,20 +5,19 @@ use Rattle.check_call.proofs.call_operands.Lts as lts
 use Rattle.check_operand.proofs.operand.Reads as operand-reads
 use Rattle.check_call.proofs.taken.Reads as taken-reads
 use mathlib.Core.Path.{_≡_, refl, sym, ap, _∙_}
-use mathlib.Core.List.{List, map, _∷_, []}
-use Prim.Native.Nat.{ℕ, suc, _+_, _-_, _≤_, _<_}
+use mathlib.Core.List.{List, map}
+use Prim.Native.Nat.{ℕ, suc, _+_, _-_, _≤_}
 use native.Mathlib.Omega.{arith}
 use native.Mathlib.Numerals.{add-one}
 use borrow.Author.Needs.{needs}
 use denote.Ref.{now}
-use lib.ListN.{length, drop}
+use lib.ListN.{drop}
 use Rattle.language.specs.Tree.{badOperand}
 use Rattle.language.specs.Read.{Field, due, readOperand, readArgument}
-use Rattle.language.specs.Check.{Checked, _>>_, Kind, Due, Signature, checkOperand, callOperands}
+use Rattle.language.specs.Check.{Checked, Kind, Due, Signature, checkOperand, callOperands}
 use Rattle.language.specs.Check as C
 use Rattle.fields.specs.Header.{fieldsAt}
-use Rattle.forms.specs.Rows.{Rows, loopsOf, formsOf}
-use Rattle.forms.proofs.Laws.{fewer}
+use Rattle.forms.specs.Rows.{formsOf}
 use Rattle.check_operand.specs.Tables.{kindAt, kindsAt, scopeAt}
 use Rattle.check_index.specs.Answers.{partTold}
 use Rattle.check_operand.proofs.Tables.{row-drop}

@@ -3,9 +3,7 @@ use Rattle.check_call.proofs.taken.Tie as tie
 use Rattle.check_call.proofs.taken.Reads as reads
 use Rattle.check_call.proofs.taken.Lts as lts
 use Rattle.forms.proofs.put_in.Reads as put-in-reads
-use mathlib.Core.Path.{_≡_, refl, sym, ap, _∙_}
-use Prim.Native.Nat.{_≤_}
-use native.Mathlib.Omega.{arith}
+use mathlib.Core.Path.{ap, _∙_}
 use denote.Ref.{now}
 use Rattle.language.specs.Check.{register}
 use Rattle.forms.specs.Flat.{widened, asForm}

@@ -5,12 +5,10 @@ use Rattle.check_declaration.proofs.parameter_type.Reads as reads
 use Rattle.check_declaration.proofs.parameter_type.Lts as lts
 use Rattle.check_declaration.proofs.sized_type.Reads as sized-type-reads
 use Rattle.fields.proofs.header_at.Reads as header-at-reads
-use mathlib.Core.Path.{_≡_, refl, sym, ap, _∙_}
-use mathlib.Core.List.{List, []}
-use Prim.Native.Nat.{ℕ, _+_, _≤_, _<_}
+use mathlib.Core.Path.{sym, _∙_}
+use mathlib.Core.List.{[]}
 use native.Mathlib.Omega.{arith}
 use denote.Ref.{now}
-use lib.ListN.{length}
 use Rattle.fields.proofs.Reading.{when-whole, when-end, when-cut}
 use Rattle.check_operand.specs.Tables.{scopeWith}
 use Rattle.check_declaration.specs.Types.{typeTold}

@@ -4,12 +4,12 @@ use Rattle.check_declaration.proofs.register_size.Tie as tie
 use Rattle.check_declaration.proofs.register_size.Reads as reads
 use Rattle.check_declaration.proofs.register_size.Lts as lts
 use Rattle.fields.proofs.two_bytes.Reads as two-bytes-reads
-use mathlib.Core.Path.{_≡_, refl, sym, ap, _∙_}
-use mathlib.Core.List.{List, _∷_, []}
-use Prim.Native.Nat.{ℕ, _+_, _≤_, _<_}
+use mathlib.Core.Path.{_≡_, ap, _∙_}
+use mathlib.Core.List.{List, _∷_}
+use Prim.Native.Nat.{ℕ, _+_}
 use native.Mathlib.Omega.{arith}
 use denote.Ref.{now}
-use lib.ListN.{length, getD}
+use lib.ListN.{getD}
 use lib.Seq.{slice, length-slice}
 use Rattle.language.specs.Read.{twoBytes}
 use Rattle.language.specs.Check.{good}

@@ -5,9 +5,8 @@ use Rattle.check_declaration.proofs.sized_type.Reads as reads
 use Rattle.check_declaration.proofs.sized_type.Lts as lts
 use Rattle.check_index.proofs.index.Reads as index-reads
 use Rattle.check_operand.proofs.must_show.Reads as must-show-reads
-use mathlib.Core.Path.{_≡_, refl, sym, ap, _∙_}
-use mathlib.Core.List.{List, []}
-use Prim.Native.Nat.{ℕ, _+_, _≤_, _<_}
+use mathlib.Core.Path.{refl}
+use Prim.Native.Nat.{_+_}
 use native.Mathlib.Omega.{arith}
 use denote.Ref.{now}
 use Rattle.forms.specs.Rows.{loopsOf}

@@ -6,8 +6,7 @@ use Rattle.check_index.proofs.combine.Lts as lts
 use Rattle.check_index.proofs.product.Reads as product-reads
 use Rattle.forms.proofs.add.Reads as add-reads
 use Rattle.forms.proofs.subtract.Reads as subtract-reads
-use mathlib.Core.Path.{_≡_, refl, sym, ap, _∙_}
-use Prim.Native.Nat.{ℕ}
+use mathlib.Core.Path.{refl, sym, ap, _∙_}
 use denote.Ref.{now}
 use Rattle.language.specs.Check.{combined}
 use Rattle.forms.specs.Flat.{asForm}

@@ -5,20 +5,16 @@ use Rattle.check_index.proofs.literal.Reads as reads
 use Rattle.check_index.proofs.literal.Lts as lts
 use Rattle.fields.proofs.two_bytes.Reads as two-bytes-reads
 use Rattle.forms.proofs.set_constant.Reads as set-constant-reads
-use mathlib.Core.Path.{_≡_, refl, sym, ap, _∙_}
-use mathlib.Core.List.{List}
-use Prim.Native.Nat.{ℕ, _+_, _≤_}
+use mathlib.Core.Path.{refl, sym, ap, _∙_}
+use Prim.Native.Nat.{_+_}
 use native.Mathlib.Omega.{arith}
 use denote.Ref.{now}
-use lib.IntN.{ℤ, pos}
-use lib.ListN.{length, getD}
+use lib.IntN.{pos}
+use lib.ListN.{getD}
 use lib.Seq.{slice, length-slice}
-use Rattle.language.specs.Read.{twoBytes}
-use Rattle.language.specs.Form.{inRange, constantForm, Form}
-use Rattle.language.specs.Check.{Checked, good}
+use Rattle.language.specs.Form.{constantForm}
+use Rattle.language.specs.Check.{good}
 use Rattle.fields.proofs.Reading.{two-bytes}
-use Rattle.forms.specs.Flat.{asForm}
-use Rattle.language.proofs.Integers.{range-yes, range-back, up, dn}
 use Rattle.check_index.specs.Answers.{formTold}
 use Rattle.check_index.proofs.Forms.{literal-bad, literal-good}
 use Rattle.language.proofs.Integers.{small, small-range}

@@ -4,8 +4,8 @@ use Rattle.check_index.proofs.product.Tie as tie
 use Rattle.check_index.proofs.product.Reads as reads
 use Rattle.check_index.proofs.product.Lts as lts
 use Rattle.forms.proofs.multiply.Reads as multiply-reads
-use mathlib.Core.Path.{_≡_, refl}
-use Rattle.forms.specs.Products.{productOf, MadeKept}
+use mathlib.Core.Path.{refl}
+use Rattle.forms.specs.Products.{productOf}
 use Rattle.check_index.specs.Answers.{formTold}
 use Rattle.check_index.specs.Indexes.{treeOperation}
 

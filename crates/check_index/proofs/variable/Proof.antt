@@ -5,17 +5,15 @@ use Rattle.check_index.proofs.variable.Reads as reads
 use Rattle.check_index.proofs.variable.Lts as lts
 use Rattle.fields.proofs.wide.Reads as wide-reads
 use Rattle.forms.proofs.set_variable.Reads as set-variable-reads
-use mathlib.Core.Path.{_≡_, refl, sym, ap, _∙_}
-use mathlib.Core.List.{List}
-use Prim.Native.Nat.{ℕ, _+_, _≤_, _<_}
+use mathlib.Core.Path.{_≡_, refl, ap, _∙_}
+use Prim.Native.Nat.{_+_}
 use native.Mathlib.Omega.{arith}
 use denote.Ref.{now}
-use lib.ListN.{length, getD}
+use lib.ListN.{getD}
 use lib.Seq.{slice, length-slice}
-use Rattle.language.specs.Form.{variableForm, Form}
-use Rattle.language.specs.Check.{Checked, good}
+use Rattle.language.specs.Form.{variableForm}
+use Rattle.language.specs.Check.{good}
 use Rattle.fields.proofs.Reading.{one-byte, slice-none}
-use Rattle.forms.specs.Flat.{asForm}
 use Rattle.check_index.specs.Answers.{formTold}
 use Rattle.check_index.proofs.Forms.{variable-none, variable-beyond, variable-long, variable-good}
 

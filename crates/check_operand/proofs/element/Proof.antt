@@ -8,24 +8,24 @@ use Rattle.check_operand.proofs.first_refusal.Reads as first-refusal-re
 use Rattle.check_index.proofs.index.Reads as index-reads
 use Rattle.fields.proofs.wide.Reads as wide-reads
 use Rattle.check_operand.proofs.within.Reads as within-reads
-use mathlib.Core.Path.{_≡_, refl, sym, ap, _∙_}
+use mathlib.Core.Path.{_≡_, ap, _∙_}
 use mathlib.Core.List.{[]}
-use Prim.Native.Nat.{ℕ, _+_, _≤_, _<_, _*_}
+use Prim.Native.Nat.{ℕ, _+_}
 use native.Mathlib.Omega.{arith}
 use denote.Ref.{now}
-use lib.ListN.{length, getD}
-use lib.Seq.{slice, length-slice}
+use lib.ListN.{getD}
+use lib.Seq.{slice}
 use Rattle.language.specs.Tree.{badIndex}
 use Rattle.language.specs.Read.{due, readIndex}
-use Rattle.language.specs.Check.{Kind, require, _>>_}
+use Rattle.language.specs.Check.{Checked, elementSize, _>>_}
 use Rattle.fields.specs.Header.{fieldsAt}
 use Rattle.fields.proofs.Reading.{one-byte, slice-none}
 use Rattle.forms.specs.Flat.{widened, asForm}
-use Rattle.forms.specs.Rows.{loopsOf, Rows}
+use Rattle.forms.specs.Rows.{loopsOf}
 use Rattle.forms.proofs.Laws.{fewer}
 use Rattle.check_index.specs.Answers.{partTold}
-use Rattle.check_operand.specs.Tables.{kindAt, kindsAt, scopeAt}
-use Rattle.check_operand.specs.Operands.{wantedOf, withinShown, elementFits}
+use Rattle.check_operand.specs.Tables.{kindBy, kindAt, kindsAt, scopeAt}
+use Rattle.check_operand.specs.Operands.{wantedOf, withinShown}
 use Rattle.check_index.proofs.Answers.{past-upto, upon-stops}
 use Rattle.check_operand.proofs.Operands.{element-none, element-beyond, element-stops, element-long, element-good, kind-tested}
 use Rattle.check_operand.proofs.Tables.{scope-forms, kinds-get, kinds-none}
@@ -210,11 +210,12 @@ returns-5 c =
     let i = due (readIndex 16) (badIndex 4 (a .at)) (fieldsAt p (a .at + 4) (a .next)) in
     let end = c .before .before .before .before .before .before .before .before .r .given .0 .0 in
     let u = past-upto p (a .at + 4) (a .next) (c .before .before .before .before .before .before .before .before .before .before .index .result) l end (c .before .before .before .before .before .before .before .before .r .given .1) (c .before .before .before .before .before .before .before .before .before .before .index .ensures .1) in
-    let fits = c .before .before .before .before .element-kind .ensures .0 ∙ ap (λ (j : ℕ). require 9 (a .at) (elementFits (a .wanted) (getD (now (a .kinds)) (a .s .first + j) 0))) v in
+    let size = asForm (widened (getD (now (a .sizes)) row [])) in
+    let fits = c .before .before .before .before .element-kind .ensures .0 size (now (a .size)) ∙ ap (λ (j : ℕ). elementSize (a .at) d (kindBy (getD (now (a .kinds)) (a .s .first + j) 0) size)) v in
     let shown = c .before .within .ensures .0 ∙ ap (λ (j : ℕ). withinShown (a .at) (a .s .variables) ls (asForm l) (asForm (widened (getD (now (a .sizes)) (a .s .first + j) [])))) v in (
       λ fs. c .first-refusal .ensures .0
-          ∙ (λ j. fits j >> shown j)
-          ∙ kind-tested fs ks (a .s .variables) ls (a .at) (a .wanted) (now (a .size)) (getD (now (a .kinds)) row 0) (asForm (widened (getD (now (a .sizes)) row []))) (asForm l)
+          ∙ ap (λ (x : Checked (Unit {0})). partTold (c .before .before .before .before .element-kind .result) >> x) shown
+          ∙ kind-tested fs ks (a .s .variables) ls (a .at) (a .wanted) (now (a .size)) (getD (now (a .kinds)) row 0) size (asForm l) (c .before .before .before .before .element-kind .result) fits
           ∙ element-good (scopeAt fs (a .s) (now (a .kinds)) (now (a .sizes)) (now (a .lows)) (now (a .highs))) d (a .at) (slice from (a .next) p) n p (a .next) e k get (c .before .before .before .before .before .before .before .before .before .before .index .result) l (c .before .before .before .before .before .before .before .before .before .before .index .ensures .0 ∙ scope-forms fs ks (a .s .variables) (a .s .loops) (now (a .lows)) (now (a .highs)) i) end (c .before .before .before .before .before .before .before .before .r .given .1) (u .0) (c .before .before .before .before .before .before .if3 .left),
       c .first-refusal .ensures .1 (a .next) (c .before .before .before .before .element-kind .ensures .1) (c .before .within .ensures .1),
     )

@@ -3,7 +3,7 @@ use Rattle.check_operand.proofs.first_refusal.Statement.{statement}
 use Rattle.check_operand.proofs.first_refusal.Tie as tie
 use Rattle.check_operand.proofs.first_refusal.Reads as reads
 use Rattle.check_operand.proofs.first_refusal.Lts as lts
-use mathlib.Core.Path.{_≡_, refl, sym, ap, _∙_}
+use mathlib.Core.Path.{sym, ap}
 use Rattle.language.specs.Check.{_>>_}
 use Rattle.check_index.specs.Answers.{partTold}
 use Rattle.check_index.specs.declared.Read.{Read}

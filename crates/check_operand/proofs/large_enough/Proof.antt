@@ -6,13 +6,12 @@ use Rattle.check_operand.proofs.large_enough.Lts as lts
 use Rattle.check_operand.proofs.must_show.Reads as must-show-reads
 use Rattle.forms.proofs.load.Reads as load-reads
 use Rattle.forms.proofs.subtract.Reads as subtract-reads
-use mathlib.Core.Path.{_≡_, refl, sym, ap, _∙_}
-use mathlib.Core.Bool.{Bool, true, false}
-use native.Mathlib.Omega.{arith}
+use mathlib.Core.Path.{sym, ap, _∙_}
+use mathlib.Core.Bool.{Bool}
 use denote.Ref.{now}
 use mathlib.Core.List.{List}
 use lib.IntN.{ℤ}
-use Rattle.language.specs.Form.{Built, built, showing, differenceOf, _thenBuild_}
+use Rattle.language.specs.Form.{Built, showing, differenceOf, _thenBuild_}
 use Rattle.language.specs.Check.{Checked, byShowing}
 use Rattle.forms.specs.Flat.{widened, asForm, builtOf}
 use Rattle.forms.specs.Rows.{loopsOf}

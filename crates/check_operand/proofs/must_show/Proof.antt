@@ -4,10 +4,9 @@ use Rattle.check_operand.proofs.must_show.Tie as tie
 use Rattle.check_operand.proofs.must_show.Reads as reads
 use Rattle.check_operand.proofs.must_show.Lts as lts
 use Rattle.forms.proofs.show.Reads as show-reads
-use mathlib.Core.Path.{_≡_, refl, sym, ap, _∙_}
-use Rattle.language.specs.Form.{showing, built}
+use mathlib.Core.Path.{refl, sym, ap, _∙_}
 use Rattle.language.specs.Check.{byShowing}
-use Rattle.forms.specs.Flat.{asForm, shownOf}
+use Rattle.forms.specs.Flat.{shownOf}
 use Rattle.check_index.specs.Answers.{partTold}
 
 -- src/lib.rt:241:11

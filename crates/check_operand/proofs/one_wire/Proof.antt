@@ -4,10 +4,9 @@ use Rattle.check_operand.proofs.one_wire.Tie as tie
 use Rattle.check_operand.proofs.one_wire.Reads as reads
 use Rattle.check_operand.proofs.one_wire.Lts as lts
 use Rattle.check_operand.proofs.operand.Reads as operand-reads
-use mathlib.Core.Path.{_≡_, refl, sym, ap, _∙_}
+use mathlib.Core.Path.{refl, sym, _∙_}
 use mathlib.Core.List.{List}
-use Prim.Native.Nat.{ℕ, _+_}
-use native.Mathlib.Omega.{arith}
+use Prim.Native.Nat.{_+_}
 use denote.Ref.{now}
 use lib.ListN.{drop}
 use Rattle.language.specs.Tree.{badOperand}

@@ -6,11 +6,9 @@ use Rattle.check_operand.proofs.operand.Lts as lts
 use Rattle.check_operand.proofs.element.Reads as element-reads
 use Rattle.check_operand.proofs.whole.Reads as whole-reads
 use Rattle.fields.proofs.header_at.Reads as header-at-reads
-use mathlib.Core.Path.{_≡_, refl, sym, ap, _∙_}
-use Prim.Native.Nat.{ℕ, _+_, _≤_, _<_}
+use mathlib.Core.Path.{sym, _∙_}
 use native.Mathlib.Omega.{arith}
 use denote.Ref.{now}
-use lib.ListN.{length}
 use Rattle.fields.proofs.Reading.{when-whole, when-end, when-cut}
 use Rattle.check_index.specs.Answers.{partTold}
 use Rattle.check_operand.specs.Tables.{scopeAt}

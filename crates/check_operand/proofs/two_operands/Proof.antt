@@ -4,13 +4,12 @@ use Rattle.check_operand.proofs.two_operands.Tie as tie
 use Rattle.check_operand.proofs.two_operands.Reads as reads
 use Rattle.check_operand.proofs.two_operands.Lts as lts
 use Rattle.check_operand.proofs.operand.Reads as operand-reads
-use mathlib.Core.Path.{_≡_, refl, sym, ap, _∙_}
+use mathlib.Core.Path.{refl, sym, _∙_}
 use mathlib.Core.List.{List}
-use Prim.Native.Nat.{ℕ, _+_, _≤_}
-use native.Mathlib.Omega.{arith}
+use Prim.Native.Nat.{_+_}
 use denote.Ref.{now}
 use lib.IntN.{pos}
-use lib.ListN.{drop, length, replicate}
+use lib.ListN.{drop, replicate}
 use Rattle.language.specs.Tree.{badOperand}
 use Rattle.language.specs.Read.{due, readOperand, ending}
 use Rattle.language.specs.Check.{Checked, _>>_, noLeftover, checkOperand, wire, Signature, Scope}

@@ -5,17 +5,15 @@ use Rattle.check_operand.proofs.whole.Reads as reads
 use Rattle.check_operand.proofs.whole.Lts as lts
 use Rattle.check_operand.proofs.whole_fits.Reads as whole-fits-reads
 use Rattle.fields.proofs.wide.Reads as wide-reads
-use mathlib.Core.Path.{_≡_, refl, sym, ap, _∙_}
-use mathlib.Core.List.{[]}
-use Prim.Native.Nat.{ℕ, _+_, _≤_, _<_}
+use mathlib.Core.Path.{_≡_, ap, _∙_}
+use Prim.Native.Nat.{ℕ, _+_}
 use native.Mathlib.Omega.{arith}
 use denote.Ref.{now}
-use lib.ListN.{length, getD}
+use lib.ListN.{getD}
 use lib.Seq.{slice, length-slice}
-use Rattle.language.specs.Check.{Kind, wholeFits}
+use Rattle.language.specs.Check.{wholeFits}
 use Rattle.fields.proofs.Reading.{one-byte, slice-none}
-use Rattle.forms.specs.Flat.{asForm}
-use Rattle.forms.specs.Rows.{loopsOf, Rows}
+use Rattle.forms.specs.Rows.{loopsOf}
 use Rattle.check_index.specs.Answers.{partTold}
 use Rattle.check_operand.specs.Tables.{kindAt, kindsAt, scopeAt}
 use Rattle.check_operand.specs.Operands.{wantedOf}

@@ -4,7 +4,7 @@ use Rattle.check_operand.proofs.whole_fits.Tie as tie
 use Rattle.check_operand.proofs.whole_fits.Reads as reads
 use Rattle.check_operand.proofs.whole_fits.Lts as lts
 use Rattle.check_operand.proofs.large_enough.Reads as large-enough-reads
-use mathlib.Core.Path.{_≡_, refl, sym, ap, _∙_}
+use mathlib.Core.Path.{refl, sym, ap, _∙_}
 use denote.Ref.{now}
 use Rattle.language.specs.Check.{wholeFits}
 use Rattle.forms.specs.Flat.{widened, asForm}

@@ -7,13 +7,11 @@ use Rattle.check_operand.proofs.must_show.Reads as must-show-reads
 use Rattle.forms.proofs.load.Reads as load-reads
 use Rattle.forms.proofs.set_constant.Reads as set-constant-reads
 use Rattle.forms.proofs.subtract.Reads as subtract-reads
-use mathlib.Core.Path.{_≡_, refl, sym, ap, _∙_}
-use native.Mathlib.Omega.{arith}
+use mathlib.Core.Path.{refl, sym, ap, _∙_}
 use denote.Ref.{now}
-use lib.IntN.{pos}
-use Rattle.language.specs.Form.{Form, Built, built, inRange, constantForm, showing, differenceOf}
+use Rattle.language.specs.Form.{Built, inRange, showing, differenceOf}
 use Rattle.language.specs.Check.{Checked, byShowing}
-use Rattle.forms.specs.Flat.{widened, asForm, builtOf}
+use Rattle.forms.specs.Flat.{widened, asForm}
 use Rattle.forms.specs.Rows.{loopsOf}
 use Rattle.check_index.specs.Answers.{partTold}
 use Rattle.check_operand.proofs.Operands.{within-stops, within-goes, room-none, room-some}

@@ -7,13 +7,12 @@ use Rattle.check_statement.proofs.conditional.Reads as conditional-read
 use Rattle.check_statement.proofs.one_statement.Reads as one-statement-reads
 use Rattle.check_operand.proofs.one_wire.Reads as one-wire-reads
 use Rattle.check_operand.proofs.two_operands.Reads as two-operands-reads
-use mathlib.Core.Path.{_≡_, refl, sym, ap, _∙_}
-use mathlib.Core.List.{List}
-use Prim.Native.Nat.{ℕ, _+_, _≤_, _<_}
+use mathlib.Core.Path.{sym, ap, _∙_}
+use Prim.Native.Nat.{_+_}
 use denote.Ref.{now}
 use lib.Seq.{slice}
 use Rattle.language.specs.Read.{field, readStatement}
-use Rattle.language.specs.Check.{Checked, good, _>>_, checkStatement, Declared, topScope}
+use Rattle.language.specs.Check.{Checked, good, _>>_, checkStatement}
 use Rattle.language.specs.Check as C
 use Rattle.fields.specs.Header.{fieldsAt}
 use Rattle.check_operand.specs.Tables.{tabulated}

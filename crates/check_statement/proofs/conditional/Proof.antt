@@ -6,16 +6,15 @@ use Rattle.check_statement.proofs.conditional.Lts as lts
 use Rattle.check_statement.proofs.list.Reads as list-reads
 use Rattle.check_operand.proofs.operand.Reads as operand-reads
 use Rattle.fields.proofs.wide.Reads as wide-reads
-use mathlib.Core.Path.{_≡_, refl, sym, ap, _∙_}
+use mathlib.Core.Path.{sym, ap, _∙_}
 use mathlib.Core.List.{List, _∷_}
-use Prim.Native.Nat.{ℕ, _+_, _≤_, _<_}
-use native.Mathlib.Omega.{arith}
+use Prim.Native.Nat.{ℕ, _+_}
 use denote.Ref.{now}
-use lib.ListN.{length, getD, drop}
+use lib.ListN.{drop}
 use lib.Seq.{slice}
 use Rattle.language.specs.Tree.{badOperand}
 use Rattle.language.specs.Read.{Field, due, readOperand, readStatement, statementsBy}
-use Rattle.language.specs.Check.{Checked, good, _>>_, checkOperand, checkStatements, Declared, topScope}
+use Rattle.language.specs.Check.{Checked, good, _>>_, checkOperand, checkStatements, topScope}
 use Rattle.language.specs.Check as C
 use Rattle.fields.specs.Header.{fieldsAt}
 use Rattle.fields.proofs.Reading.{one-byte, slice-none}

@@ -4,9 +4,7 @@ use Rattle.check_statement.proofs.loop_forms.Tie as tie
 use Rattle.check_statement.proofs.loop_forms.Reads as reads
 use Rattle.check_statement.proofs.loop_forms.Lts as lts
 use Rattle.check_index.proofs.index.Reads as index-reads
-use mathlib.Core.Path.{_≡_, refl, sym, ap, _∙_}
 use Prim.Native.Nat.{_+_}
-use native.Mathlib.Omega.{arith}
 use denote.Ref.{now}
 use Rattle.check_index.specs.Indexes.{scopeOf}
 use Rattle.check_index.proofs.Answers.{past-upto, beyond-none, beyond-more}

@@ -3,24 +3,17 @@ use Prim.Native.Nat.{ℕ}
 use Rattle.check_index.proofs.+index.Lts-index as lts
 use Rattle.check_index.proofs.index.Reads.{Post}
 use Rattle.check_index.proofs.+index.Proof.Shared.{index-calls as calls, index-at as at}
-use Prim.Native.Nat.{_+_, _-_, _*_, _≤_}
-use mathlib.Core.Path.{_≡_, refl, sym, ap, _∙_}
-use mathlib.Core.List.{List}
+use Prim.Native.Nat.{_+_, _-_}
+use mathlib.Core.Path.{sym, _∙_}
 use native.Mathlib.Omega.{arith}
 use borrow.Author.Needs.{needs}
 use denote.Ref.{now}
-use lib.IntN.{ℤ}
-use lib.ListN.{length, getD}
 use lib.Seq.{slice}
-use Rattle.language.specs.Form.{Form}
-use Rattle.language.specs.Check.{Checked, refused, formOf, combined}
-use Rattle.fields.specs.Header.{fieldsAt, headerOf}
-use Rattle.fields.proofs.Reading.{Wholly, when-whole, when-end, when-cut}
-use Rattle.forms.specs.Flat.{asForm}
-use Rattle.check_index.specs.Indexes.{deepNumber}
+use Rattle.language.specs.Check.{formOf}
+use Rattle.fields.proofs.Reading.{when-whole, when-end, when-cut}
 use Rattle.check_index.specs.Answers.{formTold}
 use Rattle.check_index.specs.declared.IndexTag.the-variants.{Literal, Variable, Both, Other}
-use Rattle.check_index.proofs.Forms.{refusal, index-end, index-cut, index-deep, index-acts, both-left, both-right, both-leftover, both-good}
+use Rattle.check_index.proofs.Forms.{index-end, index-cut, index-deep, index-acts, both-left, both-right, both-leftover, both-good}
 use Rattle.check_index.proofs.Answers.{past-refused, past-upto, ends-past}
 
 module _ (t : ℕ) where
@@ -50,8 +43,8 @@ module _ (t : ℕ) where
       search needs
 
   -- src/lib.rt:174:38
-  pub deep-requires : lts.Need-deep-requires (calls t) (at t) Post
-  deep-requires c κs =
+  pub too-deep-requires : lts.Need-too-deep-requires (calls t) (at t) Post
+  too-deep-requires c κs =
       search needs
 
   -- src/lib.rt:174:17
@@ -63,7 +56,7 @@ module _ (t : ℕ) where
       let tag = c .before .before .before .before .tag .given .0 .0 in
       let next = c .before .before .before .before .tag .given .0 .1 .0 in
       let w = when-whole p (a .at) (a .to) tag next (c .before .before .before .before .before .before .before .before .pre .1 .0) (sym (c .before .before .before .before .before .before .header-at .ensures) ∙ c .before .before .before .before .tag .given .1) in
-      (ap (refusal (a .at)) (c .deep .ensures ∙ ap deepNumber (c .before .before .index-tag .ensures)) ∙ index-deep p (a .at) (a .to) (a .place) (a .levels) (a .variables) tag next w (c .before .if1 .taken), tt)
+      (index-deep p (a .at) (a .to) (a .place) (a .levels) (a .variables) tag next w (c .too-deep .result) (c .too-deep .ensures (a .at) (slice (a .at + 3) next p)) (c .before .if1 .taken), tt)
 
   -- src/lib.rt:176:25
   pub sub-below : lts.Need-sub-below (calls t) (at t) Post

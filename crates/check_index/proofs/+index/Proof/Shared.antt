@@ -6,12 +6,11 @@ use Rattle.check_index.proofs.index.Reads as index
 use Rattle.check_index.proofs.index.Kinds as index-kinds
 use Rattle.check_index.proofs.+index.Lts-index as index-lts
 use Rattle.check_index.proofs.combine.Reads as combine-reads
-use Rattle.check_index.proofs.deep.Reads as deep-reads
+use Rattle.check_index.proofs.too_deep.Reads as too-deep-reads
 use Rattle.check_index.proofs.index_tag.Reads as index-tag-reads
 use Rattle.check_index.proofs.literal.Reads as literal-reads
 use Rattle.check_index.proofs.variable.Reads as variable-reads
 use Rattle.fields.proofs.header_at.Reads as header-at-reads
-use Prim.Native.Nat.{_+_, _-_, _*_, _≤_}
 
 abbrev pub μ-index : Measures 2 index-kinds.ps ℕ
 μ-index κs a =
@@ -25,4 +24,4 @@ index-below t = and 2 index-kinds.ps (falls 2 index-kinds.ps _<_ μ-index t) ind
 
 -- what the calls of `index` ask and tell
 abbrev pub index-calls : ℕ → index-lts.Claims
-index-calls t = (header-at-reads.Asked, header-at-reads.Learnt, index-tag-reads.Asked, index-tag-reads.Learnt, deep-reads.Asked, deep-reads.Learnt, literal-reads.Asked, literal-reads.Learnt, variable-reads.Asked, variable-reads.Learnt, index-below t, index.Post, combine-reads.Asked, combine-reads.Learnt)
+index-calls t = (header-at-reads.Asked, header-at-reads.Learnt, index-tag-reads.Asked, index-tag-reads.Learnt, too-deep-reads.Asked, too-deep-reads.Learnt, literal-reads.Asked, literal-reads.Learnt, variable-reads.Asked, variable-reads.Learnt, index-below t, index.Post, combine-reads.Asked, combine-reads.Learnt)

@@ -3,23 +3,11 @@ use Prim.Native.Nat.{ℕ}
 use Rattle.check_statement.proofs.+list+one_statement+repeated.Lts-one_statement as lts
 use Rattle.check_statement.proofs.one_statement.Reads.{Post}
 use Rattle.check_statement.proofs.+list+one_statement+repeated.Proof.Shared.{one-statement-calls as calls, one-statement-at as at}
-use Prim.Native.Nat.{_+_, _-_, _*_, _≤_, _<_}
-use mathlib.Core.Path.{_≡_, refl, sym, ap, _∙_}
-use mathlib.Core.List.{List, []}
+use mathlib.Core.Path.{sym, ap, _∙_}
 use native.Mathlib.Omega.{arith}
 use borrow.Author.Needs.{needs}
 use denote.Ref.{now}
-use lib.IntN.{ℤ, pos}
-use lib.ListN.{length, getD, set, replicate}
-use lib.Seq.{slice}
-use Rattle.language.specs.Form.{Loop}
-use Rattle.language.specs.Read.{readStatement, statementsBy}
-use Rattle.language.specs.Check.{Checked, _>>_, Signature, Kind, checkStatements, inLoop}
-use Rattle.language.specs.Check as C
-use Rattle.fields.specs.Header.{fieldsAt, headerOf}
-use Rattle.fields.proofs.Reading.{Wholly, when-whole, when-end, when-cut}
-use Rattle.forms.specs.Flat.{asForm}
-use Rattle.forms.specs.Rows.{loopsOf, Rows}
+use Rattle.fields.specs.Header.{fieldsAt}
 use Rattle.check_index.specs.Answers.{partTold}
 use Rattle.check_operand.specs.Tables.{tabulated}
 use Rattle.check_operand.specs.Operands.{wantedOf}

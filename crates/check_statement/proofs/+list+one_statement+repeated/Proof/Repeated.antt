@@ -3,27 +3,21 @@ use Prim.Native.Nat.{ℕ}
 use Rattle.check_statement.proofs.+list+one_statement+repeated.Lts-repeated as lts
 use Rattle.check_statement.proofs.repeated.Reads.{Post}
 use Rattle.check_statement.proofs.+list+one_statement+repeated.Proof.Shared.{repeated-calls as calls, repeated-at as at}
-use Prim.Native.Nat.{_+_, _-_, _*_, _≤_, _<_}
-use mathlib.Core.Path.{_≡_, refl, sym, ap, _∙_}
-use mathlib.Core.List.{List, []}
+use Prim.Native.Nat.{_+_, _<_}
+use mathlib.Core.Path.{ap, _∙_}
+use mathlib.Core.List.{List}
 use native.Mathlib.Omega.{arith}
 use borrow.Author.Needs.{needs}
 use denote.Ref.{now}
-use lib.IntN.{ℤ, pos}
-use lib.ListN.{length, getD, set, replicate}
-use lib.Seq.{slice}
+use lib.ListN.{length}
 use Rattle.language.specs.Form.{Loop}
 use Rattle.language.specs.Read.{readStatement, statementsBy}
-use Rattle.language.specs.Check.{Checked, _>>_, Signature, Kind, checkStatements, inLoop}
-use Rattle.language.specs.Check as C
-use Rattle.fields.specs.Header.{fieldsAt, headerOf}
-use Rattle.fields.proofs.Reading.{Wholly, when-whole, when-end, when-cut}
-use Rattle.forms.specs.Flat.{asForm}
-use Rattle.forms.specs.Rows.{loopsOf, Rows}
+use Rattle.language.specs.Check.{checkStatements, inLoop}
+use Rattle.fields.specs.Header.{fieldsAt}
+use Rattle.forms.specs.Rows.{loopsOf}
 use Rattle.check_index.specs.Answers.{partTold}
 use Rattle.check_operand.specs.Tables.{tabulated, kindsAt, scopeWith}
 use Rattle.check_call.specs.Calls.{scopeFull, signatureAt}
-use Rattle.check_statement.specs.declared.StatementTag.the-variants as S
 use Rattle.check_operand.proofs.Tables.{length-loops, rows-set}
 use Rattle.check_statement.proofs.Loops.{for-many, for-stops, for-good, loops-more, loop-same, loop-upto}
 

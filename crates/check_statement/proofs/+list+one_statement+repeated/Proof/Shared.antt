@@ -18,9 +18,7 @@ use Rattle.check_statement.proofs.statement_tag.Reads as statement-tag-
 use Rattle.check_statement.proofs.too_deep.Reads as too-deep-reads
 use Rattle.check_operand.proofs.two_operands.Reads as two-operands-reads
 use Rattle.fields.proofs.header_at.Reads as header-at-reads
-use Prim.Native.Nat.{_+_, _-_, _*_, _≤_, _<_}
-use denote.Ref.{now}
-use lib.ListN.{length, getD, set, replicate}
+use Prim.Native.Nat.{_+_, _*_, _<_}
 
 abbrev pub μ-list : Measures 6 list-kinds.ps ℕ
 μ-list κs a =
