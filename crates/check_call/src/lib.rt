@@ -14,6 +14,7 @@ ghost use Rattle.check_operand.specs.Tables.{kindBy, TablesRight, kindsAt, scop
 ghost use Rattle.check_index.specs.Answers.{partTold, Upon, PastCount};
 ghost use Rattle.check_operand.specs.Operands.{wantedOf, SizeRight};
 ghost use Rattle.check_call.specs.Calls.{FamiliesRight, scopeFull, takenBy, formsTold, LoopsRight};
+use check_index::DEEPEST;
 use check_index::FORM_NUMBERS;
 use check_index::Form;
 use check_index::MOST_VARIABLES;
@@ -51,7 +52,7 @@ fn call_forms(
     for i in 0..m {
         let mut f = [0i64; FORM_NUMBERS];
         let variables = s.variables + s.loops;
-        let r = check_index::index(program, from, to, place, 16, variables, &mut f);
+        let r = check_index::index(program, from, to, place, DEEPEST, variables, &mut f);
         let Read::Upto(next) = r else {
             return r;
         };

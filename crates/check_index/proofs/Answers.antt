@@ -1,7 +1,6 @@
 -- What an answer says of what was read, and of what follows it. Assumes nothing.
 use mathlib.Core.Path.{_≡_, refl, sym, ap, _∙_}
 use mathlib.Core.List.{List, [], _∷_}
-use mathlib.Core.Bool.{Bool, true, false, cond}
 use Prim.Native.Nat.{ℕ, zero, suc, _+_, _≤_, _<_}
 use native.Mathlib.Omega.{arith}
 use native.Mathlib.Numerals.{add-one}
@@ -20,10 +19,6 @@ use Rattle.check_index.proofs.Read.{the-type}
 use Rattle.check_index.specs.Answers.{formTold, EndsAt, Past, PastField, partTold, Upon, Passes, Beyond, PastCount}
 use Rattle.check_index.specs.declared.Read.{Read}
 use Rattle.check_index.specs.declared.Read.the-variants.{Upto, Refused}
-
-pub push : {A B : Type 0} (f : A → B) (b : Bool) (x y : A) → f (cond b x y) ≡ cond b (f x) (f y)
-push f true x y = refl
-push f false x y = refl
 
 pub not-first : {A : Type 0} → OneOf (1 ∷ []) 0 → A
 not-first h = absurd (let z : _≡_ {A = ℕ} 0 1 = h in omega arith)

@@ -12,34 +12,23 @@ use lib.Seq.{slice}
 use borrow.Author.Tests.{le-leb, lt-ltb, le-ltb, lt-leb}
 use types.Run.{OneOf}
 use denote.Enum.Declared.{tagOf}
-use Rattle.language.specs.Tree.{Index, badIndex}
-use Rattle.language.specs.Read.{Field, field, badHeader, choose, ending, due, Reader, ofFields, readLiteral, readVariable, operationOf, isIndexTag, deepIndex, indexBy, readIndex, twoBytes}
+use Rattle.language.specs.Tree.{badIndex}
+use Rattle.language.specs.Read.{Field, field, badHeader, ending, due, readLiteral, readVariable, operationOf, isIndexTag, deepIndex, indexBy, readIndex, twoBytes}
 use Rattle.language.specs.Form.{Form, Built, constantForm, variableForm}
 use Rattle.language.specs.Check.{Checked, good, refused, _>>=_, _>>_, require, noLeftover, inForm, combined, formOf}
 use Rattle.fields.specs.Header.{fieldsAt}
 use Rattle.fields.proofs.Reading.{Wholly}
 use Rattle.forms.specs.Flat.{asForm, builtOf}
 use Rattle.check_index.proofs.Read.{the-type}
-use Rattle.check_index.specs.Indexes.{indexTag, scopeOf, treeOperation}
+use Rattle.check_index.specs.Indexes.{readerOf, IndexSays, scopeOf, treeOperation}
 use Rattle.check_index.specs.Answers.{formTold, PastField}
 use Rattle.check_index.specs.declared.Operation.{Operation}
 use Rattle.check_index.specs.declared.IndexTag.{IndexTag}
-use Rattle.check_index.specs.declared.IndexTag.the-variants.{Literal, Variable, Both, Other}
+use Rattle.check_index.specs.declared.IndexTag.the-variants.{Both}
 use Rattle.check_index.specs.declared.Read.{Read}
 use Rattle.check_index.specs.declared.Read.the-variants.{Upto, Refused}
-use Rattle.check_index.proofs.Answers.{push, told-then, told-stop, drop-two, more-left, none-left}
+use Rattle.check_index.proofs.Answers.{told-then, told-stop, drop-two, more-left, none-left}
 use Rattle.language.specs.Tree as T
-
--- how the content of an index field is read, by what its tag says
-abbrev pub readerOf : (Field → Index) → IndexTag → Reader Index
-readerOf part Literal = readLiteral
-readerOf part Variable = readVariable
-readerOf part (Both o) = ofFields (operationOf part (treeOperation o))
-readerOf part Other = λ q rest. badIndex 3 q
-
-pub by-tag : (part : Field → Index) (p tag : ℕ) (content : List ℕ) → indexBy part (field p tag content) ≡ readerOf part (indexTag tag) p content
-unfolding indexBy indexTag choose treeOperation
-by-tag part p tag content = simp (push (λ (k : IndexTag). readerOf part k p content), push (λ (r : Reader Index). r p content))
 
 -- past the deepest level
 module _ (p tag : ℕ) (content : List ℕ) where
@@ -125,15 +114,15 @@ module _ (p : List ℕ) (at to place levels n : ℕ) where
     index-deep r e z =
         sym (due-by (w .first) ∙ ap (λ (k : ℕ). formOf (scopeOf n) (readIndex k (field at tag (slice (at + 3) next p)))) z ∙ ap (formOf (scopeOf n)) (sym e))
 
-    pub index-acts : (k : IndexTag) → (levels ≡ 0 → ⊥) → indexTag tag ≡ k → formOf (scopeOf n) (readerOf (readIndex (levels - 1)) k at (slice (at + 3) next p)) ≡ meant
+    pub index-acts : (k : IndexTag) → (levels ≡ 0 → ⊥) → (i : IndexTag) → IndexSays tag i → i ≡ k → formOf (scopeOf n) (readerOf (readIndex (levels - 1)) k at (slice (at + 3) next p)) ≡ meant
     unfolding due readIndex
-    index-acts k z e = sym (due-by (w .first) ∙ by levels z)
+    index-acts k z i says e = sym (due-by (w .first) ∙ by levels z)
       where
         by : (m : ℕ) → (m ≡ 0 → ⊥) → formOf (scopeOf n) (readIndex m (field at tag (slice (at + 3) next p))) ≡ formOf (scopeOf n) (readerOf (readIndex (m - 1)) k at (slice (at + 3) next p))
         by zero z = absurd (z refl)
         by (suc m) z =
             let q : suc m - 1 ≡ m = omega arith in
-            rw q (ap (formOf (scopeOf n)) (by-tag (readIndex m) at tag (slice (at + 3) next p)) ∙ ap (λ (i : IndexTag). formOf (scopeOf n) (readerOf (readIndex m) i at (slice (at + 3) next p))) e)
+            rw q (ap (formOf (scopeOf n)) (says (readIndex m) at (slice (at + 3) next p)) ∙ ap (λ (j : IndexTag). formOf (scopeOf n) (readerOf (readIndex m) j at (slice (at + 3) next p))) e)
 
 module _ (p : List ℕ) (at next n below : ℕ) (o : Operation) where
   abbrev pub both : Checked Form

@@ -10,7 +10,7 @@ ghost use Rattle.language.specs.Check.{formOf, combined};
 ghost use Rattle.language.specs.Limits.{allVariables};
 ghost use Rattle.fields.specs.Header.{fieldsAt};
 ghost use Rattle.forms.specs.Flat.{Kept, asForm};
-ghost use Rattle.check_index.specs.Indexes.{indexTag, treeOperation, scopeOf};
+ghost use Rattle.check_index.specs.Indexes.{IndexSays, treeOperation, scopeOf};
 ghost use Rattle.check_index.specs.Answers.{formTold, EndsAt, Past};
 use fields::Header;
 use forms::Product;
@@ -64,7 +64,7 @@ pub enum Read {
 }
 
 fn index_tag(tag: u8) -> IndexTag
-    ensures { λ r. ⌜ r ≡ indexTag tag ⌝ }
+    ensures { λ r. ⌜ IndexSays tag r ⌝ }
 {
     match tag {
         64 => IndexTag::Literal,

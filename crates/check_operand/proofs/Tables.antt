@@ -102,7 +102,3 @@ rows-set fs n i l r k = record {
 
 pub no-rows : (l : List (List ℤ)) → Rows l 0
 no-rows l = record { enough = omega arith; each = λ i h. absurd (omega arith) }
-
-pub no-loops : (l h : List (List ℤ)) → loopsOf 0 l h ≡ []
-unfolding loopsOf
-no-loops l h = refl

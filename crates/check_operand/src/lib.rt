@@ -468,5 +468,15 @@ pub fn two_wires(
     requires { ⌜ TablesRight s (now kinds) (now sizes) (now lows) (now highs) ⌝ }
     ensures { λ r. ⌜ ((fs : List Signature) → partTold r ≡ twoOperands (scopeAt fs s (now (kinds .entry)) (now (sizes .entry)) (now (lows .entry)) (now (highs .entry))) wire at (fieldsAt (now (program .entry)) (at + 3) next)) ⌝ }
 {
-    two_operands(program, at, next, Wanted::Wire, s, kinds, sizes, lows, highs)
+    two_operands(
+        program,
+        at,
+        next,
+        Wanted::Wire,
+        s,
+        kinds,
+        sizes,
+        lows,
+        highs,
+    )
 }

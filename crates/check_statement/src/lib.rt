@@ -1,18 +1,21 @@
 // The check of statements: gates, calls, reverse, loops, lists of them, and top fields that declare nothing.
 ghost use mathlib.Core.Path.{_≡_};
-ghost use Prim.Native.Nat.{_+_, _≤_};
+ghost use mathlib.Core.List.{List};
+ghost use Prim.Native.Nat.{ℕ, _+_, _≤_};
 ghost use lib.ListN.{length};
 ghost use lib.Seq.{slice};
-ghost use Rattle.language.specs.Read.{field, readStatement, statementsBy, forOf, readIf, readTop};
+ghost use Rattle.language.specs.Tree.{badStatement};
+ghost use Rattle.language.specs.Read.{field, deepStatement, readStatement, statementsBy, forOf, readIf, readTop};
 ghost use Rattle.language.specs.Check.{checkStatement, checkStatements, Declared, topScope, checkTop};
 ghost use Rattle.language.specs.Limits.{allVariables};
 ghost use Rattle.fields.specs.Header.{fieldsAt};
 ghost use Rattle.check_index.specs.Indexes.{scopeOf};
 ghost use Rattle.check_index.specs.Answers.{partTold};
 ghost use Rattle.check_operand.specs.Tables.{TablesRight};
-ghost use Rattle.check_statement.specs.Statements.{statementTag, tooDeep, loopTold, loopMeant, LoopPast, declaredTold};
+ghost use Rattle.check_statement.specs.Statements.{StatementSays, loopTold, loopMeant, LoopPast, declaredTold};
 ghost use Rattle.check_call.specs.Calls.{FamiliesRight, scopeFull};
 use check_call::FamilyRow;
+use check_call::call;
 use check_index::DEEPEST;
 use check_index::FORM_NUMBERS;
 use check_index::Form;
@@ -21,10 +24,17 @@ use check_index::Read;
 use check_index::Size;
 use check_operand::Visible;
 use check_operand::Wanted;
+use check_operand::one_wire;
+use check_operand::two_wires;
 use fields::Header;
 
 // Levels of the statements in a conditional, which stands at the top.
 const IN_CONDITIONAL: usize = DEEPEST - 1;
+
+// The tags of statements, from the first to the last.
+const FIRST_TAG: u8 = 32;
+
+const LAST_TAG: u8 = 38;
 
 // What a statement's tag says.
 pub enum StatementTag {
@@ -63,7 +73,7 @@ fn loop_forms(
 }
 
 fn statement_tag(tag: u8) -> StatementTag
-    ensures { λ r. ⌜ r ≡ statementTag tag ⌝ }
+    ensures { λ r. ⌜ StatementSays tag r ⌝ }
 {
     match tag {
         32 => StatementTag::Gate,
@@ -77,18 +87,17 @@ fn statement_tag(tag: u8) -> StatementTag
     }
 }
 
-// The refusal of a statement past the deepest level.
-fn too_deep(kind: StatementTag) -> u32
-    ensures { λ r. ⌜ r ≡ tooDeep kind ⌝ }
+// The refusal of a field of a tag where a statement would be past the deepest level.
+fn too_deep(tag: u8) -> u32
+    ensures { λ r. ⌜ ((p : ℕ) (content : List ℕ) → badStatement r p ≡ deepStatement (field p tag content)) ⌝ }
 {
-    match kind {
-        StatementTag::Other => 3,
-        StatementTag::Gate => 5,
-        StatementTag::Cx => 5,
-        StatementTag::Call => 5,
-        StatementTag::Reverse => 5,
-        StatementTag::For => 5,
+    if tag < FIRST_TAG {
+        return 3;
     }
+    if LAST_TAG < tag {
+        return 3;
+    }
+    5
 }
 
 // The statement of a tag at `at`, whose field ends at `next`.
@@ -110,39 +119,15 @@ fn one_statement(
     requires { ⌜ FamiliesRight s (now families) (now kinds) ⌝ }
     ensures { λ r. ⌜ partTold r ≡ checkStatement (readStatement levels (field at tag (slice (at + 3) next (now (program .entry))))) (scopeFull s (now (families .entry)) (now (kinds .entry)) (now (sizes .entry)) (now (lows .entry)) (now (highs .entry))) ⌝ }
 {
-    let kind = statement_tag(tag);
     if levels == 0 {
-        return Read::Refused(too_deep(kind), at);
+        return Read::Refused(too_deep(tag), at);
     }
     let below = levels - 1;
     let from = at + 3;
-    match kind {
-        StatementTag::Gate => check_operand::one_wire(
-            program,
-            at,
-            next,
-            s,
-            kinds,
-            sizes,
-            lows,
-            highs,
-        ),
-        StatementTag::Cx => {
-            check_operand::two_operands(
-                program,
-                at,
-                next,
-                Wanted::Wire,
-                s,
-                kinds,
-                sizes,
-                lows,
-                highs,
-            )
-        }
-        StatementTag::Call => {
-            check_call::call(program, at, next, s, families, kinds, sizes, lows, highs)
-        }
+    match statement_tag(tag) {
+        StatementTag::Gate => one_wire(program, at, next, s, kinds, sizes, lows, highs),
+        StatementTag::Cx => two_wires(program, at, next, s, kinds, sizes, lows, highs),
+        StatementTag::Call => call(program, at, next, s, families, kinds, sizes, lows, highs),
         StatementTag::Reverse => {
             list(
                 program,
@@ -364,7 +349,7 @@ pub fn action(
             lows,
             highs,
         ),
-        5 => check_operand::one_wire(program, at, next, s, kinds, sizes, lows, highs),
+        5 => one_wire(program, at, next, s, kinds, sizes, lows, highs),
         6 => conditional(program, at, next, s, families, kinds, sizes, lows, highs),
         _ => one_statement(
             program,

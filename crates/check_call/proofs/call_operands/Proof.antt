@@ -32,12 +32,12 @@ abbrev μ-loop : tie.MeasureT-loop
 μ-loop program at to place first count forms m s kinds sizes lows highs from₀ j₀ from j =
     count - j
 
--- src/lib.rt:617:5
+-- src/lib.rt:112:5
 loop-holds : tie.Need-loop-holds Inv-loop μ-loop
 loop-holds c =
     (omega arith, λ fs. refl)
 
--- src/lib.rt:618:19
+-- src/lib.rt:113:19
 add-row : tie.Need-add-row Inv-loop μ-loop
 add-row c =
     let h = c .loop-test .taken in
@@ -46,7 +46,7 @@ add-row c =
     let q = c .before .before .before .before .pre .1 .1 .1 .1 .sizeRows .enough in
     omega (arith, c .before .before .before .before .good)
 
--- src/lib.rt:620:28
+-- src/lib.rt:115:28
 shared-slice-read-taken : tie.Need-shared-slice-read-taken Inv-loop μ-loop
 shared-slice-read-taken c =
     let h = c .before .loop-test .taken in
@@ -55,7 +55,7 @@ shared-slice-read-taken c =
     let q = c .before .before .before .before .before .pre .1 .1 .1 .1 .sizeRows .enough in
     omega (arith, c .before .before .before .before .before .good)
 
--- src/lib.rt:620:40
+-- src/lib.rt:115:9
 mul-taken : tie.Need-mul-taken Inv-loop μ-loop
 mul-taken c =
     let h = c .before .loop-test .taken in
@@ -64,7 +64,7 @@ mul-taken c =
     let q = c .before .before .before .before .before .pre .1 .1 .1 .1 .sizeRows .enough in
     omega (arith, c .before .before .before .before .before .good)
 
--- src/lib.rt:620:40
+-- src/lib.rt:115:9
 shared-slice-element-taken : tie.Need-shared-slice-element-taken Inv-loop μ-loop
 shared-slice-element-taken c =
     let h = c .before .loop-test .taken in
@@ -73,7 +73,7 @@ shared-slice-element-taken c =
     let q = c .before .before .before .before .before .pre .1 .1 .1 .1 .sizeRows .enough in
     omega (arith, c .before .before .before .before .before .good)
 
--- src/lib.rt:620:13
+-- src/lib.rt:115:13
 taken-requires : tie.Need-taken-requires Inv-loop μ-loop
 taken-requires c κs =
     let a = c .before .before .before .before .before .before .before .args in
@@ -81,22 +81,22 @@ taken-requires c κs =
     let b = c .before .before .before .before .before .before .before .pre .1 .1 .1 .0 in
     (c .before .before .before .before .before .before .before .pre .1 .1 .1 .1 .sizeRows .each (a .first + c .before .before .before .before .loop .j) (omega arith), (c .before .before .before .before .before .before .before .pre .1 .0, c .before .before .before .before .before .before .before .pre .1 .1 .0))
 
--- src/lib.rt:621:13
+-- src/lib.rt:116:13
 operand-requires : tie.Need-operand-requires Inv-loop μ-loop
 operand-requires c κs =
     (c .before .before .before .before .before .before .before .before .before .pre .0, (c .before .taken .ensures .1, c .before .before .before .before .before .before .before .before .before .pre .1 .1 .1 .1))
 
--- src/lib.rt:622:24
+-- src/lib.rt:117:13
 enum-known-r : tie.Need-enum-known-r Inv-loop μ-loop
 enum-known-r c =
     search needs
 
--- src/lib.rt:623:13
+-- src/lib.rt:118:13
 enum-told : tie.Need-enum-told Inv-loop μ-loop
 enum-told c =
     search needs
 
--- src/lib.rt:623:13
+-- src/lib.rt:118:13
 returns : tie.Need-returns Inv-loop μ-loop
 returns c =
     let a = c .before .before .before .before .before .before .before .before .before .before .before .before .args in
@@ -117,17 +117,17 @@ returns c =
       upon-stops (c .before .before .operand .result) (a .to) (c .before .match .keys2),
     )
 
--- src/lib.rt:617:9
+-- src/lib.rt:112:9
 add-j : tie.Need-add-j Inv-loop μ-loop
 add-j c =
     search needs
 
--- src/lib.rt:617:5
+-- src/lib.rt:112:5
 loop-less : tie.Need-loop-less Inv-loop μ-loop
 loop-less c =
     search needs
 
--- src/lib.rt:617:5
+-- src/lib.rt:112:5
 loop-again : tie.Need-loop-again Inv-loop μ-loop
 loop-again c =
     let a = c .before .before .before .before .before .before .before .before .before .before .before .before .before .args in
@@ -152,7 +152,7 @@ loop-again c =
           ∙ rw add-one (ap (λ (l : List Field). callOperands (s fs) (a .place) gs (drop (suc (i .j)) ks) (map readArgument l)) (v .rest))),
     )
 
--- src/lib.rt:628:9
+-- src/lib.rt:123:13
 returns-2 : tie.Need-returns-2 Inv-loop μ-loop
 unfolding partTold
 returns-2 c =
@@ -165,7 +165,7 @@ returns-2 c =
     let e = drop-end (λ (x : ℕ). kindAt x (now (a .kinds)) (now (a .sizes))) (a .count) (a .first) (i .j) (c .before .loop-test .left) in
     (λ fs. sym (i .inv .1 fs ∙ ap (λ (l : List Kind). callOperands (s fs) (a .place) gs l (map readArgument (fieldsAt p (i .from) (a .to)))) e ∙ operands-left (s fs) (a .place) gs p (i .from) (a .to) (c .if1 .taken) (c .before .before .before .before .before .pre .0)), tt)
 
--- src/lib.rt:593:1
+-- src/lib.rt:88:1
 returns-3 : tie.Need-returns-3 Inv-loop μ-loop
 unfolding partTold
 returns-3 c =

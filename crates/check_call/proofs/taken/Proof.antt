@@ -12,7 +12,7 @@ use Rattle.forms.proofs.Laws.{fewer}
 use Rattle.check_operand.specs.Operands.{wantedOf}
 use Rattle.check_call.proofs.Calls.{taken-wire, taken-register, taken-bit}
 
--- src/lib.rt:583:9
+-- src/lib.rt:78:9
 returns : tie.Need-returns
 unfolding wantedOf
 returns c =
@@ -21,12 +21,12 @@ returns c =
     let gs = formsOf (a .m) (now (a .forms)) in
     (taken-wire gs (a .kind) f (c .if1 .taken), tt)
 
--- src/lib.rt:586:13
+-- src/lib.rt:81:13
 put-in-requires : tie.Need-put-in-requires
 put-in-requires c κs =
     (c .before .before .before .before .pre .0, (c .before .before .before .before .pre .1 .0, fewer (c .before .before .before .before .pre .1 .1) (c .before .before .before .before .pre .1 .0)))
 
--- src/lib.rt:587:9
+-- src/lib.rt:82:9
 returns-2 : tie.Need-returns-2
 unfolding wantedOf
 returns-2 c =
@@ -35,7 +35,7 @@ returns-2 c =
     let gs = formsOf (a .m) (now (a .forms)) in
     (ap register (c .put-in .ensures .0) ∙ taken-register gs (a .kind) f (c .before .before .before .if2 .taken), c .put-in .ensures .1)
 
--- src/lib.rt:575:1
+-- src/lib.rt:70:1
 returns-3 : tie.Need-returns-3
 unfolding wantedOf
 returns-3 c =

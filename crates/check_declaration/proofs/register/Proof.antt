@@ -21,19 +21,19 @@ use Rattle.check_declaration.specs.Registers.{numberTold}
 use Rattle.check_declaration.proofs.Registers.{size-fits, register-stops}
 use Rattle.check_declaration.proofs.Tables.{apart-both, row-both}
 
--- src/lib.rt:258:9
+-- src/lib.rt:251:9
 register-size-requires : tie.Need-register-size-requires
 register-size-requires c κs = search needs
 
--- src/lib.rt:259:20
+-- src/lib.rt:252:20
 enum-known-r : tie.Need-enum-known-r
 enum-known-r c = search needs
 
--- src/lib.rt:260:9
+-- src/lib.rt:253:9
 enum-told : tie.Need-enum-told
 enum-told c = search needs
 
--- src/lib.rt:260:9
+-- src/lib.rt:253:9
 returns : tie.Need-returns
 returns c =
     let a = c .before .before .before .before .before .args in
@@ -41,7 +41,7 @@ returns c =
     let content = slice (a .at + 3) (a .next) p in
     (c .before .before .register-size .ensures, register-stops (c .before .before .register-size .result) (a .kind) (a .count) (a .total) (now (a .kinds)) (now (a .sizes)) (now (a .kinds)) (now (a .sizes)) (c .before .match .keys2))
 
--- src/lib.rt:263:33
+-- src/lib.rt:256:33
 cast-set-constant : tie.Need-cast-set-constant
 cast-set-constant c =
     let a = c .before .before .before .before .before .before .before .args in
@@ -55,7 +55,7 @@ cast-set-constant c =
     let rows = c .before .before .before .before .before .before .before .pre .1 .1 .sizesLong in
     search needs
 
--- src/lib.rt:263:5
+-- src/lib.rt:256:5
 set-constant-requires : tie.Need-set-constant-requires
 set-constant-requires c κs =
     let a = c .before .before .before .before .before .before .before .args in
@@ -69,13 +69,13 @@ set-constant-requires c κs =
     let rows = c .before .before .before .before .before .before .before .pre .1 .1 .sizesLong in
     rw (small n (omega arith)) (small-range n (omega arith))
 
--- src/lib.rt:265:5
+-- src/lib.rt:258:5
 store-requires : tie.Need-store-requires
 unfolding asForm
 store-requires c κs =
     (c .before .before .set-constant .ensures .1, constant-narrow (c .before .before .set-constant .last .0) _ (c .before .before .set-constant .ensures .0) (c .before .before .set-constant .ensures .1))
 
--- src/lib.rt:266:5
+-- src/lib.rt:259:5
 slice-write-kinds : tie.Need-slice-write-kinds
 slice-write-kinds c =
     let a = c .before .before .before .before .before .before .before .before .before .before .before .args in
@@ -89,7 +89,7 @@ slice-write-kinds c =
     let rows = c .before .before .before .before .before .before .before .before .before .before .before .pre .1 .1 .sizesLong in
     omega arith
 
--- src/lib.rt:267:5
+-- src/lib.rt:260:5
 mul-t20 : tie.Need-mul-t20
 mul-t20 c =
     let a = c .before .before .before .before .before .before .before .before .before .before .before .args in
@@ -103,7 +103,7 @@ mul-t20 c =
     let rows = c .before .before .before .before .before .before .before .before .before .before .before .pre .1 .1 .sizesLong in
     omega arith
 
--- src/lib.rt:267:5
+-- src/lib.rt:260:5
 slice-set-from-sizes : tie.Need-slice-set-from-sizes
 slice-set-from-sizes c =
     let a = c .before .before .before .before .before .before .before .before .before .before .before .args in
@@ -117,15 +117,15 @@ slice-set-from-sizes c =
     let rows = c .before .before .before .before .before .before .before .before .before .before .before .pre .1 .1 .sizesLong in
     omega arith
 
--- src/lib.rt:242:1
+-- src/lib.rt:235:1
 same-length : tie.Need-same-length
 same-length c = search needs
 
--- src/lib.rt:242:1
+-- src/lib.rt:235:1
 same-length-2 : tie.Need-same-length-2
 same-length-2 c = search needs
 
--- src/lib.rt:242:1
+-- src/lib.rt:235:1
 returns-2 : tie.Need-returns-2
 returns-2 c =
     let a = c .before .before .before .before .before .before .before .before .before .before .before .args in

@@ -17,23 +17,23 @@ use Rattle.fields.specs.Header.{fieldsAt}
 use Rattle.check_operand.specs.Tables.{scopeWith}
 use Rattle.check_declaration.proofs.Sizes.{narrow}
 
--- src/lib.rt:62:11
+-- src/lib.rt:132:5
 parameter-type-requires : tie.Need-parameter-type-requires
 parameter-type-requires c κs = search needs
 
--- src/lib.rt:63:27
+-- src/lib.rt:133:26
 enum-known-next : tie.Need-enum-known-next
 enum-known-next c = search needs
 
--- src/lib.rt:64:13
+-- src/lib.rt:134:13
 slice-write-kinds : tie.Need-slice-write-kinds
 slice-write-kinds c = search needs
 
--- src/lib.rt:67:25
+-- src/lib.rt:137:24
 enum-known-next-2 : tie.Need-enum-known-next-2
 enum-known-next-2 c = search needs
 
--- src/lib.rt:69:13
+-- src/lib.rt:139:13
 store-requires : tie.Need-store-requires
 store-requires c κs =
     let a = c .before .before .before .before .before .before .before .before .before .args in
@@ -47,27 +47,27 @@ store-requires c κs =
     let u = past-many p (a .at) (a .to) (c .before .before .before .before .before .parameter-type .result) l (c .before .before .before .next2 .given .0 .0) (c .before .before .before .before .before .parameter-type .ensures .1) (c .before .before .before .next2 .given .1) in
     (u .1, narrow (c .before .before .before .before .before .parameter-type .result) (c .before .before .before .next2 .given .0 .0) l (scopeWith [] [] (a .m) []) (due readType (badType 4 (a .place)) (fieldsAt p (a .at) (a .to))) (c .before .before .before .next2 .given .1) (u .1) (c .before .before .before .before .before .parameter-type .ensures .0 [] []) (omega arith))
 
--- src/lib.rt:70:13
+-- src/lib.rt:140:13
 slice-write-kinds-2 : tie.Need-slice-write-kinds-2
 slice-write-kinds-2 c = search needs
 
--- src/lib.rt:71:13
+-- src/lib.rt:141:13
 mul-t24 : tie.Need-mul-t24
 mul-t24 c = search needs
 
--- src/lib.rt:71:13
+-- src/lib.rt:141:13
 slice-set-from-sizes : tie.Need-slice-set-from-sizes
 slice-set-from-sizes c = search needs
 
--- src/lib.rt:74:24
+-- src/lib.rt:144:23
 enum-known-n : tie.Need-enum-known-n
 enum-known-n c = search needs
 
--- src/lib.rt:43:1
+-- src/lib.rt:113:1
 same-length : tie.Need-same-length
 same-length c = search needs
 
--- src/lib.rt:43:1
+-- src/lib.rt:113:1
 returns : tie.Need-returns
 returns c =
     let a = c .before .before .before .before .before .before .before .args in
@@ -84,15 +84,15 @@ returns c =
       ),
     )
 
--- src/lib.rt:43:1
+-- src/lib.rt:113:1
 same-length-2 : tie.Need-same-length-2
 same-length-2 c = search needs
 
--- src/lib.rt:43:1
+-- src/lib.rt:113:1
 same-length-3 : tie.Need-same-length-3
 same-length-3 c = search needs
 
--- src/lib.rt:43:1
+-- src/lib.rt:113:1
 returns-2 : tie.Need-returns-2
 returns-2 c =
     let a = c .before .before .before .before .before .before .before .before .before .before .args in
@@ -108,7 +108,7 @@ returns-2 c =
       (u .0, apart-both (a .row) kinds sizes t h 1 short (c .store .ensures .1)),
     )
 
--- src/lib.rt:43:1
+-- src/lib.rt:113:1
 returns-3 : tie.Need-returns-3
 returns-3 c =
     let a = c .before .before .before .before .before .before .before .args in

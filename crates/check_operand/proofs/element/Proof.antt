@@ -30,11 +30,11 @@ use Rattle.check_index.proofs.Answers.{past-upto, upon-stops}
 use Rattle.check_operand.proofs.Operands.{element-none, element-beyond, element-stops, element-long, element-good, kind-tested}
 use Rattle.check_operand.proofs.Tables.{scope-forms, kinds-get, kinds-none}
 
--- src/lib.rt:454:16
+-- src/lib.rt:281:16
 add-from : tie.Need-add-from
 add-from c = search needs
 
--- src/lib.rt:456:9
+-- src/lib.rt:283:9
 returns : tie.Need-returns
 unfolding partTold
 returns c =
@@ -46,15 +46,15 @@ returns c =
     let d = wantedOf (a .wanted) (now (a .size)) in
     (λ fs. element-none (scopeAt fs (a .s) (now (a .kinds)) (now (a .sizes)) (now (a .lows)) (now (a .highs))) d (a .at) (slice from (a .next) p) (slice-none from (a .next) p (c .if1 .taken)), tt)
 
--- src/lib.rt:458:18
+-- src/lib.rt:285:26
 shared-slice-read-wide : tie.Need-shared-slice-read-wide
 shared-slice-read-wide c = search needs
 
--- src/lib.rt:458:9
+-- src/lib.rt:285:9
 wide-requires : tie.Need-wide-requires
 wide-requires c κs = search needs
 
--- src/lib.rt:460:9
+-- src/lib.rt:287:9
 returns-2 : tie.Need-returns-2
 unfolding partTold
 returns-2 c =
@@ -69,31 +69,31 @@ returns-2 c =
     let v : c .before .before .wide .result ≡ n = c .before .before .wide .ensures .0 in
     (λ fs. element-beyond (scopeAt fs (a .s) (now (a .kinds)) (now (a .sizes)) (now (a .lows)) (now (a .highs))) d (a .at) (slice from (a .next) p) n p (a .next) e (kinds-none (a .s .count) (a .s .first) n (now (a .kinds)) (now (a .sizes)) (let q = c .if2 .taken in omega arith)), tt)
 
--- src/lib.rt:462:15
+-- src/lib.rt:289:15
 add-row : tie.Need-add-row
 add-row c = search needs
 
--- src/lib.rt:463:17
+-- src/lib.rt:290:17
 add-inner : tie.Need-add-inner
 add-inner c = search needs
 
--- src/lib.rt:464:21
+-- src/lib.rt:291:21
 add-variables : tie.Need-add-variables
 add-variables c = search needs
 
--- src/lib.rt:466:9
+-- src/lib.rt:293:9
 index-requires : tie.Need-index-requires
 index-requires c κs = search needs
 
--- src/lib.rt:467:20
+-- src/lib.rt:294:20
 enum-known-r : tie.Need-enum-known-r
 enum-known-r c = search needs
 
--- src/lib.rt:468:9
+-- src/lib.rt:295:9
 enum-told : tie.Need-enum-told
 enum-told c = search needs
 
--- src/lib.rt:468:9
+-- src/lib.rt:295:9
 returns-3 : tie.Need-returns-3
 returns-3 c =
     let a = c .before .before .before .before .before .before .before .before .before .before .before .before .before .args in
@@ -112,7 +112,7 @@ returns-3 c =
     let i = due (readIndex 16) (badIndex 4 (a .at)) (fieldsAt p (a .at + 4) (a .next)) in
     (λ fs. element-stops (scopeAt fs (a .s) (now (a .kinds)) (now (a .sizes)) (now (a .lows)) (now (a .highs))) d (a .at) (slice from (a .next) p) n p (a .next) e k get (c .before .before .index .result) l (c .before .before .index .ensures .0 ∙ scope-forms fs ks (a .s .variables) (a .s .loops) (now (a .lows)) (now (a .highs)) i) (c .before .match .keys2), upon-stops (c .before .before .index .result) (a .next) (c .before .match .keys2))
 
--- src/lib.rt:471:9
+-- src/lib.rt:298:9
 returns-4 : tie.Need-returns-4
 unfolding partTold
 returns-4 c =
@@ -134,7 +134,7 @@ returns-4 c =
     let u = past-upto p (a .at + 4) (a .next) (c .before .before .before .before .index .result) l end (c .before .before .r .given .1) (c .before .before .before .before .index .ensures .1) in
     (λ fs. element-long (scopeAt fs (a .s) (now (a .kinds)) (now (a .sizes)) (now (a .lows)) (now (a .highs))) d (a .at) (slice from (a .next) p) n p (a .next) e k get (c .before .before .before .before .index .result) l (c .before .before .before .before .index .ensures .0 ∙ scope-forms fs ks (a .s .variables) (a .s .loops) (now (a .lows)) (now (a .highs)) i) end (c .before .before .r .given .1) (u .0) (c .if3 .taken) (c .before .before .before .before .before .before .before .before .before .before .before .before .before .before .before .pre .0 .1), tt)
 
--- src/lib.rt:473:37
+-- src/lib.rt:300:37
 shared-slice-read-element-kind : tie.Need-shared-slice-read-element-kind
 shared-slice-read-element-kind c =
     let t = c .before .before .before .before .before .before .before .before .before .before .before .before .before .before .before .before .pre .1 .sizeRows .enough in
@@ -142,11 +142,11 @@ shared-slice-read-element-kind c =
     let q = c .before .before .before .before .before .before .before .before .before .if2 .left in
     omega (arith, c .before .before .before .before .before .before .before .before .before .before .before .before .before .before .before .before .good)
 
--- src/lib.rt:473:9
+-- src/lib.rt:300:9
 element-kind-requires : tie.Need-element-kind-requires
 element-kind-requires c κs = search needs
 
--- src/lib.rt:474:28
+-- src/lib.rt:301:5
 mul-within : tie.Need-mul-within
 mul-within c =
     let t = c .before .before .before .before .before .before .before .before .before .before .before .before .before .before .before .before .before .before .pre .1 .sizeRows .enough in
@@ -154,7 +154,7 @@ mul-within c =
     let q = c .before .before .before .before .before .before .before .before .before .before .before .if2 .left in
     omega (arith, c .before .before .before .before .before .before .before .before .before .before .before .before .before .before .before .before .before .before .good)
 
--- src/lib.rt:474:28
+-- src/lib.rt:301:5
 shared-slice-element-within : tie.Need-shared-slice-element-within
 shared-slice-element-within c =
     let t = c .before .before .before .before .before .before .before .before .before .before .before .before .before .before .before .before .before .before .pre .1 .sizeRows .enough in
@@ -162,7 +162,7 @@ shared-slice-element-within c =
     let q = c .before .before .before .before .before .before .before .before .before .before .before .if2 .left in
     omega (arith, c .before .before .before .before .before .before .before .before .before .before .before .before .before .before .before .before .before .before .good)
 
--- src/lib.rt:474:9
+-- src/lib.rt:301:9
 within-requires : tie.Need-within-requires
 within-requires c κs =
     let a = c .before .before .before .before .before .before .before .before .before .before .before .before .before .before .before .before .before .before .before .args in
@@ -187,11 +187,11 @@ within-requires c κs =
     let b = t .kindRows in
     (u .1, (t .sizeRows .each (a .s .first + c .before .before .before .before .before .before .before .before .before .before .before .before .before .before .wide .result) (let q = c .before .before .before .before .before .before .before .before .before .before .before .before .if2 .left in omega arith), (omega arith, (fewer (t .lowRows) g, fewer (t .highRows) g))))
 
--- src/lib.rt:475:5
+-- src/lib.rt:302:5
 first-refusal-requires : tie.Need-first-refusal-requires
 first-refusal-requires c κs = search needs
 
--- src/lib.rt:437:1
+-- src/lib.rt:264:1
 returns-5 : tie.Need-returns-5
 returns-5 c =
     let a = c .before .before .before .before .before .before .before .before .before .before .before .before .before .before .before .before .before .before .before .before .before .args in

@@ -3,15 +3,12 @@ use Rattle.check_operand.proofs.element_kind.Statement.{statement}
 use Rattle.check_operand.proofs.element_kind.Tie as tie
 use Rattle.check_operand.proofs.element_kind.Reads as reads
 use Rattle.check_operand.proofs.element_kind.Lts as lts
-use mathlib.Core.Path.{_≡_, refl, sym, ap, _∙_}
-use lib.IntN.{ℤ}
-use Rattle.language.specs.Form.{Form}
+use mathlib.Core.Path.{refl, sym, ap, _∙_}
 use Rattle.language.specs.Check.{elementSize}
 use Rattle.check_operand.specs.declared.Wanted.{Wanted}
 use Rattle.check_operand.specs.Tables.{kindBy}
 use Rattle.check_operand.specs.Operands.{wantedOf, sizeKnown}
 use Rattle.check_operand.proofs.Fits.{element-wire, element-no-wire, element-qubit, element-quantum, element-bit, element-register}
-
 
 -- src/lib.rt:189:16
 enum-told : tie.Need-enum-told

@@ -9,21 +9,21 @@ use Rattle.check_index.specs.Answers.{partTold}
 use Rattle.check_index.specs.declared.Read.{Read}
 use Rattle.check_index.proofs.Answers.{then-goes}
 
--- src/lib.rt:386:26
+-- src/lib.rt:213:26
 enum-told : tie.Need-enum-told
 enum-told c = search needs
 
--- src/lib.rt:387:23
+-- src/lib.rt:214:23
 enum-known-first : tie.Need-enum-known-first
 enum-known-first c = search needs
 
--- src/lib.rt:381:1
+-- src/lib.rt:208:1
 returns : tie.Need-returns
 returns c =
     let a = c .before .before .args in
     (sym (then-goes (a .first) (partTold (a .second)) (c .before .match .keys1)), (λ n x y. y))
 
--- src/lib.rt:381:1
+-- src/lib.rt:208:1
 returns-2 : tie.Need-returns-2
 unfolding partTold _>>_
 returns-2 c =

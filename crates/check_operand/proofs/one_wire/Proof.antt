@@ -18,23 +18,23 @@ use Rattle.check_operand.specs.Tables.{scopeAt}
 use Rattle.check_operand.specs.Operands.{wantedOf}
 use Rattle.check_index.proofs.Answers.{upon-stops, part-goes, part-stops, passes-upto, left-some, left-none}
 
--- src/lib.rt:491:16
+-- src/lib.rt:375:16
 add-from : tie.Need-add-from
 add-from c = search needs
 
--- src/lib.rt:492:9
+-- src/lib.rt:376:9
 operand-requires : tie.Need-operand-requires
 operand-requires c κs = search needs
 
--- src/lib.rt:493:20
+-- src/lib.rt:377:9
 enum-known-r : tie.Need-enum-known-r
 enum-known-r c = search needs
 
--- src/lib.rt:494:9
+-- src/lib.rt:378:9
 enum-told : tie.Need-enum-told
 enum-told c = search needs
 
--- src/lib.rt:494:9
+-- src/lib.rt:378:9
 returns : tie.Need-returns
 unfolding wantedOf
 returns c =
@@ -44,7 +44,7 @@ returns c =
     let y = noLeftover (a .at) (ending (drop 1 (fieldsAt p (a .at + 3) (a .next)))) in
     (λ fs. part-stops (c .before .before .operand .result) (x fs) y (c .before .before .operand .ensures .0 fs) (c .before .match .keys2), upon-stops (c .before .before .operand .result) (a .next) (c .before .match .keys2))
 
--- src/lib.rt:497:9
+-- src/lib.rt:381:9
 returns-2 : tie.Need-returns-2
 unfolding wantedOf partTold
 returns-2 c =
@@ -56,7 +56,7 @@ returns-2 c =
     let v = passes-upto p (a .at + 3) (a .next) (c .before .before .before .before .operand .result) end (c .before .before .r .given .1) (c .before .before .before .before .operand .ensures .1) in
     (λ fs. sym (part-goes (c .before .before .before .before .operand .result) (x fs) (c .before .before .before .before .operand .ensures .0 fs) end y (c .before .before .r .given .1) ∙ left-some p (a .at) (a .at + 3) (a .next) end v (c .if1 .taken) (c .before .before .before .before .before .before .before .before .pre .0 .1)), tt)
 
--- src/lib.rt:475:1
+-- src/lib.rt:359:1
 returns-3 : tie.Need-returns-3
 unfolding wantedOf partTold
 returns-3 c =

@@ -6,7 +6,6 @@ use Rattle.check_operand.proofs.two_wires.Lts as lts
 use Rattle.check_operand.proofs.two_operands.Reads as two-operands-reads
 use Rattle.check_operand.specs.Operands.{wantedOf}
 
-
 -- src/lib.rt:471:5
 two-operands-requires : tie.Need-two-operands-requires
 two-operands-requires c κs =

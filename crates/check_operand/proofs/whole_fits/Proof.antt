@@ -15,11 +15,11 @@ use Rattle.check_operand.specs.Tables.{kindBy, scopeWith}
 use Rattle.check_operand.specs.Operands.{wantedOf}
 use Rattle.check_operand.proofs.Fits.{wire-good, wire-bad, bit-bad, register-good, register-bad}
 
--- src/lib.rt:337:16
+-- src/lib.rt:167:16
 enum-told : tie.Need-enum-told
 enum-told c = search needs
 
--- src/lib.rt:338:17
+-- src/lib.rt:168:17
 returns : tie.Need-returns
 unfolding partTold
 returns c =
@@ -29,20 +29,20 @@ returns c =
     let l = now (a .size) in
     (λ fs ks. wire-good (a .at) (scopeWith fs ks (a .variables) ls) (a .kind) f l (c .if1 .taken) ∙ ap (λ (w : Wanted). wholeFits (a .at) (scopeWith fs ks (a .variables) ls) (wantedOf w l) (kindBy (a .kind) f)) (sym (c .before .enum-told .given .1)), refl)
 
--- src/lib.rt:342:24
+-- src/lib.rt:172:24
 enum-told-2 : tie.Need-enum-told-2
 enum-told-2 c = search needs
 
--- src/lib.rt:343:26
+-- src/lib.rt:173:26
 enum-known-wanted : tie.Need-enum-known-wanted
 enum-known-wanted c = search needs
 
--- src/lib.rt:345:17
+-- src/lib.rt:175:17
 large-enough-requires : tie.Need-large-enough-requires
 large-enough-requires c κs =
     (rw (c .before .before .wanted .given .1) at (c .before .before .before .before .pre .0), c .before .before .before .before .pre .1)
 
--- src/lib.rt:345:17
+-- src/lib.rt:175:17
 returns-2 : tie.Need-returns-2
 returns-2 c =
     let a = c .before .before .before .before .before .args in
@@ -51,7 +51,7 @@ returns-2 c =
     let l = now (a .size) in
     (λ fs ks. c .large-enough .ensures .0 ∙ register-good (a .at) (scopeWith fs ks (a .variables) ls) (a .kind) f (c .before .before .before .wanted .given .0 .0) l (c .before .if2 .taken) ∙ ap (λ (w : Wanted). wholeFits (a .at) (scopeWith fs ks (a .variables) ls) (wantedOf w l) (kindBy (a .kind) f)) (sym (c .before .before .before .wanted .given .1)), c .large-enough .ensures .1)
 
--- src/lib.rt:315:1
+-- src/lib.rt:145:1
 returns-3 : tie.Need-returns-3
 unfolding partTold
 returns-3 c =
@@ -61,7 +61,7 @@ returns-3 c =
     let l = now (a .size) in
     (λ fs ks. wire-bad (a .at) (scopeWith fs ks (a .variables) ls) (a .kind) f l (c .if1 .left) ∙ ap (λ (w : Wanted). wholeFits (a .at) (scopeWith fs ks (a .variables) ls) (wantedOf w l) (kindBy (a .kind) f)) (sym (c .before .enum-told .given .1)), tt)
 
--- src/lib.rt:315:1
+-- src/lib.rt:145:1
 returns-4 : tie.Need-returns-4
 unfolding partTold
 returns-4 c =
@@ -71,7 +71,7 @@ returns-4 c =
     let l = now (a .size) in
     (λ fs ks. bit-bad (a .at) (scopeWith fs ks (a .variables) ls) (a .kind) f l (kindBy (a .kind) f) ∙ ap (λ (w : Wanted). wholeFits (a .at) (scopeWith fs ks (a .variables) ls) (wantedOf w l) (kindBy (a .kind) f)) (sym (c .enum-told2 .given .1)), tt)
 
--- src/lib.rt:315:1
+-- src/lib.rt:145:1
 returns-5 : tie.Need-returns-5
 unfolding partTold
 returns-5 c =

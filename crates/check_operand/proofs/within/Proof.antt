@@ -18,18 +18,18 @@ use Rattle.check_operand.proofs.Operands.{within-stops, within-goes, ro
 use Rattle.check_operand.proofs.Fits.{shown-outside, is-made, not-made}
 use Rattle.check_index.proofs.Answers.{upon-stops}
 
--- src/lib.rt:272:9
+-- src/lib.rt:96:9
 must-show-requires : tie.Need-must-show-requires
 must-show-requires c κs = search needs
 
 enum-told : tie.Need-enum-told
 enum-told c = search needs
 
--- src/lib.rt:274:9
+-- src/lib.rt:98:9
 enum-told-2 : tie.Need-enum-told-2
 enum-told-2 c = search needs
 
--- src/lib.rt:274:9
+-- src/lib.rt:98:9
 returns : tie.Need-returns
 returns c =
     let a = c .before .before .before .before .before .args in
@@ -40,31 +40,31 @@ returns c =
     let first = c .before .before .must-show .ensures .0 in
     (within-stops (a .at) (a .variables) ls f size (c .before .before .must-show .result) first (c .before .match .keys2), upon-stops (c .before .before .must-show .result) (a .next) (c .before .match .keys2))
 
--- src/lib.rt:277:5
+-- src/lib.rt:101:5
 set-constant-requires : tie.Need-set-constant-requires
 unfolding inRange
 set-constant-requires c κs =
     refl
 
--- src/lib.rt:279:5
+-- src/lib.rt:103:5
 load-requires : tie.Need-load-requires
 load-requires c κs = search needs
 
--- src/lib.rt:280:8
+-- src/lib.rt:104:8
 subtract-requires : tie.Need-subtract-requires
 subtract-requires c κs = search needs
 
--- src/lib.rt:281:12
+-- src/lib.rt:105:12
 subtract-requires-2 : tie.Need-subtract-requires-2
 subtract-requires-2 c κs =
     (c .before .before .subtract .ensures .1 (c .before .if1 .taken), c .before .before .before .before .before .before .before .before .before .before .before .before .before .before .pre .0)
 
--- src/lib.rt:282:13
+-- src/lib.rt:106:13
 must-show-requires-2 : tie.Need-must-show-requires-2
 must-show-requires-2 c κs =
     (c .before .before .subtract2 .ensures .1 (c .before .if2 .taken), c .before .before .before .before .before .before .before .before .before .before .before .before .before .before .before .before .before .pre .1 .1)
 
--- src/lib.rt:282:13
+-- src/lib.rt:106:13
 returns-2 : tie.Need-returns-2
 returns-2 c =
     let a = c .before .before .before .before .before .before .before .before .before .before .before .before .before .before .before .before .before .before .args in
@@ -77,7 +77,7 @@ returns-2 c =
     let less = c .before .before .before .before .before .before .subtract .ensures .0 ∙ (λ i. differenceOf (asForm (c .before .before .before .before .before .before .before .before .before .load .ensures .0 i)) (c .before .before .before .before .before .before .before .before .before .before .before .set-constant .ensures .0 i)) in
     (c .must-show2 .ensures .0 ∙ ap shows (sym (room-some size f (asForm (c .before .before .before .before .before .before .subtract .last .0)) (is-made (c .before .before .before .before .before .before .subtract .last .0) less (c .before .before .before .before .before .if1 .taken)) ∙ is-made (c .before .before .before .subtract2 .last .0) (c .before .before .before .subtract2 .ensures .0) (c .before .before .if2 .taken))) ∙ goes, c .must-show2 .ensures .1)
 
--- src/lib.rt:284:9
+-- src/lib.rt:108:9
 returns-3 : tie.Need-returns-3
 unfolding partTold
 returns-3 c =
@@ -91,7 +91,7 @@ returns-3 c =
     let less = c .before .before .before .before .subtract .ensures .0 ∙ (λ i. differenceOf (asForm (c .before .before .before .before .before .before .before .load .ensures .0 i)) (c .before .before .before .before .before .before .before .before .before .set-constant .ensures .0 i)) in
     (shown-outside (a .at) (a .variables) ls ∙ ap shows (sym (room-some size f (asForm (c .before .before .before .before .subtract .last .0)) (is-made (c .before .before .before .before .subtract .last .0) less (c .before .before .before .if1 .taken)) ∙ not-made (c .before .subtract2 .last .0) (c .before .subtract2 .ensures .0) (c .if2 .left))) ∙ goes, tt)
 
--- src/lib.rt:253:1
+-- src/lib.rt:77:1
 returns-4 : tie.Need-returns-4
 unfolding partTold
 returns-4 c =

@@ -12,22 +12,22 @@ use denote.Ref.{now}
 use lib.Seq.{slice}
 use Rattle.check_program.proofs.Registers.{qreg-stops, qreg-goes, register-row, holds-register}
 
--- src/lib.rt:288:11
+-- src/lib.rt:158:11
 register-requires : tie.Need-register-requires
 register-requires c κs =
     (c .before .before .before .before .pre .0, (c .before .before .before .before .pre .1 .qubitsFit, c .before .before .before .before .pre .1 .table))
 
--- src/lib.rt:289:23
+-- src/lib.rt:168:23
 enum-known-k : tie.Need-enum-known-k
 enum-known-k c =
     search needs
 
--- src/lib.rt:290:20
+-- src/lib.rt:169:20
 enum-known-size : tie.Need-enum-known-size
 enum-known-size c =
     search needs
 
--- src/lib.rt:291:29
+-- src/lib.rt:170:29
 add-registers : tie.Need-add-registers
 add-registers c =
     let a = c .before .before .before .before .before .before .before .before .before .before .before .args in
@@ -42,7 +42,7 @@ add-registers c =
     let fits = w .fits in
     omega arith
 
--- src/lib.rt:292:26
+-- src/lib.rt:171:26
 add-qubits : tie.Need-add-qubits
 add-qubits c =
     let a = c .before .before .before .before .before .before .before .before .before .before .before .args in
@@ -57,17 +57,17 @@ add-qubits c =
     let fits = w .fits in
     omega arith
 
--- src/lib.rt:272:1
+-- src/lib.rt:142:1
 same-length : tie.Need-same-length
 same-length c =
     search needs
 
--- src/lib.rt:272:1
+-- src/lib.rt:142:1
 same-length-2 : tie.Need-same-length-2
 same-length-2 c =
     search needs
 
--- src/lib.rt:272:1
+-- src/lib.rt:142:1
 returns : tie.Need-returns
 returns c =
     let a = c .before .before .before .before .before .before .before .before .before .before .before .args in
@@ -77,7 +77,7 @@ returns c =
     let sizes = c .before .before .before .before .before .before .register .last .1 .1 .1 .1 .1 .1 .1 .0 in
     (qreg-stops (a .t) (now (a .families)) (now (a .kinds)) (now (a .sizes)) (a .at) content (c .before .before .before .before .before .before .register .result) (c .before .k .given .0 .0) (c .before .k .given .0 .1 .0) kinds sizes (c .before .k .given .1) (c .before .before .before .before .before .before .register .ensures .0), tt)
 
--- src/lib.rt:272:1
+-- src/lib.rt:142:1
 same-length-3 : tie.Need-same-length-3
 same-length-3 c =
     let a = c .before .before .before .before .before .before .before .before .before .before .before .args in
@@ -92,7 +92,7 @@ same-length-3 c =
     let fits = w .fits in
     w .apart .table .kindsLong ∙ sym (h .table .kindsLong)
 
--- src/lib.rt:272:1
+-- src/lib.rt:142:1
 same-length-4 : tie.Need-same-length-4
 same-length-4 c =
     let a = c .before .before .before .before .before .before .before .before .before .before .before .args in
@@ -107,7 +107,7 @@ same-length-4 c =
     let fits = w .fits in
     w .apart .table .sizesLong ∙ sym (h .table .sizesLong)
 
--- src/lib.rt:272:1
+-- src/lib.rt:142:1
 returns-2 : tie.Need-returns-2
 returns-2 c =
     let a = c .before .before .before .before .before .before .before .before .before .before .before .args in

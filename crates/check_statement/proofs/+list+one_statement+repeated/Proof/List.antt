@@ -1,9 +1,8 @@
 -- What the borrow checker leaves of `list`. Assumes nothing.
-use Prim.Native.Nat.{ℕ}
 use Rattle.check_statement.proofs.+list+one_statement+repeated.Lts-list as lts
 use Rattle.check_statement.proofs.list.Reads.{Post}
 use Rattle.check_statement.proofs.+list+one_statement+repeated.Proof.Shared.{list-calls as calls, list-at as at}
-use Prim.Native.Nat.{_-_}
+use Prim.Native.Nat.{ℕ, _-_}
 use mathlib.Core.Path.{_≡_, refl, sym, _∙_}
 use native.Mathlib.Omega.{arith}
 use borrow.Author.Needs.{needs}
@@ -27,22 +26,22 @@ abbrev pub μ-loop : lts.MeasureT-loop
     to - at
 
 module _ (t : ℕ) where
-  -- src/lib.rt:947:5
+  -- src/lib.rt:182:5
   pub loop-holds : lts.Need-loop-holds (calls t) (at t) Post Inv-loop μ-loop
   loop-holds c =
       refl
 
-  -- src/lib.rt:948:15
+  -- src/lib.rt:183:15
   pub header-at-requires : lts.Need-header-at-requires (calls t) (at t) Post Inv-loop μ-loop
   header-at-requires c κs =
       c .before .before .before .pre .1 .0
 
-  -- src/lib.rt:949:28
+  -- src/lib.rt:184:28
   pub enum-told : lts.Need-enum-told (calls t) (at t) Post Inv-loop μ-loop
   enum-told c =
       search needs
 
-  -- src/lib.rt:949:28
+  -- src/lib.rt:184:28
   pub returns : lts.Need-returns (calls t) (at t) Post Inv-loop μ-loop
   unfolding partTold
   returns c =
@@ -52,12 +51,12 @@ module _ (t : ℕ) where
       let fs = tabulated (signatureAt (now (a .families)) (now (a .kinds)) (now (a .sizes))) (a .s .families) 0 in
       list-end (a .levels) p (c .before .before .before .loop .at) (a .to) s (when-end p (c .before .before .before .loop .at) (a .to) (c .before .before .before .before .before .before .pre .1 .0) (sym (c .before .before .header-at .ensures) ∙ c .enum-told .given .1)) ∙ sym (c .before .before .before .loop .inv)
 
-  -- src/lib.rt:950:28
+  -- src/lib.rt:185:28
   pub enum-told-2 : lts.Need-enum-told-2 (calls t) (at t) Post Inv-loop μ-loop
   enum-told-2 c =
       search needs
 
-  -- src/lib.rt:950:28
+  -- src/lib.rt:185:28
   pub returns-2 : lts.Need-returns-2 (calls t) (at t) Post Inv-loop μ-loop
   unfolding partTold
   returns-2 c =
@@ -67,12 +66,12 @@ module _ (t : ℕ) where
       let fs = tabulated (signatureAt (now (a .families)) (now (a .kinds)) (now (a .sizes))) (a .s .families) 0 in
       list-cut (a .levels) p (c .before .before .before .loop .at) (a .to) s (when-cut p (c .before .before .before .loop .at) (a .to) (c .before .before .before .before .before .before .pre .1 .0) (sym (c .before .before .header-at .ensures) ∙ c .enum-told2 .given .1)) ∙ sym (c .before .before .before .loop .inv)
 
-  -- src/lib.rt:951:27
+  -- src/lib.rt:186:27
   pub enum-known-tag : lts.Need-enum-known-tag (calls t) (at t) Post Inv-loop μ-loop
   enum-known-tag c =
       search needs
 
-  -- src/lib.rt:952:21
+  -- src/lib.rt:187:21
   pub one-statement-requires : lts.Need-one-statement-requires (calls t) (at t) Post Inv-loop μ-loop
   one-statement-requires c κs =
       let a = c .before .before .before .before .before .before .before .args in
@@ -92,12 +91,12 @@ module _ (t : ℕ) where
   enum-told-3 c =
       search needs
 
-  -- src/lib.rt:966:21
+  -- src/lib.rt:201:21
   pub enum-told-4 : lts.Need-enum-told-4 (calls t) (at t) Post Inv-loop μ-loop
   enum-told-4 c =
       search needs
 
-  -- src/lib.rt:966:21
+  -- src/lib.rt:201:21
   pub returns-3 : lts.Need-returns-3 (calls t) (at t) Post Inv-loop μ-loop
   returns-3 c =
       let a = c .before .before .before .before .before .before .before .before .before .before .args in
@@ -113,7 +112,7 @@ module _ (t : ℕ) where
       let rest = checkStatements (statementsBy (readStatement (a .levels)) (fieldsAt p next (a .to))) s in
       part-stops (c .before .before .one-statement .result) (stated (a .levels) (c .before .before .before .before .before .before .before .loop .at) tag next p s) rest (c .before .before .one-statement .ensures) (c .before .match2 .keys2) ∙ sym (list-next (a .levels) p (c .before .before .before .before .before .before .before .loop .at) (a .to) s tag next w) ∙ sym (c .before .before .before .before .before .before .before .loop .inv)
 
-  -- src/lib.rt:947:5
+  -- src/lib.rt:182:5
   pub loop-less : lts.Need-loop-less (calls t) (at t) Post Inv-loop μ-loop
   loop-less c =
       let a = c .before .before .before .before .before .before .before .before .before .before .args in
@@ -128,7 +127,7 @@ module _ (t : ℕ) where
       let q = c .before .before .before .before .before .before .before .before .before .before .pre .1 .0 in
       omega arith
 
-  -- src/lib.rt:947:5
+  -- src/lib.rt:182:5
   pub loop-again : lts.Need-loop-again (calls t) (at t) Post Inv-loop μ-loop
   loop-again c =
       let a = c .before .before .before .before .before .before .before .before .before .before .args in
