@@ -11,9 +11,9 @@ use Rattle.language.specs.Read.{read}
 use Rattle.language.specs.Check.{require, check, _>>_}
 use Rattle.language.specs.Result.{verdict, checkProgram, checkResult}
 use Rattle.language.proofs.Refusals.{place-within}
-use Rattle.program_check.specs.Declaring.{resultTold}
-use Rattle.program_check.specs.declared.Outcome.{Outcome}
-use Rattle.program_check.specs.declared.Outcome.the-variants.{Turned}
+use Rattle.check_program.specs.Answers.{resultTold}
+use Rattle.check_program.specs.declared.Outcome.{Outcome}
+use Rattle.check_program.specs.declared.Outcome.the-variants.{Turned}
 
 -- the place of a check's answer
 pub place-small : (p : List ℕ) → checkResult p .place ≤ 65535

@@ -6,9 +6,9 @@ ghost use lib.ListN.{length};
 ghost use Rattle.language.specs.Result.{finished, checkResult, instanceOutcome, runOutcome};
 ghost use Rattle.runs.specs.Concluded.{concluded, resultIn};
 ghost use Rattle.metaqasm.specs.Answers.{answered, Told};
+use check_program::Outcome;
 use emit::Answer;
 use emit::State;
-use program_check::Outcome;
 
 // The answer of a call: number (0 for done), place, records and steps.
 #[repr(C)]
@@ -23,7 +23,7 @@ pub struct MetaqasmResult {
 fn checked(program: &[u8]) -> MetaqasmResult
     ensures { λ r. ⌜ answered r ≡ checkResult (now (program .entry)) ⌝ }
 {
-    match program_check::check_program(program) {
+    match check_program::check_program(program) {
         Outcome::Accepted => MetaqasmResult {
             number: 0,
             place: 0,

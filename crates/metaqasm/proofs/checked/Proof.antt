@@ -3,11 +3,11 @@ use Rattle.metaqasm.proofs.checked.Statement.{statement}
 use Rattle.metaqasm.proofs.checked.Tie as tie
 use Rattle.metaqasm.proofs.checked.Reads as reads
 use Rattle.metaqasm.proofs.checked.Lts as lts
-use Rattle.program_check.proofs.check_program.Reads as check-program-reads
+use Rattle.check_program.proofs.check_program.Reads as check-program-reads
 use mathlib.Core.Path.{sym, ap, _∙_}
 use native.Mathlib.Omega.{arith}
 use denote.Ref.{now}
-use Rattle.program_check.specs.Declaring.{resultTold}
+use Rattle.check_program.specs.Answers.{resultTold}
 use Rattle.metaqasm.proofs.Places.{turned-small}
 
 -- src/lib.rt:21:11

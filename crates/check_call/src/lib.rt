@@ -1,0 +1,190 @@
+// The check of a call: its indexes' forms, and its operands against the family's parameters.
+ghost use mathlib.Core.Path.{_≡_};
+ghost use mathlib.Core.List.{List, map};
+ghost use Prim.Native.Nat.{_+_, _≤_};
+ghost use lib.ListN.{length};
+ghost use lib.Seq.{slice};
+ghost use Rattle.language.specs.Read.{readArgument, readCall};
+ghost use Rattle.language.specs.Check.{Kind, Signature, callForms, callOperands, checkStatement};
+ghost use Rattle.language.specs.Limits.{mostVariables};
+ghost use Rattle.fields.specs.Header.{fieldsAt};
+ghost use Rattle.forms.specs.Flat.{Short, widened, asForm};
+ghost use Rattle.forms.specs.Rows.{Rows, loopsOf, formsOf};
+ghost use Rattle.check_operand.specs.Tables.{kindBy, TablesRight, kindsAt, scopeWith, scopeAt};
+ghost use Rattle.check_index.specs.Answers.{partTold, Upon, PastCount};
+ghost use Rattle.check_operand.specs.Operands.{wantedOf, SizeRight};
+ghost use Rattle.check_call.specs.Calls.{FamiliesRight, scopeFull, takenBy, formsTold, LoopsRight};
+use check_index::DEEPEST;
+use check_index::FORM_NUMBERS;
+use check_index::Form;
+use check_index::MOST_VARIABLES;
+use check_index::Read;
+use check_index::Size;
+use check_operand::QUANTUM;
+use check_operand::QUBIT;
+use check_operand::Visible;
+use check_operand::Wanted;
+
+// A row of the table of families: how many index variables, how many parameters, and the first row of their kinds.
+pub type FamilyRow = [usize; 3];
+
+// The forms of the m indexes of a call at `place`, from `at` on.
+fn call_forms(
+    program: &[u8],
+    at: usize,
+    to: usize,
+    place: usize,
+    m: usize,
+    s: Visible,
+    lows: &[Form],
+    highs: &[Form],
+    forms: &mut [Form; MOST_VARIABLES],
+) -> Read
+    requires { ⌜ to ≤ length (now program) ⌝ }
+    requires { ⌜ m ≤ mostVariables ⌝ }
+    requires { ⌜ LoopsRight s (now lows) (now highs) ⌝ }
+    requires { ⌜ Rows (now forms) mostVariables ⌝ }
+    ensures { λ r. ⌜ ((fs : List Signature) (ks : List Kind) → formsTold r m (now (forms .exit)) ≡ callForms (scopeWith fs ks (s .variables) (loopsOf (s .loops) (now (lows .entry)) (now (highs .entry)))) place m (map readArgument (fieldsAt (now (program .entry)) at to))) ⌝ }
+    ensures { λ r. ⌜ PastCount (now (program .entry)) at to m r ⌝ }
+    ensures { λ _. ⌜ Rows (now (forms .exit)) mostVariables ⌝ }
+{
+    let mut from = at;
+    for i in 0..m {
+        let mut f = [0i64; FORM_NUMBERS];
+        let variables = s.variables + s.loops;
+        let r = check_index::index(program, from, to, place, DEEPEST, variables, &mut f);
+        let Read::Upto(next) = r else {
+            return r;
+        };
+        forms[i] = f;
+        let t = check_operand::must_show(&mut f, from, next, s.variables, s.loops, lows, highs);
+        let Read::Upto(_) = t else {
+            return t;
+        };
+        from = next;
+    }
+    Read::Upto(from)
+}
+
+// What a parameter of a kind and an own size takes, with a call's m forms put in; the size goes to `size`.
+fn taken(kind: u8, own: &Size, forms: &[Form; MOST_VARIABLES], m: usize, size: &mut Form) -> Wanted
+    requires { ⌜ Short (now own) ⌝ }
+    requires { ⌜ m ≤ mostVariables ⌝ }
+    requires { ⌜ Rows (now forms) mostVariables ⌝ }
+    ensures { λ r. ⌜ wantedOf r (now (size .exit)) ≡ takenBy (formsOf m (now (forms .entry))) (kindBy kind (asForm (widened (now (own .entry))))) ⌝ }
+    ensures { λ r. ⌜ SizeRight r (now (size .exit)) ⌝ }
+{
+    if kind == QUBIT {
+        return Wanted::Wire;
+    }
+    if kind == QUANTUM {
+        let known = forms::put_in(size, own, forms, m);
+        return Wanted::Register(known);
+    }
+    Wanted::Bit
+}
+
+// A call's operands from `at` on, for `count` parameters whose kinds and sizes stand from the row `first` on, and nothing after them.
+fn call_operands(
+    program: &[u8],
+    at: usize,
+    to: usize,
+    place: usize,
+    first: usize,
+    count: usize,
+    forms: &[Form; MOST_VARIABLES],
+    m: usize,
+    s: Visible,
+    kinds: &[u8],
+    sizes: &[Size],
+    lows: &[Form],
+    highs: &[Form],
+) -> Read
+    requires { ⌜ to ≤ length (now program) ⌝ }
+    requires { ⌜ m ≤ mostVariables ⌝ }
+    requires { ⌜ Rows (now forms) mostVariables ⌝ }
+    requires { ⌜ first + count ≤ length (now kinds) ⌝ }
+    requires { ⌜ TablesRight s (now kinds) (now sizes) (now lows) (now highs) ⌝ }
+    ensures { λ r. ⌜ ((fs : List Signature) → partTold r ≡ callOperands (scopeAt fs s (now (kinds .entry)) (now (sizes .entry)) (now (lows .entry)) (now (highs .entry))) place (formsOf m (now (forms .entry))) (kindsAt count first (now (kinds .entry)) (now (sizes .entry))) (map readArgument (fieldsAt (now (program .entry)) at to))) ⌝ }
+    ensures { λ r. ⌜ Upon to r ⌝ }
+{
+    let mut from = at;
+    for j in 0..count {
+        let row = first + j;
+        let mut size = [0i64; FORM_NUMBERS];
+        let wanted = taken(kinds[row], &sizes[row], forms, m, &mut size);
+        let r = check_operand::operand(
+            program,
+            from,
+            to,
+            place,
+            wanted,
+            &size,
+            s,
+            kinds,
+            sizes,
+            lows,
+            highs,
+        );
+        let Read::Upto(next) = r else {
+            return r;
+        };
+        from = next;
+    }
+    if from < to {
+        return Read::Refused(4, place);
+    }
+    Read::Upto(to)
+}
+
+// The call at `at`, whose field ends at `next`.
+pub fn call(
+    program: &[u8],
+    at: usize,
+    next: usize,
+    s: Visible,
+    families: &[FamilyRow],
+    kinds: &[u8],
+    sizes: &[Size],
+    lows: &[Form],
+    highs: &[Form],
+) -> Read
+    requires { ⌜ (at + 3 ≤ next) × (next ≤ length (now program)) ⌝ }
+    requires { ⌜ TablesRight s (now kinds) (now sizes) (now lows) (now highs) ⌝ }
+    requires { ⌜ FamiliesRight s (now families) (now kinds) ⌝ }
+    ensures { λ r. ⌜ partTold r ≡ checkStatement (readCall at (slice (at + 3) next (now (program .entry)))) (scopeFull s (now (families .entry)) (now (kinds .entry)) (now (sizes .entry)) (now (lows .entry)) (now (highs .entry))) ⌝ }
+{
+    let from = at + 3;
+    if next <= from {
+        return Read::Refused(4, at);
+    }
+    let n = fields::wide(program[from]);
+    if s.families <= n {
+        return Read::Refused(8, at);
+    }
+    let family = families[n];
+    let m = family[0];
+    let count = family[1];
+    let first = family[2];
+    let inner = at + 4;
+    let mut forms = [[0i64; FORM_NUMBERS]; MOST_VARIABLES];
+    let r = call_forms(program, inner, next, at, m, s, lows, highs, &mut forms);
+    let Read::Upto(mid) = r else {
+        return r;
+    };
+    call_operands(
+        program,
+        mid,
+        next,
+        at,
+        first,
+        count,
+        &forms,
+        m,
+        s,
+        kinds,
+        sizes,
+        lows,
+        highs,
+    )
+}

@@ -1,0 +1,262 @@
+// The check of what declares: parameters' types, a family's numbers, registers.
+ghost use mathlib.Core.Path.{_≡_};
+ghost use mathlib.Core.List.{List, []};
+ghost use Prim.Native.Nat.{_+_, _≤_, _<_};
+ghost use lib.ListN.{length};
+ghost use lib.Seq.{slice};
+ghost use Rattle.language.specs.Tree.{badType};
+ghost use Rattle.language.specs.Read.{due, qbitsOf, readType, typesOf};
+ghost use Rattle.language.specs.Check.{Kind, Signature, kindOf, kindsOf};
+ghost use Rattle.language.specs.Limits.{mostWires, mostVariables};
+ghost use Rattle.fields.specs.Header.{fieldsAt};
+ghost use Rattle.check_index.specs.Answers.{EndsAt, Passes, PastCount};
+ghost use Rattle.check_operand.specs.Tables.{scopeWith};
+ghost use Rattle.check_declaration.specs.Registers.{numberTold, registerMeant, RegisterSet};
+ghost use Rattle.check_declaration.specs.Types.{sizeTold, typeTold, TypePast, OperandTable, Apart, rowTold, rowsTold, tableRows};
+ghost use Rattle.check_declaration.specs.Families.{countsTold, countsMeant, BothRight};
+use check_index::DEEPEST;
+use check_index::FORM_NUMBERS;
+use check_index::Form;
+use check_index::MOST_VARIABLES;
+use check_index::Read;
+use check_index::SIZE_NUMBERS;
+use check_index::Size;
+use fields::Header;
+
+pub const MOST_FAMILIES: usize = 255;
+
+pub const MOST_REGISTERS: usize = 255;
+
+// Qubits, or bits, of a program.
+pub const MOST_WIRES: usize = 65_535;
+
+// Parameters of a family.
+pub const MOST_PARAMETERS: usize = 8;
+
+// The rows of the table of operands: one for each register, and then those of the families' parameters, as they come.
+pub const TABLE_ROWS: usize = MOST_REGISTERS + MOST_FAMILIES * MOST_PARAMETERS;
+
+// What a parameter's type is: Qbit, or Qbit[I], whose form lies beside; each with the position past it. Or a refusal.
+pub enum TypeRead {
+    Single(usize),
+    Many(usize),
+    Bad(u32, usize),
+}
+
+// The numbers of index variables and of parameters of a family, or a refusal's number and place.
+pub enum Counts {
+    Both(usize, usize),
+    Bad(u32, usize),
+}
+
+// The content of the type Qbit[I] at `at`, in a family of m index variables; its size goes to f.
+fn sized_type(program: &[u8], at: usize, next: usize, m: usize, f: &mut Form) -> Read
+    requires { ⌜ (at + 3 ≤ next) × (next ≤ length (now program)) ⌝ }
+    requires { ⌜ m ≤ mostVariables ⌝ }
+    ensures { λ r. ⌜ ((fs : List Signature) (ks : List Kind) → sizeTold r (now (f .exit)) ≡ kindOf (scopeWith fs ks m []) (qbitsOf at (fieldsAt (now (program .entry)) (at + 3) next))) ⌝ }
+    ensures { λ r. ⌜ EndsAt next r (now (f .exit)) ⌝ }
+{
+    let from = at + 3;
+    let r = check_index::index(program, from, next, at, DEEPEST, m, f);
+    let Read::Upto(end) = r else {
+        return r;
+    };
+    if end < next {
+        return Read::Refused(4, at);
+    }
+    let mut g = *f;
+    let none = [[0i64; FORM_NUMBERS]; 1];
+    let t = check_operand::must_show(&mut g, at, next, m, 0, &none, &none);
+    let Read::Upto(_) = t else {
+        return t;
+    };
+    Read::Upto(next)
+}
+
+// The type that is due at `at` in the family at `place` of m index variables, whose content ends at `to`; its size goes to f.
+fn parameter_type(
+    program: &[u8],
+    at: usize,
+    to: usize,
+    place: usize,
+    m: usize,
+    f: &mut Form,
+) -> TypeRead
+    requires { ⌜ to ≤ length (now program) ⌝ }
+    requires { ⌜ m ≤ mostVariables ⌝ }
+    ensures { λ r. ⌜ ((fs : List Signature) (ks : List Kind) → typeTold r (now (f .exit)) ≡ kindOf (scopeWith fs ks m []) (due readType (badType 4 place) (fieldsAt (now (program .entry)) at to))) ⌝ }
+    ensures { λ r. ⌜ TypePast (now (program .entry)) at to r (now (f .exit)) ⌝ }
+{
+    match fields::header_at(program, at, to) {
+        Header::End => TypeRead::Bad(4, place),
+        Header::Cut => TypeRead::Bad(2, at),
+        Header::Whole(tag, next) => {
+            let from = at + 3;
+            match tag {
+                16 => {
+                    if from < next {
+                        return TypeRead::Bad(4, at);
+                    }
+                    TypeRead::Single(next)
+                }
+                17 => match sized_type(program, at, next, m, f) {
+                    Read::Upto(_) => TypeRead::Many(next),
+                    Read::Refused(n, q) => TypeRead::Bad(n, q),
+                },
+                _ => TypeRead::Bad(3, at),
+            }
+        }
+    }
+}
+
+// The type that is due at `at` in the family at `place` of m index variables, put into a row of the tables.
+fn typed_row(
+    program: &[u8],
+    at: usize,
+    to: usize,
+    place: usize,
+    m: usize,
+    row: usize,
+    kinds: &mut [u8],
+    sizes: &mut [Size],
+) -> Read
+    requires { ⌜ to ≤ length (now program) ⌝ }
+    requires { ⌜ m ≤ mostVariables ⌝ }
+    requires { ⌜ row < tableRows ⌝ }
+    requires { ⌜ OperandTable (now kinds) (now sizes) ⌝ }
+    ensures { λ r. ⌜ ((fs : List Signature) (ks : List Kind) → rowTold r row (now (kinds .exit)) (now (sizes .exit)) ≡ kindOf (scopeWith fs ks m []) (due readType (badType 4 place) (fieldsAt (now (program .entry)) at to))) ⌝ }
+    ensures { λ r. ⌜ Passes (now (program .entry)) at to r ⌝ }
+    ensures { λ _. ⌜ Apart row 1 (now (kinds .entry)) (now (sizes .entry)) (now (kinds .exit)) (now (sizes .exit)) ⌝ }
+{
+    let mut f = [0i64; FORM_NUMBERS];
+    match parameter_type(program, at, to, place, m, &mut f) {
+        TypeRead::Single(next) => {
+            kinds[row] = check_operand::QUBIT;
+            Read::Upto(next)
+        }
+        TypeRead::Many(next) => {
+            let mut size = [0i64; SIZE_NUMBERS];
+            forms::store(&mut size, &f);
+            kinds[row] = check_operand::QUANTUM;
+            sizes[row] = size;
+            Read::Upto(next)
+        }
+        TypeRead::Bad(n, q) => Read::Refused(n, q),
+    }
+}
+
+// The types of the `count` parameters of the family at `place`, from `at` on, put into the rows from `first` on.
+pub fn parameter_types(
+    program: &[u8],
+    at: usize,
+    to: usize,
+    place: usize,
+    m: usize,
+    count: usize,
+    first: usize,
+    kinds: &mut [u8],
+    sizes: &mut [Size],
+) -> Read
+    requires { ⌜ to ≤ length (now program) ⌝ }
+    requires { ⌜ m ≤ mostVariables ⌝ }
+    requires { ⌜ first + count ≤ tableRows ⌝ }
+    requires { ⌜ OperandTable (now kinds) (now sizes) ⌝ }
+    ensures { λ r. ⌜ ((fs : List Signature) (ks : List Kind) → rowsTold r count first (now (kinds .exit)) (now (sizes .exit)) ≡ kindsOf (scopeWith fs ks m []) (typesOf place count (fieldsAt (now (program .entry)) at to))) ⌝ }
+    ensures { λ r. ⌜ PastCount (now (program .entry)) at to count r ⌝ }
+    ensures { λ _. ⌜ Apart first count (now (kinds .entry)) (now (sizes .entry)) (now (kinds .exit)) (now (sizes .exit)) ⌝ }
+{
+    let mut from = at;
+    for j in 0..count {
+        let row = first + j;
+        let r = typed_row(program, from, to, place, m, row, kinds, sizes);
+        let Read::Upto(next) = r else {
+            return r;
+        };
+        from = next;
+    }
+    Read::Upto(from)
+}
+
+// The two numbers of the family at `at`, whose field ends at `next`, after so many families.
+pub fn family_counts(program: &[u8], at: usize, next: usize, families: usize) -> Counts
+    requires { ⌜ (at + 3 ≤ next) × (next ≤ length (now program)) ⌝ }
+    ensures { λ r. ⌜ countsTold r ≡ countsMeant at families (slice (at + 3) next (now (program .entry))) ⌝ }
+    ensures { λ r. ⌜ BothRight at next families r ⌝ }
+{
+    if MOST_FAMILIES <= families {
+        return Counts::Bad(6, at);
+    }
+    let from = at + 3;
+    if next <= from {
+        return Counts::Bad(4, at);
+    }
+    let m = fields::wide(program[from]);
+    if MOST_VARIABLES < m {
+        return Counts::Bad(6, at);
+    }
+    let second = at + 4;
+    if next <= second {
+        return Counts::Bad(4, at);
+    }
+    let p = fields::wide(program[second]);
+    if p == 0 {
+        return Counts::Bad(6, at);
+    }
+    if MOST_PARAMETERS < p {
+        return Counts::Bad(6, at);
+    }
+    Counts::Both(m, p)
+}
+
+// The size of the register at `at`, whose field ends at `next`, after `count` registers with `total` qubits or bits.
+fn register_size(program: &[u8], at: usize, next: usize, count: usize, total: usize) -> Read
+    requires { ⌜ (at + 3 ≤ next) × (next ≤ length (now program)) ⌝ }
+    requires { ⌜ total ≤ mostWires ⌝ }
+    ensures { λ r. ⌜ numberTold r ≡ registerMeant at count total (slice (at + 3) next (now (program .entry))) ⌝ }
+{
+    if MOST_REGISTERS <= count {
+        return Read::Refused(6, at);
+    }
+    let from = at + 3;
+    if next - from < 2 {
+        return Read::Refused(4, at);
+    }
+    let n = fields::two_bytes(program, from);
+    if MOST_WIRES < total + n {
+        return Read::Refused(7, at);
+    }
+    if next - from != 2 {
+        return Read::Refused(4, at);
+    }
+    Read::Upto(n)
+}
+
+// The register of a kind at `at`, whose field ends at `next`, after `count` registers with `total` qubits or bits, put into its row.
+pub fn register(
+    program: &[u8],
+    at: usize,
+    next: usize,
+    kind: u8,
+    count: usize,
+    total: usize,
+    kinds: &mut [u8],
+    sizes: &mut [Size],
+) -> Read
+    requires { ⌜ (at + 3 ≤ next) × (next ≤ length (now program)) ⌝ }
+    requires { ⌜ total ≤ mostWires ⌝ }
+    requires { ⌜ OperandTable (now kinds) (now sizes) ⌝ }
+    ensures { λ r. ⌜ numberTold r ≡ registerMeant at count total (slice (at + 3) next (now (program .entry))) ⌝ }
+    ensures { λ r. ⌜ RegisterSet r kind count total (now (kinds .entry)) (now (sizes .entry)) (now (kinds .exit)) (now (sizes .exit)) ⌝ }
+{
+    let r = register_size(program, at, next, count, total);
+    let Read::Upto(size) = r else {
+        return r;
+    };
+    let mut f = [0i64; FORM_NUMBERS];
+    forms::set_constant(&mut f, size as i64);
+    let mut short = [0i64; SIZE_NUMBERS];
+    forms::store(&mut short, &f);
+    kinds[count] = kind;
+    sizes[count] = short;
+    Read::Upto(size)
+}

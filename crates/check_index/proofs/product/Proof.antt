@@ -1,0 +1,52 @@
+use borrow.Author.Needs.{needs}
+use Rattle.check_index.proofs.product.Statement.{statement}
+use Rattle.check_index.proofs.product.Tie as tie
+use Rattle.check_index.proofs.product.Reads as reads
+use Rattle.check_index.proofs.product.Lts as lts
+use Rattle.forms.proofs.multiply.Reads as multiply-reads
+use mathlib.Core.Path.{refl}
+use Rattle.forms.specs.Products.{productOf}
+use Rattle.check_index.specs.Answers.{formTold}
+use Rattle.check_index.specs.Indexes.{treeOperation}
+
+-- src/lib.rt:136:11
+multiply-requires : tie.Need-multiply-requires
+multiply-requires c κs = search needs
+
+-- src/lib.rt:137:26
+enum-told : tie.Need-enum-told
+enum-told c = search needs
+
+-- src/lib.rt:138:29
+enum-told-2 : tie.Need-enum-told-2
+enum-told-2 c = search needs
+
+-- src/lib.rt:139:31
+enum-told-3 : tie.Need-enum-told-3
+enum-told-3 c = search needs
+
+-- src/lib.rt:130:1
+returns : tie.Need-returns
+unfolding productOf treeOperation formTold
+returns c =
+    let e = c .enum-told .given .1 in
+    (rw e at (c .before .before .multiply .ensures .0 (c .before .before .before .before .args .at)), (refl, rw e at (c .before .before .multiply .ensures .1)))
+
+-- src/lib.rt:130:1
+returns-2 : tie.Need-returns-2
+unfolding productOf treeOperation formTold
+returns-2 c =
+    let e = c .enum-told2 .given .1 in
+    (rw e at (c .before .before .multiply .ensures .0 (c .before .before .before .before .args .at)), tt)
+
+-- src/lib.rt:130:1
+returns-3 : tie.Need-returns-3
+unfolding productOf treeOperation formTold
+returns-3 c =
+    let e = c .enum-told3 .given .1 in
+    (rw e at (c .before .before .multiply .ensures .0 (c .before .before .before .before .args .at)), tt)
+
+pub product-spec : {M : Type 1} → statement M
+product-spec =
+    tie.close
+    (tie.spec multiply-requires enum-told enum-told-2 enum-told-3 returns returns-2 returns-3)

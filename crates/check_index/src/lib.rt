@@ -1,0 +1,214 @@
+// The check of an index field: the form that it means.
+ghost use mathlib.Core.Path.{_≡_};
+ghost use mathlib.Core.List.{List};
+ghost use Prim.Native.Nat.{ℕ, _+_, _≤_};
+ghost use lib.ListN.{length};
+ghost use lib.Seq.{slice};
+ghost use Rattle.language.specs.Tree.{badIndex};
+ghost use Rattle.language.specs.Read.{field, due, deepIndex, readIndex, readLiteral, readVariable};
+ghost use Rattle.language.specs.Check.{formOf, combined};
+ghost use Rattle.language.specs.Limits.{allVariables};
+ghost use Rattle.fields.specs.Header.{fieldsAt};
+ghost use Rattle.forms.specs.Flat.{Kept, asForm};
+ghost use Rattle.check_index.specs.Indexes.{IndexSays, treeOperation, scopeOf};
+ghost use Rattle.check_index.specs.Answers.{formTold, EndsAt, Past};
+use fields::Header;
+use forms::Product;
+
+// Index variables of a family.
+pub const MOST_VARIABLES: usize = 4;
+
+// Loops open at once.
+pub const MOST_LOOPS: usize = 8;
+
+// Index variables in scope at once.
+pub const ALL_VARIABLES: usize = MOST_VARIABLES + MOST_LOOPS;
+
+// Levels of nested statements, and of nested indexes.
+pub const DEEPEST: usize = 16;
+
+// The numbers of a form: the constant, and a coefficient for each variable.
+pub const FORM_NUMBERS: usize = ALL_VARIABLES + 1;
+
+// The numbers of a size in a table: the constant, and a coefficient for each variable of a family.
+pub const SIZE_NUMBERS: usize = MOST_VARIABLES + 1;
+
+pub type Form = [i64; FORM_NUMBERS];
+
+pub type Size = [i64; SIZE_NUMBERS];
+
+// The tags of index fields, from the first to the last.
+const FIRST_TAG: u8 = 64;
+
+const LAST_TAG: u8 = 68;
+
+// The operations on index forms.
+pub enum Operation {
+    Sum,
+    Difference,
+    Product,
+}
+
+// What an index field's tag says.
+pub enum IndexTag {
+    Literal,
+    Variable,
+    Both(Operation),
+    Other,
+}
+
+// What reading a part that is due gives: the position past it, or a refusal's number and place.
+pub enum Read {
+    Upto(usize),
+    Refused(u32, usize),
+}
+
+fn index_tag(tag: u8) -> IndexTag
+    ensures { λ r. ⌜ IndexSays tag r ⌝ }
+{
+    match tag {
+        64 => IndexTag::Literal,
+        65 => IndexTag::Variable,
+        66 => IndexTag::Both(Operation::Sum),
+        67 => IndexTag::Both(Operation::Difference),
+        68 => IndexTag::Both(Operation::Product),
+        _ => IndexTag::Other,
+    }
+}
+
+// The refusal of a field of a tag where an index would be past the deepest level.
+fn too_deep(tag: u8) -> u32
+    ensures { λ r. ⌜ ((p : ℕ) (content : List ℕ) → badIndex r p ≡ deepIndex (field p tag content)) ⌝ }
+{
+    if tag < FIRST_TAG {
+        return 3;
+    }
+    if LAST_TAG < tag {
+        return 3;
+    }
+    5
+}
+
+// The literal at `at`, whose field ends at `next`.
+fn literal(program: &[u8], at: usize, next: usize, f: &mut Form) -> Read
+    requires { ⌜ (at + 3 ≤ next) × (next ≤ length (now program)) ⌝ }
+    ensures { λ r. ⌜ ((n : ℕ) → formTold r (now (f .exit)) ≡ formOf (scopeOf n) (readLiteral at (slice (at + 3) next (now (program .entry))))) ⌝ }
+    ensures { λ r. ⌜ EndsAt next r (now (f .exit)) ⌝ }
+{
+    let from = at + 3;
+    if next - from != 2 {
+        return Read::Refused(4, at);
+    }
+    let n = fields::two_bytes(program, from);
+    forms::set_constant(f, n as i64);
+    Read::Upto(next)
+}
+
+// The variable at `at`, of so many in scope.
+fn variable(program: &[u8], at: usize, next: usize, variables: usize, f: &mut Form) -> Read
+    requires { ⌜ (at + 3 ≤ next) × (next ≤ length (now program)) ⌝ }
+    requires { ⌜ variables ≤ allVariables ⌝ }
+    ensures { λ r. ⌜ formTold r (now (f .exit)) ≡ formOf (scopeOf variables) (readVariable at (slice (at + 3) next (now (program .entry)))) ⌝ }
+    ensures { λ r. ⌜ EndsAt next r (now (f .exit)) ⌝ }
+{
+    let from = at + 3;
+    if next <= from {
+        return Read::Refused(4, at);
+    }
+    let v = fields::wide(program[from]);
+    if variables <= v {
+        return Read::Refused(8, at);
+    }
+    if next - from != 1 {
+        return Read::Refused(4, at);
+    }
+    forms::set_variable(f, v);
+    Read::Upto(next)
+}
+
+// f becomes f times g, of which one must be constant.
+fn product(at: usize, next: usize, f: &mut Form, g: &Form) -> Read
+    requires { ⌜ Kept (now f) ⌝ }
+    requires { ⌜ Kept (now g) ⌝ }
+    ensures { λ r. ⌜ formTold r (now (f .exit)) ≡ combined at (treeOperation Operation.Product) (asForm (now (f .entry))) (asForm (now (g .entry))) ⌝ }
+    ensures { λ r. ⌜ EndsAt next r (now (f .exit)) ⌝ }
+{
+    match forms::multiply(f, g) {
+        Product::Made => Read::Upto(next),
+        Product::Outside => Read::Refused(11, at),
+        Product::NotLinear => Read::Refused(10, at),
+    }
+}
+
+// f becomes what the operation at `at`, whose field ends at `next`, makes of f and g.
+fn combine(op: Operation, at: usize, next: usize, f: &mut Form, g: &Form) -> Read
+    requires { ⌜ Kept (now f) ⌝ }
+    requires { ⌜ Kept (now g) ⌝ }
+    ensures { λ r. ⌜ formTold r (now (f .exit)) ≡ combined at (treeOperation op) (asForm (now (f .entry))) (asForm (now (g .entry))) ⌝ }
+    ensures { λ r. ⌜ EndsAt next r (now (f .exit)) ⌝ }
+{
+    match op {
+        Operation::Sum => {
+            if forms::add(f, g) {
+                return Read::Upto(next);
+            }
+            Read::Refused(11, at)
+        }
+        Operation::Difference => {
+            if forms::subtract(f, g) {
+                return Read::Upto(next);
+            }
+            Read::Refused(11, at)
+        }
+        Operation::Product => product(at, next, f, g),
+    }
+}
+
+// The index that is due at `at` in the field at `place` whose content ends at `to`; its form goes to f.
+pub fn index(
+    program: &[u8],
+    at: usize,
+    to: usize,
+    place: usize,
+    levels: usize,
+    variables: usize,
+    f: &mut Form,
+) -> Read
+    requires { ⌜ to ≤ length (now program) ⌝ }
+    requires { ⌜ variables ≤ allVariables ⌝ }
+    ensures { λ r. ⌜ formTold r (now (f .exit)) ≡ formOf (scopeOf variables) (due (readIndex levels) (badIndex 4 place) (fieldsAt (now (program .entry)) at to)) ⌝ }
+    ensures { λ r. ⌜ Past (now (program .entry)) at to r (now (f .exit)) ⌝ }
+{
+    match fields::header_at(program, at, to) {
+        Header::End => Read::Refused(4, place),
+        Header::Cut => Read::Refused(2, at),
+        Header::Whole(tag, next) => {
+            let kind = index_tag(tag);
+            if levels == 0 {
+                return Read::Refused(too_deep(tag), at);
+            }
+            let below = levels - 1;
+            let from = at + 3;
+            match kind {
+                IndexTag::Other => Read::Refused(3, at),
+                IndexTag::Literal => literal(program, at, next, f),
+                IndexTag::Variable => variable(program, at, next, variables, f),
+                IndexTag::Both(op) => {
+                    let left = index(program, from, next, at, below, variables, f);
+                    let Read::Upto(mid) = left else {
+                        return left;
+                    };
+                    let mut g = [0i64; FORM_NUMBERS];
+                    let right = index(program, mid, next, at, below, variables, &mut g);
+                    let Read::Upto(end) = right else {
+                        return right;
+                    };
+                    if end < next {
+                        return Read::Refused(4, at);
+                    }
+                    combine(op, at, next, f, &g)
+                }
+            }
+        }
+    }
+}

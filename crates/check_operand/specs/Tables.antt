@@ -1,0 +1,46 @@
+-- The scope that the tables of operands and of loops stand for.
+use mathlib.Core.List.{List, [], _∷_}
+use mathlib.Core.Bool.{cond}
+use Prim.Native.Nat.{ℕ, zero, suc, _+_, _≤_}
+use lib.IntN.{ℤ}
+use lib.Dec.{eqb}
+use lib.ListN.{length, getD}
+use Rattle.language.specs.Limits.{mostVariables, mostLoops}
+use Rattle.language.specs.Form.{Form, Loop}
+use Rattle.language.specs.Check.{Kind, qubit, quantum, classical, Signature}
+use Rattle.forms.specs.Flat.{widened, asForm}
+use Rattle.forms.specs.Rows.{Rows, ShortRows, loopsOf}
+use Rattle.check_operand.specs.declared.Visible.{Visible}
+use Rattle.language.specs.Check as C
+
+-- a row of the table of operands: a byte for the kind (0 a Qbit parameter, 1 quantum, else classical), and a short row for the size
+unfoldable pub kindBy : ℕ → Form → Kind
+kindBy b f = cond (eqb b 0) qubit (cond (eqb b 1) (quantum f) (classical f))
+
+abbrev pub kindAt : ℕ → List ℕ → List (List ℤ) → Kind
+kindAt i kinds sizes = kindBy (getD kinds i 0) (asForm (widened (getD sizes i [])))
+
+-- so many rows from a first one on
+unfoldable pub tabulated : {A : Type 0} → (ℕ → A) → (count first : ℕ) → List A
+tabulated row zero i = []
+tabulated row (suc n) i = row i ∷ tabulated row n (suc i)
+
+abbrev pub kindsAt : (count first : ℕ) → List ℕ → List (List ℤ) → List Kind
+kindsAt n i kinds sizes = tabulated (λ j. kindAt j kinds sizes) n i
+
+-- a scope by its parts
+abbrev pub scopeWith : List Signature → List Kind → ℕ → List Loop → C.Scope
+scopeWith fs ks m ls = record { families = fs; operands = ks; variables = m; loops = ls }
+
+-- the scope that the tables stand for, with these families
+abbrev pub scopeAt : List Signature → Visible → List ℕ → List (List ℤ) → List (List ℤ) → List (List ℤ) → C.Scope
+scopeAt fs s kinds sizes lows highs = scopeWith fs (kindsAt (s .count) (s .first) kinds sizes) (s .variables) (loopsOf (s .loops) lows highs)
+
+-- what the tables hold is right
+pub record TablesRight (s : Visible) (kinds : List ℕ) (sizes lows highs : List (List ℤ)) : Type 0 where
+  pub few : s .variables ≤ mostVariables
+  pub nested : s .loops ≤ mostLoops
+  pub kindRows : s .first + s .count ≤ length kinds
+  pub sizeRows : ShortRows sizes (length kinds)
+  pub lowRows : Rows lows mostLoops
+  pub highRows : Rows highs mostLoops

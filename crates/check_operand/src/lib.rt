@@ -1,0 +1,482 @@
+// The check of operands: what is due, and what is shown of it.
+ghost use mathlib.Core.Path.{_≡_};
+ghost use mathlib.Core.Bool.{true};
+ghost use mathlib.Core.List.{List};
+ghost use Prim.Native.Nat.{ℕ, _+_, _≤_};
+ghost use lib.ListN.{length, replicate};
+ghost use lib.Seq.{slice};
+ghost use lib.IntN.{ℤ, pos};
+ghost use Rattle.language.specs.Tree.{badOperand};
+ghost use Rattle.language.specs.Read.{due, readOperand, readWhole, readElement};
+ghost use Rattle.language.specs.Form.{Form, built, differenceOf, _thenBuild_, showing};
+ghost use Rattle.language.specs.Check.{Kind, Signature, elementSize, byShowing, wire, wholeFits, checkOperand};
+ghost use Rattle.language.specs.Limits.{allVariables};
+ghost use Rattle.fields.specs.Header.{fieldsAt};
+ghost use Rattle.forms.specs.Flat.{Kept, Short, widened, asForm, builtOf};
+ghost use Rattle.forms.specs.Rows.{Rows, loopsOf};
+ghost use Rattle.check_operand.specs.Tables.{kindBy, TablesRight, scopeWith, scopeAt};
+ghost use Rattle.check_operand.specs.Operands.{sizeKnown, firstRefusal, withinShown, wantedOf, SizeRight, oneWire, twoOperands};
+ghost use Rattle.check_index.specs.Answers.{partTold, Upon, Passes};
+ghost use Rattle.check_index.specs.Indexes.{formNumbers};
+use check_index::DEEPEST;
+use check_index::FORM_NUMBERS;
+use check_index::Form;
+use check_index::Read;
+use check_index::Size;
+use fields::Header;
+use forms::Verdict;
+
+// The kinds in a table of operands: a Qbit parameter; a quantum register or Qbit[I] parameter; a classical register.
+pub const QUBIT: u8 = 0;
+
+pub const QUANTUM: u8 = 1;
+
+pub const CLASSICAL: u8 = 2;
+
+// What is in scope: how many families, the rows of the table of operands, and how many index variables and open loops.
+pub struct Visible {
+    pub families: usize,
+    pub first: usize,
+    pub count: usize,
+    pub variables: usize,
+    pub loops: usize,
+}
+
+// What an operand is due to be: a wire, a bit, or a register of at least a size, which lies beside, if it was built.
+pub enum Wanted {
+    Wire,
+    Bit,
+    Register(bool),
+}
+
+// Shows f, which is then of no use, to be 0 or more, for the field from `at` to `next`.
+pub fn must_show(
+    f: &mut Form,
+    at: usize,
+    next: usize,
+    variables: usize,
+    loops: usize,
+    lows: &[Form],
+    highs: &[Form],
+) -> Read
+    requires { ⌜ Kept (now f) ⌝ }
+    requires { ⌜ variables + loops ≤ allVariables ⌝ }
+    requires { ⌜ Rows (now lows) loops ⌝ }
+    requires { ⌜ Rows (now highs) loops ⌝ }
+    ensures { λ r. ⌜ partTold r ≡ byShowing at (showing variables (loopsOf loops (now (lows .entry)) (now (highs .entry))) (built (asForm (now (f .entry))))) ⌝ }
+    ensures { λ r. ⌜ Upon next r ⌝ }
+{
+    match forms::show(f, variables, loops, lows, highs) {
+        Verdict::Shown => Read::Upto(next),
+        Verdict::NotShown => Read::Refused(12, at),
+        Verdict::OutOfRange => Read::Refused(11, at),
+    }
+}
+
+// Shows the index f to be within a size.
+fn within(
+    f: &Form,
+    size: &Size,
+    at: usize,
+    next: usize,
+    variables: usize,
+    loops: usize,
+    lows: &[Form],
+    highs: &[Form],
+) -> Read
+    requires { ⌜ Kept (now f) ⌝ }
+    requires { ⌜ Short (now size) ⌝ }
+    requires { ⌜ variables + loops ≤ allVariables ⌝ }
+    requires { ⌜ Rows (now lows) loops ⌝ }
+    requires { ⌜ Rows (now highs) loops ⌝ }
+    ensures { λ r. ⌜ partTold r ≡ withinShown at variables (loopsOf loops (now (lows .entry)) (now (highs .entry))) (asForm (now (f .entry))) (asForm (widened (now (size .entry)))) ⌝ }
+    ensures { λ r. ⌜ Upon next r ⌝ }
+{
+    let mut g = *f;
+    let r = must_show(&mut g, at, next, variables, loops, lows, highs);
+    let Read::Upto(_) = r else {
+        return r;
+    };
+    let mut one = [0i64; FORM_NUMBERS];
+    forms::set_constant(&mut one, 1);
+    let mut room = [0i64; FORM_NUMBERS];
+    forms::load(&mut room, size);
+    if forms::subtract(&mut room, &one) {
+        if forms::subtract(&mut room, f) {
+            return must_show(&mut room, at, next, variables, loops, lows, highs);
+        }
+        return Read::Refused(11, at);
+    }
+    Read::Refused(11, at)
+}
+
+// Shows a register's own size to be at least the size due.
+fn large_enough(
+    known: bool,
+    size: &Form,
+    own: &Size,
+    at: usize,
+    next: usize,
+    variables: usize,
+    loops: usize,
+    lows: &[Form],
+    highs: &[Form],
+) -> Read
+    requires { ⌜ (known ≡ true → Kept (now size)) ⌝ }
+    requires { ⌜ Short (now own) ⌝ }
+    requires { ⌜ variables + loops ≤ allVariables ⌝ }
+    requires { ⌜ Rows (now lows) loops ⌝ }
+    requires { ⌜ Rows (now highs) loops ⌝ }
+    ensures { λ r. ⌜ partTold r ≡ byShowing at (showing variables (loopsOf loops (now (lows .entry)) (now (highs .entry))) (builtOf known (now (size .entry)) thenBuild differenceOf (asForm (widened (now (own .entry)))))) ⌝ }
+    ensures { λ r. ⌜ Upon next r ⌝ }
+{
+    if known {
+        let mut room = [0i64; FORM_NUMBERS];
+        forms::load(&mut room, own);
+        if forms::subtract(&mut room, size) {
+            return must_show(&mut room, at, next, variables, loops, lows, highs);
+        }
+        return Read::Refused(11, at);
+    }
+    Read::Refused(11, at)
+}
+
+// Whether an operand of a kind and an own size, taken whole, is what is due.
+fn whole_fits(
+    wanted: Wanted,
+    size: &Form,
+    kind: u8,
+    own: &Size,
+    at: usize,
+    next: usize,
+    variables: usize,
+    loops: usize,
+    lows: &[Form],
+    highs: &[Form],
+) -> Read
+    requires { ⌜ SizeRight wanted (now size) ⌝ }
+    requires { ⌜ Short (now own) ⌝ }
+    requires { ⌜ variables + loops ≤ allVariables ⌝ }
+    requires { ⌜ Rows (now lows) loops ⌝ }
+    requires { ⌜ Rows (now highs) loops ⌝ }
+    ensures { λ r. ⌜ ((fs : List Signature) (ks : List Kind) → partTold r ≡ wholeFits at (scopeWith fs ks variables (loopsOf loops (now (lows .entry)) (now (highs .entry)))) (wantedOf wanted (now (size .entry))) (kindBy kind (asForm (widened (now (own .entry)))))) ⌝ }
+    ensures { λ r. ⌜ Upon next r ⌝ }
+{
+    match wanted {
+        Wanted::Wire => {
+            if kind == QUBIT {
+                return Read::Upto(next);
+            }
+            Read::Refused(9, at)
+        }
+        Wanted::Bit => Read::Refused(9, at),
+        Wanted::Register(known) => {
+            if kind == QUANTUM {
+                return large_enough(known, size, own, at, next, variables, loops, lows, highs);
+            }
+            Read::Refused(9, at)
+        }
+    }
+}
+
+// Whether an element of an operand of a kind is what is due, for the field from `at` to `next`.
+fn element_kind(wanted: Wanted, kind: u8, at: usize, next: usize) -> Read
+    ensures { λ r. ⌜ ((f : Form) (l : List ℤ) → sizeKnown r f ≡ elementSize at (wantedOf wanted l) (kindBy kind f)) ⌝ }
+    ensures { λ r. ⌜ Upon next r ⌝ }
+{
+    match wanted {
+        Wanted::Wire => {
+            if kind == QUANTUM {
+                return Read::Upto(next);
+            }
+            Read::Refused(9, at)
+        }
+        Wanted::Bit => {
+            if kind == QUBIT {
+                return Read::Refused(9, at);
+            }
+            if kind == QUANTUM {
+                return Read::Refused(9, at);
+            }
+            Read::Upto(next)
+        }
+        Wanted::Register(_) => Read::Refused(9, at),
+    }
+}
+
+// The first refusal of two tests of the same field, if there is one.
+fn first_refusal(first: Read, second: Read) -> Read
+    ensures { λ r. ⌜ partTold r ≡ firstRefusal (partTold first) (partTold second) ⌝ }
+    ensures { λ r. ⌜ ((n : ℕ) → Upon n first → Upon n second → Upon n r) ⌝ }
+{
+    match first {
+        Read::Upto(_) => second,
+        Read::Refused(n, p) => Read::Refused(n, p),
+    }
+}
+
+// The whole operand at `at`, whose field ends at `next`.
+fn whole(
+    program: &[u8],
+    at: usize,
+    next: usize,
+    wanted: Wanted,
+    size: &Form,
+    s: Visible,
+    kinds: &[u8],
+    sizes: &[Size],
+    lows: &[Form],
+    highs: &[Form],
+) -> Read
+    requires { ⌜ (at + 3 ≤ next) × (next ≤ length (now program)) ⌝ }
+    requires { ⌜ SizeRight wanted (now size) ⌝ }
+    requires { ⌜ TablesRight s (now kinds) (now sizes) (now lows) (now highs) ⌝ }
+    ensures { λ r. ⌜ ((fs : List Signature) → partTold r ≡ checkOperand (scopeAt fs s (now (kinds .entry)) (now (sizes .entry)) (now (lows .entry)) (now (highs .entry))) (wantedOf wanted (now (size .entry))) (readWhole at (slice (at + 3) next (now (program .entry))))) ⌝ }
+    ensures { λ r. ⌜ Upon next r ⌝ }
+{
+    let from = at + 3;
+    if next <= from {
+        return Read::Refused(4, at);
+    }
+    let n = fields::wide(program[from]);
+    if s.count <= n {
+        return Read::Refused(8, at);
+    }
+    if next - from != 1 {
+        return Read::Refused(4, at);
+    }
+    let row = s.first + n;
+    whole_fits(
+        wanted,
+        size,
+        kinds[row],
+        &sizes[row],
+        at,
+        next,
+        s.variables,
+        s.loops,
+        lows,
+        highs,
+    )
+}
+
+// The element at `at`, whose field ends at `next`.
+fn element(
+    program: &[u8],
+    at: usize,
+    next: usize,
+    wanted: Wanted,
+    size: &Form,
+    s: Visible,
+    kinds: &[u8],
+    sizes: &[Size],
+    lows: &[Form],
+    highs: &[Form],
+) -> Read
+    requires { ⌜ (at + 3 ≤ next) × (next ≤ length (now program)) ⌝ }
+    requires { ⌜ TablesRight s (now kinds) (now sizes) (now lows) (now highs) ⌝ }
+    ensures { λ r. ⌜ ((fs : List Signature) → partTold r ≡ checkOperand (scopeAt fs s (now (kinds .entry)) (now (sizes .entry)) (now (lows .entry)) (now (highs .entry))) (wantedOf wanted (now (size .entry))) (readElement at (slice (at + 3) next (now (program .entry))))) ⌝ }
+    ensures { λ r. ⌜ Upon next r ⌝ }
+{
+    let from = at + 3;
+    if next <= from {
+        return Read::Refused(4, at);
+    }
+    let n = fields::wide(program[from]);
+    if s.count <= n {
+        return Read::Refused(8, at);
+    }
+    let row = s.first + n;
+    let inner = at + 4;
+    let variables = s.variables + s.loops;
+    let mut f = [0i64; FORM_NUMBERS];
+    let r = check_index::index(program, inner, next, at, DEEPEST, variables, &mut f);
+    let Read::Upto(end) = r else {
+        return r;
+    };
+    if end < next {
+        return Read::Refused(4, at);
+    }
+    let kind = element_kind(wanted, kinds[row], at, next);
+    let shown = within(&f, &sizes[row], at, next, s.variables, s.loops, lows, highs);
+    first_refusal(kind, shown)
+}
+
+// The operand that is due at `at` in the field at `place` whose content ends at `to`.
+pub fn operand(
+    program: &[u8],
+    at: usize,
+    to: usize,
+    place: usize,
+    wanted: Wanted,
+    size: &Form,
+    s: Visible,
+    kinds: &[u8],
+    sizes: &[Size],
+    lows: &[Form],
+    highs: &[Form],
+) -> Read
+    requires { ⌜ to ≤ length (now program) ⌝ }
+    requires { ⌜ SizeRight wanted (now size) ⌝ }
+    requires { ⌜ TablesRight s (now kinds) (now sizes) (now lows) (now highs) ⌝ }
+    ensures { λ r. ⌜ ((fs : List Signature) → partTold r ≡ checkOperand (scopeAt fs s (now (kinds .entry)) (now (sizes .entry)) (now (lows .entry)) (now (highs .entry))) (wantedOf wanted (now (size .entry))) (due readOperand (badOperand 4 place) (fieldsAt (now (program .entry)) at to))) ⌝ }
+    ensures { λ r. ⌜ Passes (now (program .entry)) at to r ⌝ }
+{
+    match fields::header_at(program, at, to) {
+        Header::End => Read::Refused(4, place),
+        Header::Cut => Read::Refused(2, at),
+        Header::Whole(tag, next) => match tag {
+            48 => whole(
+                program,
+                at,
+                next,
+                wanted,
+                size,
+                s,
+                kinds,
+                sizes,
+                lows,
+                highs,
+            ),
+            49 => element(
+                program,
+                at,
+                next,
+                wanted,
+                size,
+                s,
+                kinds,
+                sizes,
+                lows,
+                highs,
+            ),
+            _ => Read::Refused(3, at),
+        },
+    }
+}
+
+// One wire, and no more, in the field from `at` to `next`.
+pub fn one_wire(
+    program: &[u8],
+    at: usize,
+    next: usize,
+    s: Visible,
+    kinds: &[u8],
+    sizes: &[Size],
+    lows: &[Form],
+    highs: &[Form],
+) -> Read
+    requires { ⌜ (at + 3 ≤ next) × (next ≤ length (now program)) ⌝ }
+    requires { ⌜ TablesRight s (now kinds) (now sizes) (now lows) (now highs) ⌝ }
+    ensures { λ r. ⌜ ((fs : List Signature) → partTold r ≡ oneWire (scopeAt fs s (now (kinds .entry)) (now (sizes .entry)) (now (lows .entry)) (now (highs .entry))) at (fieldsAt (now (program .entry)) (at + 3) next)) ⌝ }
+    ensures { λ r. ⌜ Upon next r ⌝ }
+{
+    let none = [0i64; FORM_NUMBERS];
+    let from = at + 3;
+    let r = operand(
+        program,
+        from,
+        next,
+        at,
+        Wanted::Wire,
+        &none,
+        s,
+        kinds,
+        sizes,
+        lows,
+        highs,
+    );
+    let Read::Upto(end) = r else {
+        return r;
+    };
+    if end < next {
+        return Read::Refused(4, at);
+    }
+    Read::Upto(next)
+}
+
+// A wire, and then a wire or a bit, and no more, in the field from `at` to `next`.
+pub fn two_operands(
+    program: &[u8],
+    at: usize,
+    next: usize,
+    second: Wanted,
+    s: Visible,
+    kinds: &[u8],
+    sizes: &[Size],
+    lows: &[Form],
+    highs: &[Form],
+) -> Read
+    requires { ⌜ (at + 3 ≤ next) × (next ≤ length (now program)) ⌝ }
+    requires { ⌜ ((l : List ℤ) → SizeRight second l) ⌝ }
+    requires { ⌜ TablesRight s (now kinds) (now sizes) (now lows) (now highs) ⌝ }
+    ensures { λ r. ⌜ ((fs : List Signature) → partTold r ≡ twoOperands (scopeAt fs s (now (kinds .entry)) (now (sizes .entry)) (now (lows .entry)) (now (highs .entry))) (wantedOf second (replicate formNumbers (pos 0))) at (fieldsAt (now (program .entry)) (at + 3) next)) ⌝ }
+    ensures { λ r. ⌜ Upon next r ⌝ }
+{
+    let none = [0i64; FORM_NUMBERS];
+    let from = at + 3;
+    let r = operand(
+        program,
+        from,
+        next,
+        at,
+        Wanted::Wire,
+        &none,
+        s,
+        kinds,
+        sizes,
+        lows,
+        highs,
+    );
+    let Read::Upto(mid) = r else {
+        return r;
+    };
+    let t = operand(
+        program,
+        mid,
+        next,
+        at,
+        second,
+        &none,
+        s,
+        kinds,
+        sizes,
+        lows,
+        highs,
+    );
+    let Read::Upto(end) = t else {
+        return t;
+    };
+    if end < next {
+        return Read::Refused(4, at);
+    }
+    Read::Upto(next)
+}
+
+// Two wires, and no more, in the field from `at` to `next`.
+pub fn two_wires(
+    program: &[u8],
+    at: usize,
+    next: usize,
+    s: Visible,
+    kinds: &[u8],
+    sizes: &[Size],
+    lows: &[Form],
+    highs: &[Form],
+) -> Read
+    requires { ⌜ (at + 3 ≤ next) × (next ≤ length (now program)) ⌝ }
+    requires { ⌜ TablesRight s (now kinds) (now sizes) (now lows) (now highs) ⌝ }
+    ensures { λ r. ⌜ ((fs : List Signature) → partTold r ≡ twoOperands (scopeAt fs s (now (kinds .entry)) (now (sizes .entry)) (now (lows .entry)) (now (highs .entry))) wire at (fieldsAt (now (program .entry)) (at + 3) next)) ⌝ }
+{
+    two_operands(
+        program,
+        at,
+        next,
+        Wanted::Wire,
+        s,
+        kinds,
+        sizes,
+        lows,
+        highs,
+    )
+}

@@ -1,0 +1,209 @@
+-- A family entered into the tables. Assumes nothing.
+use mathlib.Core.Path.{_≡_, refl, sym, ap, _∙_}
+use mathlib.Core.List.{List, [], _∷_, _++_}
+use mathlib.Core.Bool.{Bool, true, false, _&&_}
+use Prim.Native.Nat.{ℕ, _+_, _≤_, _<_}
+use native.Mathlib.Omega.{arith}
+use native.Mathlib.Nat.{zero-add}
+use lib.Dec.{eqb, leb, ltb}
+use lib.IntN.{ℤ}
+use lib.ListN.{length, getD, drop, take, set, length-set}
+use lib.Seq.{slice, drop-drop, getD-set-same, getD-set-other}
+use borrow.Author.Tests.{eqb-true, eqb-false}
+use types.Run.{OneOf}
+use denote.Enum.Declared.{tagOf}
+use Rattle.language.specs.Read.{Field, fields, typesOf, statementsBy, outerStatement, familyOf, readFamily}
+use Rattle.language.specs.Check.{Checked, good, refused, _>>=_, _>>_, require, checkNumber, Kind, Signature, kindsOf, checkStatements, Declared, familyScope, withFamily, checkTop}
+use Rattle.fields.specs.Header.{fieldsAt}
+use Rattle.forms.specs.Rows.{loopsOf}
+use Rattle.check_operand.specs.Tables.{kindsAt, tabulated}
+use Rattle.check_index.specs.Answers.{partTold, Beyond}
+use Rattle.check_call.specs.Calls.{signatureAt, scopeFull, FamilyRight}
+use Rattle.check_operand.specs.declared.Visible.{Visible}
+use Rattle.check_index.specs.declared.Read.{Read}
+use Rattle.check_index.specs.declared.Read.the-variants.{Upto, Refused}
+use Rattle.check_index.proofs.Read.{the-type}
+use Rattle.check_operand.proofs.Tables.{row-more, rows-same, length-rows}
+use Rattle.check_index.proofs.Answers.{not-first}
+use Rattle.check_declaration.specs.Types.{Apart, rowsTold}
+use Rattle.check_declaration.specs.Families.{firstIn, secondIn, countsMeant, countsTold, BothRight}
+use Rattle.check_program.specs.Declarations.{bodyMeant, declaredIn, DeclaredRight, stepTold}
+use Rattle.check_program.specs.declared.SoFar.{SoFar}
+use Rattle.check_declaration.specs.declared.Counts.{Counts}
+use Rattle.check_declaration.specs.declared.Counts.the-variants.{Both, Bad}
+use Rattle.check_program.specs.declared.Step.the-variants.{Stopped}
+use Rattle.check_declaration.proofs.Tables.{rows-below}
+use Rattle.check_program.proofs.Scopes.{families-below}
+
+rows-then : (r : Read) (count first : ℕ) (kinds : List ℕ) (sizes : List (List ℤ)) → rowsTold r count first kinds sizes ≡ (partTold r >> good (kindsAt count first kinds sizes))
+unfolding rowsTold partTold _>>_
+rows-then (Upto n) count first kinds sizes = refl
+rows-then (Refused n p) count first kinds sizes = refl
+
+-- the scope of a family whose rows these are
+abbrev pub familyRows : SoFar → (m p : ℕ) → Visible
+familyRows t m p = record { families = t .families; first = t .rows; count = p; variables = m; loops = 0 }
+
+module _ (t : SoFar) (families : List (List ℕ)) (at m p : ℕ) (l : List ℕ) (from next : ℕ) {k₀ : List ℕ} {s₀ : List (List ℤ)} {k₁ : List ℕ} {s₁ : List (List ℤ)} (h : DeclaredRight t families k₀ s₀) (a : Apart (t .rows) p k₀ s₀ k₁ s₁)
+    (r : Read) (e : rowsTold r p (t .rows) k₁ s₁ ≡ kindsOf (familyScope (declaredIn t families k₀ s₀) m []) (typesOf at p (fieldsAt l from next))) where
+  abbrev bodyAfter : List Kind → Checked (List Kind)
+  bodyAfter ks = checkStatements (statementsBy outerStatement (drop p (fieldsAt l from next))) (familyScope (declaredIn t families k₀ s₀) m ks) >> good ks
+
+  pub body-stops : OneOf (1 ∷ []) (tagOf the-type r) → rowsTold r p (t .rows) k₁ s₁ ≡ bodyMeant (declaredIn t families k₀ s₀) at m p (fieldsAt l from next)
+  unfolding rowsTold _>>=_
+  body-stops o = by r o ∙ ap (λ (c : Checked (List Kind)). c >>= bodyAfter) e
+    where
+      by : (r : Read) → OneOf (1 ∷ []) (tagOf the-type r) → rowsTold r p (t .rows) k₁ s₁ ≡ (rowsTold r p (t .rows) k₁ s₁ >>= bodyAfter)
+      by (Upto n) o = not-first o
+      by (Refused n q) o = refl
+
+  family-scope : (lows highs : List (List ℤ)) → scopeFull (familyRows t m p) families k₁ s₁ lows highs ≡ familyScope (declaredIn t families k₀ s₀) m (kindsAt p (t .rows) k₁ s₁)
+  unfolding familyScope loopsOf
+  family-scope lows highs = ap (λ (fs : List Signature). record { families = fs; operands = kindsAt p (t .rows) k₁ s₁; variables = m; loops = [] }) (families-below t families h p a)
+
+  pub body-goes : (mid : ℕ) → r ≡ Upto mid → Beyond l from next p mid → (o : Read) (lows highs : List (List ℤ))
+      → partTold o ≡ checkStatements (statementsBy outerStatement (fieldsAt l mid next)) (scopeFull (familyRows t m p) families k₁ s₁ lows highs)
+      → rowsTold o p (t .rows) k₁ s₁ ≡ bodyMeant (declaredIn t families k₀ s₀) at m p (fieldsAt l from next)
+  unfolding rowsTold _>>=_
+  body-goes mid u b o lows highs d =
+      rows-then o p (t .rows) k₁ s₁
+      ∙ ap (λ (c : Checked (Unit {0})). c >> good (kindsAt p (t .rows) k₁ s₁)) (d ∙ (λ i. checkStatements (statementsBy outerStatement (sym (b .rest) i)) (family-scope lows highs i)))
+      ∙ ap (λ (c : Checked (List Kind)). c >>= bodyAfter) (sym (ap (λ (x : Read). rowsTold x p (t .rows) k₁ s₁) u) ∙ e)
+
+bind-after : {A B : Type 0} (x : Checked A) (c : A → Checked (Unit {0})) (w : A → B) → (x >>= λ a. (c a >> good (w a))) ≡ ((x >>= λ a. (c a >> good a)) >>= λ a. good (w a))
+unfolding _>>=_ _>>_
+bind-after (refused n p) c w = refl
+bind-after (good a) c w = by (c a)
+  where
+    by : (x : Checked (Unit {0})) → (x >> good (w a)) ≡ ((x >> good a) >>= λ a. good (w a))
+    by (good u) = refl
+    by (refused n p) = refl
+
+-- a test, and what is bound after it
+test-bind : {A B : Type 0} (n p : ℕ) (b : Bool) (x : Checked A) (f : A → Checked B) → ((require n p b >> x) >>= f) ≡ (require n p b >> (x >>= f))
+unfolding require _>>_ _>>=_
+test-bind n p true x f = refl
+test-bind n p false x f = refl
+
+-- what a family declares, after its two numbers
+abbrev pub familyAfter : Declared → ℕ → List ℕ → ℕ × ℕ → Checked Declared
+familyAfter d q content mp = bodyMeant d q (mp .0) (mp .1) (fields (q + 5) (drop 2 content)) >>= λ ks. good (withFamily d (record { variables = mp .0; parameters = ks }))
+
+pub family-is : (q : ℕ) (content : List ℕ) (d : Declared) → checkTop (readFamily q content) d ≡ (countsMeant q (length (d .families)) content >>= familyAfter d q content)
+unfolding checkTop readFamily familyOf firstIn secondIn checkNumber _>>=_
+family-is q [] d = sym (test-bind 6 q (ltb (length (d .families)) 255) (refused 4 q) (familyAfter d q []))
+family-is q (m ∷ []) d =
+    sym (test-bind 6 q (ltb (length (d .families)) 255) (require 6 q (leb m 4) >> refused 4 q) (familyAfter d q (m ∷ []))
+    ∙ ap (λ (c : Checked Declared). require 6 q (ltb (length (d .families)) 255) >> c) (test-bind 6 q (leb m 4) (refused 4 q) (familyAfter d q (m ∷ []))))
+family-is q (m ∷ p ∷ rest) d =
+    ap (λ (c : Checked Declared). require 6 q (ltb (length (d .families)) 255) >> (require 6 q (leb m 4) >> (require 6 q (leb 1 p && leb p 8) >> c)))
+    (bind-after (kindsOf (familyScope d m []) (typesOf q p (fields (q + 5) rest))) (λ ks. checkStatements (statementsBy outerStatement (drop p (fields (q + 5) rest))) (familyScope d m ks)) (λ ks. withFamily d (record { variables = m; parameters = ks })))
+    ∙ sym (test-bind 6 q (ltb (length (d .families)) 255) (require 6 q (leb m 4) >> (require 6 q (leb 1 p && leb p 8) >> good (m, p))) (familyAfter d q (m ∷ p ∷ rest))
+    ∙ ap (λ (c : Checked Declared). require 6 q (ltb (length (d .families)) 255) >> c) (test-bind 6 q (leb m 4) (require 6 q (leb 1 p && leb p 8) >> good (m, p)) (familyAfter d q (m ∷ p ∷ rest))
+    ∙ ap (λ (c : Checked Declared). require 6 q (leb m 4) >> c) (test-bind 6 q (leb 1 p && leb p 8) (good (m, p)) (familyAfter d q (m ∷ p ∷ rest)))))
+
+two-on : (l : List ℕ) (at next : ℕ) → fields (at + 5) (drop 2 (slice (at + 3) next l)) ≡ fieldsAt l (at + 5) next
+unfolding fieldsAt
+two-on l at next = let e : at + 3 + 2 ≡ at + 5 = omega arith in ap (fields (at + 5)) (drop-drop 2 (at + 3) (take next l) ∙ ap (λ (k : ℕ). drop k (take next l)) e)
+
+module _ (t : SoFar) (families : List (List ℕ)) (kinds : List ℕ) (sizes : List (List ℤ)) (l : List ℕ) (at next : ℕ) (c : Counts) (e : countsTold c ≡ countsMeant at (t .families) (slice (at + 3) next l)) where
+  abbrev before : Declared
+  before = declaredIn t families kinds sizes
+
+  family-meant : checkTop (readFamily at (slice (at + 3) next l)) before ≡ (countsTold c >>= familyAfter before at (slice (at + 3) next l))
+  family-meant =
+      family-is at (slice (at + 3) next l) before
+      ∙ ap (λ (k : ℕ). countsMeant at k (slice (at + 3) next l) >>= familyAfter before at (slice (at + 3) next l)) (length-rows (signatureAt families kinds sizes) (t .families) 0)
+      ∙ ap (λ (x : Checked (ℕ × ℕ)). x >>= familyAfter before at (slice (at + 3) next l)) (sym e)
+
+  pub family-bad : (n q : ℕ) (f₁ : List (List ℕ)) (k₁ : List ℕ) (s₁ : List (List ℤ)) → c ≡ Bad n q → stepTold (Stopped n q) f₁ k₁ s₁ ≡ checkTop (readFamily at (slice (at + 3) next l)) before
+  unfolding stepTold countsTold _>>=_
+  family-bad n q f₁ k₁ s₁ u = sym (family-meant ∙ ap (λ (x : Counts). countsTold x >>= familyAfter before at (slice (at + 3) next l)) u)
+
+  module _ (m p : ℕ) (u : c ≡ Both m p) (r : Read) (k₁ : List ℕ) (s₁ : List (List ℤ)) (b : rowsTold r p (t .rows) k₁ s₁ ≡ bodyMeant before at m p (fieldsAt l (at + 5) next)) where
+    abbrev entered : List Kind → Checked Declared
+    entered ks = good (withFamily before (record { variables = m; parameters = ks }))
+
+    family-both : checkTop (readFamily at (slice (at + 3) next l)) before ≡ (rowsTold r p (t .rows) k₁ s₁ >>= entered)
+    unfolding countsTold _>>=_
+    family-both =
+        family-meant ∙ ap (λ (x : Counts). countsTold x >>= familyAfter before at (slice (at + 3) next l)) u
+        ∙ ap (λ (fs : List Field). bodyMeant before at m p fs >>= entered) (two-on l at next)
+        ∙ ap (λ (x : Checked (List Kind)). x >>= entered) (sym b)
+
+    pub family-stops : (n q : ℕ) (f₂ : List (List ℕ)) (k₂ : List ℕ) (s₂ : List (List ℤ)) → r ≡ Refused n q → stepTold (Stopped n q) f₂ k₂ s₂ ≡ checkTop (readFamily at (slice (at + 3) next l)) before
+    unfolding stepTold rowsTold _>>=_
+    family-stops n q f₂ k₂ s₂ v = sym (family-both ∙ ap (λ (x : Read). rowsTold x p (t .rows) k₁ s₁ >>= entered) v)
+
+    pub family-goes : OneOf (0 ∷ []) (tagOf the-type r) → good (withFamily before (record { variables = m; parameters = kindsAt p (t .rows) k₁ s₁ })) ≡ checkTop (readFamily at (slice (at + 3) next l)) before
+    unfolding rowsTold _>>=_
+    family-goes o = by r o ∙ sym family-both
+      where
+        by : (r : Read) → OneOf (0 ∷ []) (tagOf the-type r) → good (withFamily before (record { variables = m; parameters = kindsAt p (t .rows) k₁ s₁ })) ≡ (rowsTold r p (t .rows) k₁ s₁ >>= entered)
+        by (Upto n) o = refl
+        by (Refused n q) o = absurd (let z : _≡_ {A = ℕ} 1 0 = o in omega arith)
+
+-- one family more
+module _ (t : SoFar) (families : List (List ℕ)) (m p : ℕ) {k₀ : List ℕ} {s₀ : List (List ℤ)} {k₁ : List ℕ} {s₁ : List (List ℤ)} (h : DeclaredRight t families k₀ s₀) (a : Apart (t .rows) p k₀ s₀ k₁ s₁) (room : t .families < 255) (few : m ≤ 4) (some : p ≤ 8) where
+  abbrev more : SoFar
+  more = record { families = t .families + 1; rows = t .rows + p; registers = t .registers; qubits = t .qubits; bits = t .bits }
+
+  abbrev entry : List ℕ
+  entry = m ∷ p ∷ t .rows ∷ []
+
+  abbrev newFamilies : List (List ℕ)
+  newFamilies = set families (t .families) entry
+
+  own : getD newFamilies (t .families) [] ≡ entry
+  own = let x = h .long in getD-set-same families (t .families) entry [] (omega arith)
+
+  other : (k : ℕ) → k < t .families → getD newFamilies k [] ≡ getD families k []
+  other k q = getD-set-other families (t .families) k entry [] (λ e. omega arith)
+
+  -- the signature in a row
+  abbrev signed : List ℕ → Signature
+  signed row = record { variables = getD row 0 0; parameters = kindsAt (getD row 1 0) (getD row 2 0) k₁ s₁ }
+
+  signatures-more : tabulated (signatureAt newFamilies k₁ s₁) (t .families + 1) 0 ≡ (tabulated (signatureAt families k₀ s₀) (t .families) 0 ++ (record { variables = m; parameters = kindsAt p (t .rows) k₁ s₁ } ∷ []))
+  signatures-more =
+      row-more (signatureAt newFamilies k₁ s₁) (t .families) 0
+      ∙ ap (λ (k : ℕ). tabulated (signatureAt newFamilies k₁ s₁) (t .families) 0 ++ (signatureAt newFamilies k₁ s₁ k ∷ [])) (zero-add (t .families))
+      ∙ (λ i. (earlier ∙ families-below t families h p a) i ++ (signed (own i) ∷ []))
+    where
+      earlier : tabulated (signatureAt newFamilies k₁ s₁) (t .families) 0 ≡ tabulated (signatureAt families k₁ s₁) (t .families) 0
+      earlier = rows-same (signatureAt newFamilies k₁ s₁) (signatureAt families k₁ s₁) (t .families) 0 (λ k x y. ap signed (other k (omega arith)))
+
+  pub with-family : declaredIn more newFamilies k₁ s₁ ≡ withFamily (declaredIn t families k₀ s₀) (record { variables = m; parameters = kindsAt p (t .rows) k₁ s₁ })
+  unfolding withFamily
+  with-family =
+      let x = h .registersFit in
+      let y = h .leastRows in
+      λ i. record { families = signatures-more i; registers = rows-below (t .rows) p (t .registers) 0 a (omega arith) i; qubits = t .qubits; bits = t .bits }
+
+  pub holds-family : DeclaredRight more newFamilies k₁ s₁
+  holds-family =
+      let x = h .leastRows in
+      let y = h .rowsFit in
+      record { table = a .table; long = length-set families (t .families) entry ∙ h .long; familiesFit = omega arith; registersFit = h .registersFit; qubitsFit = h .qubitsFit; bitsFit = h .bitsFit; leastRows = omega arith; rowsFit = omega arith; each = entered; behind = after }
+    where
+      entered : (k : ℕ) → k < t .families + 1 → FamilyRight (getD newFamilies k []) (t .rows + p)
+      entered k q = by (eqb k (t .families)) refl
+        where
+          by : (b : Bool) → eqb k (t .families) ≡ b → FamilyRight (getD newFamilies k []) (t .rows + p)
+          by true e = rw (eqb-true k (t .families) e, own) (record { few = few; inside = omega arith })
+          by false e =
+              let n = eqb-false k (t .families) e in
+              let z : k < t .families = omega arith in
+              let w = h .each k z in
+              let v = w .inside in
+              rw (other k z) (record { few = w .few; inside = omega arith })
+
+      after : (k : ℕ) → k < t .families + 1 → 255 ≤ getD (getD newFamilies k []) 2 0
+      after k q = by (eqb k (t .families)) refl
+        where
+          by : (b : Bool) → eqb k (t .families) ≡ b → 255 ≤ getD (getD newFamilies k []) 2 0
+          by true e = rw (eqb-true k (t .families) e, own) (h .leastRows)
+          by false e = let n = eqb-false k (t .families) e in let z : k < t .families = omega arith in rw (other k z) (h .behind k z)
+
+pub counts-right : (at next families : ℕ) (c : Counts) (m p : ℕ) → c ≡ Both m p → BothRight at next families c → BothRight at next families (Both m p)
+counts-right at next families c m p e h = rw e at h

@@ -1,0 +1,4 @@
+pub mod Scopes
+pub mod Registers
+pub mod Families
+pub mod TopFields

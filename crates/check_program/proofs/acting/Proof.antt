@@ -1,0 +1,61 @@
+use borrow.Author.Needs.{needs}
+use Rattle.check_program.proofs.acting.Statement.{statement}
+use Rattle.check_program.proofs.acting.Tie as tie
+use Rattle.check_program.proofs.acting.Reads as reads
+use Rattle.check_program.proofs.acting.Lts as lts
+use Rattle.check_statement.proofs.action.Reads as action-reads
+use mathlib.Core.Path.{refl, _∙_}
+use native.Mathlib.Omega.{arith}
+use denote.Ref.{now}
+use lib.IntN.{pos}
+use lib.ListN.{replicate}
+use Rattle.check_program.specs.Declarations.{declaredIn}
+use Rattle.check_program.proofs.Scopes.{eight-rows, scope-right, scope-declares, topRows, top-scope}
+use Rattle.check_program.proofs.TopFields.{kept-refused, kept-going}
+
+-- src/lib.rt:250:5
+action-requires : tie.Need-action-requires
+action-requires c κs =
+    let a = c .before .before .before .before .args in
+    let h = c .before .before .before .before .pre .1 .0 in
+    let few = h .familiesFit in
+    let most = h .registersFit in
+    let none = replicate 8 (replicate 13 (pos 0)) in
+    let d = declaredIn (a .t) (now (a .families)) (now (a .kinds)) (now (a .sizes)) in
+    let e = top-scope (a .t) (now (a .families)) (now (a .kinds)) (now (a .sizes)) none none in
+    (c .before .before .before .before .pre .0, (scope-right (topRows (a .t)) (now (a .kinds)) (now (a .sizes)) none none (h .table) eight-rows eight-rows (omega arith) (omega arith) (omega arith), (scope-declares (topRows (a .t)) (a .t) (now (a .families)) (now (a .kinds)) (now (a .sizes)) h (h .table) refl, c .before .before .before .before .pre .1 .1)))
+
+-- src/lib.rt:262:23
+enum-known-k : tie.Need-enum-known-k
+enum-known-k c = search needs
+
+-- src/lib.rt:263:26
+enum-told : tie.Need-enum-told
+enum-told c = search needs
+
+-- src/lib.rt:226:1
+returns : tie.Need-returns
+returns c =
+    let a = c .before .before .before .before .before .before .before .before .args in
+    let h = c .before .before .before .before .before .before .before .before .pre .1 .0 in
+    let few = h .familiesFit in
+    let most = h .registersFit in
+    let none = replicate 8 (replicate 13 (pos 0)) in
+    let d = declaredIn (a .t) (now (a .families)) (now (a .kinds)) (now (a .sizes)) in
+    let e = top-scope (a .t) (now (a .families)) (now (a .kinds)) (now (a .sizes)) none none in
+    (kept-refused (c .before .before .before .action .result) (c .before .k .given .0 .0) (c .before .k .given .0 .1 .0) d (now (a .families)) (now (a .kinds)) (now (a .sizes)) (c .before .k .given .1) ∙ c .before .before .before .action .ensures d e, tt)
+
+-- src/lib.rt:226:1
+returns-2 : tie.Need-returns-2
+returns-2 c =
+    let a = c .before .before .before .before .before .before .before .args in
+    let h = c .before .before .before .before .before .before .before .pre .1 .0 in
+    let few = h .familiesFit in
+    let most = h .registersFit in
+    let none = replicate 8 (replicate 13 (pos 0)) in
+    let d = declaredIn (a .t) (now (a .families)) (now (a .kinds)) (now (a .sizes)) in
+    let e = top-scope (a .t) (now (a .families)) (now (a .kinds)) (now (a .sizes)) none none in
+    (kept-going (c .before .before .action .result) (a .t) (now (a .families)) (now (a .kinds)) (now (a .sizes)) (c .before .match .keys2) ∙ c .before .before .action .ensures d e, h)
+
+pub acting-spec : {M : Type 1} → statement M
+acting-spec = tie.close (tie.spec action-requires enum-known-k enum-told returns returns-2)

@@ -1,0 +1,50 @@
+-- What the tables say is declared.
+use mathlib.Core.Path.{_≡_}
+use mathlib.Core.List.{List, []}
+use Prim.Native.Nat.{ℕ, _+_, _*_, _≤_, _<_}
+use lib.IntN.{ℤ}
+use lib.ListN.{length, getD, drop}
+use Rattle.language.specs.Limits.{mostFamilies, mostRegisters, mostWires, mostBits, mostParameters}
+use Rattle.language.specs.Tree.{Place}
+use Rattle.language.specs.Read.{Field, typesOf, statementsBy, outerStatement}
+use Rattle.language.specs.Check.{Checked, good, refused, _>>=_, _>>_, Kind, Declared, familyScope, kindsOf, checkStatements}
+use Rattle.check_operand.specs.Tables.{kindsAt, tabulated}
+use Rattle.check_call.specs.Calls.{signatureAt, FamilyRight}
+use Rattle.check_program.specs.declared.SoFar.{SoFar}
+use Rattle.check_program.specs.declared.Step.{Step}
+use Rattle.check_program.specs.declared.Step.the-variants.{Going, Stopped}
+use Rattle.check_declaration.specs.Types.{OperandTable}
+
+-- what the tables say is declared
+abbrev pub declaredIn : SoFar → List (List ℕ) → List ℕ → List (List ℤ) → Declared
+declaredIn t families kinds sizes = record
+    { families = tabulated (signatureAt families kinds sizes) (t .families) 0; registers = kindsAt (t .registers) 0 kinds sizes; qubits = t .qubits; bits = t .bits }
+
+-- what the tables hold is right: rows of parameters stand behind those of registers
+pub record DeclaredRight (t : SoFar) (families : List (List ℕ)) (kinds : List ℕ) (sizes : List (List ℤ)) : Type 0 where
+  pub table : OperandTable kinds sizes
+  pub long : length families ≡ mostFamilies
+  pub familiesFit : t .families ≤ mostFamilies
+  pub registersFit : t .registers ≤ mostRegisters
+  pub qubitsFit : t .qubits ≤ mostWires
+  pub bitsFit : t .bits ≤ mostBits
+  pub leastRows : mostRegisters ≤ t .rows
+  pub rowsFit : t .rows ≤ mostRegisters + mostParameters * t .families
+  pub each : (k : ℕ) → k < t .families → FamilyRight (getD families k []) (t .rows)
+  pub behind : (k : ℕ) → k < t .families → mostRegisters ≤ getD (getD families k []) 2 0
+
+abbrev pub noneSoFar : SoFar
+noneSoFar = record { families = 0; rows = mostRegisters; registers = 0; qubits = 0; bits = 0 }
+
+-- what an answer and the tables tell
+unfoldable pub stepTold : Step → List (List ℕ) → List ℕ → List (List ℤ) → Checked Declared
+stepTold (Going t) families kinds sizes = good (declaredIn t families kinds sizes)
+stepTold (Stopped n p) families kinds sizes = refused n p
+
+abbrev pub StepRight : Step → List (List ℕ) → List ℕ → List (List ℤ) → Type 0
+StepRight (Going t) families kinds sizes = DeclaredRight t families kinds sizes
+StepRight (Stopped n p) families kinds sizes = Unit {0}
+
+-- the kinds of a family's parameters, where its types and its body are right
+abbrev pub bodyMeant : Declared → Place → (m p : ℕ) → List Field → Checked (List Kind)
+bodyMeant d q m p fs = kindsOf (familyScope d m []) (typesOf q p fs) >>= λ ks. (checkStatements (statementsBy outerStatement (drop p fs)) (familyScope d m ks) >> good ks)

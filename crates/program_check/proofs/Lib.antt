@@ -1,4 +1,0 @@
-pub mod Declaring
-pub mod Narrowing
-pub mod Entering
-pub mod Checking
