@@ -3,7 +3,7 @@ use Rattle.language.specs.Result.{Result, turnedDown}
 use Rattle.check_program.specs.declared.Outcome.{Outcome}
 use Rattle.check_program.specs.declared.Outcome.the-variants.{Accepted, Turned}
 
--- document 01's number and place for each answer
+-- the number and place for each answer
 unfoldable pub resultTold : Outcome → Result
 resultTold Accepted = turnedDown 0 0
 resultTold (Turned n p) = turnedDown n p

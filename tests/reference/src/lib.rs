@@ -1,6 +1,6 @@
 //! A second checker and unroller for metaQASM programs, in plain Rust.
 //!
-//! It is written from document 01 alone and shares nothing with the proved
+//! It is written from the scope alone and shares nothing with the proved
 //! library. Tests compare the two; benchmarks use it as the baseline.
 
 mod bytes;
