@@ -11,7 +11,7 @@ use Rattle.language.specs.Read.{read}
 use Rattle.language.specs.Check.{Checked, Declared, good, refused, require, check}
 use Rattle.language.specs.Machine.{allDeclared, runProgram}
 use Rattle.language.specs.Result.{Result, Answer as Reply, Conclusion, finished, gotStuck, conclusionOf, checkProgram, verdict, checkResult, ifAccepted, runOutcome, instanceOf, instanceOutcome}
-use Rattle.language.specs.Sound.{qubitsDeclared, bitsDeclared, wiresLaidOut, Finishes}
+use Rattle.language.specs.Sound.{qubitsDeclared, bitsDeclared, wiresLaidOut, Sound, Finishes}
 use Rattle.language.proofs.Safe.{then-both, required}
 use Rattle.language.proofs.Refusals.{accepted}
 use Rattle.language.proofs.Soundness.{run-sound, instance-sound, run-refused, instance-refused}
@@ -19,7 +19,7 @@ use Rattle.emit.specs.declared.Answer.{Answer}
 use Rattle.emit.specs.declared.Answer.the-variants.{Going, Ended, Stuck}
 use Rattle.runs.specs.Whole.{Acceptable}
 use Rattle.runs.specs.Concluded.{concluded}
-use Rattle.metaqasm.specs.Answers.{Told}
+use Rattle.metaqasm.specs.Answers.{Told, SoundRun, SoundInstance}
 
 -- a program whose check answers 0
 module _ (l : List ℕ) (e : checkResult l .number ≡ 0) where
@@ -54,11 +54,15 @@ told-by least limit q b lent out (Going s) c f e = tt
 told-by least limit q b lent out (Ended n p s) c f e = tt
 told-by least limit q b lent out Stuck c f e = absurd (let z = ap isStuck (e ∙ f .is) in omega arith)
 
--- what a sound conclusion says of the records and the steps
-sound-of : (least limit q b : ℕ) (lent : List ℕ) (a : Reply) → Finishes least limit q b lent (finished a) → (8 * a .result .records ≤ length (a .output)) × (a .result .steps ≤ limit)
-sound-of least limit q b lent a f =
-    let i : a ≡ f .answer = cc in
-    rw i (omega (arith, f .sound .fits, f .sound .size), f .sound .steps)
+-- a conclusion that is an answer is that answer, soundly
+sound-of : (least limit q b : ℕ) (lent : List ℕ) (a : Reply) (c : Conclusion) → c ≡ finished a → Finishes least limit q b lent c → Sound least limit q b lent a
+sound-of least limit q b lent a c g f =
+    let i : f .answer ≡ a = cc in
+    subst (λ (x : Reply). Sound least limit q b lent x) i (f .sound)
+
+-- what it says of the records and the steps
+kept-within : (least limit q b : ℕ) (lent : List ℕ) (a : Reply) → Sound least limit q b lent a → (8 * a .result .records ≤ length (a .output)) × (a .result .steps ≤ limit)
+kept-within least limit q b lent a s = (omega (arith, s .fits, s .size), s .steps)
 
 -- ---- whole runs
 
@@ -71,11 +75,14 @@ module _ (l : List ℕ) (limit : ℕ) (lent : List ℕ) (e : checkResult l .numb
   run-told out r h = told-by 24 limit _ _ lent out r _ (run-sound l limit lent e) (h ∙ run-is)
 
   pub run-answers : (out : List ℕ) (r : Answer) (x : Result) → concluded out r ≡ conclusionOf lent (runProgram limit (length lent) (read l)) → concluded out r ≡ finished (record { result = x; output = out })
-      → (runOutcome l limit lent ≡ finished (record { result = x; output = out })) × (8 * x .records ≤ length out) × (x .steps ≤ limit)
+      → (runOutcome l limit lent ≡ finished (record { result = x; output = out })) × SoundRun l limit lent (record { result = x; output = out }) × (8 * x .records ≤ length out)
+      × (x .steps ≤ limit)
   run-answers out r x h k =
       let g = sym run-is ∙ sym h ∙ k in
-      let s = sound-of 24 limit (qubitsDeclared l) (bitsDeclared l) lent (record { result = x; output = out }) (subst (λ (c : Conclusion). Finishes 24 limit (qubitsDeclared l) (bitsDeclared l) lent c) g (run-sound l limit lent e)) in
-      (g, s .0, s .1)
+      let a : Reply = record { result = x; output = out } in
+      let s = sound-of 24 limit (qubitsDeclared l) (bitsDeclared l) lent a _ g (run-sound l limit lent e) in
+      let w = kept-within 24 limit (qubitsDeclared l) (bitsDeclared l) lent a s in
+      (g, (λ z. s), w .0, w .1)
 
 -- ---- instances
 
@@ -92,12 +99,15 @@ module _ (l : List ℕ) (k : ℕ) (sizes : List ℕ) (limit : ℕ) (lent : List 
 
   pub instance-answers : (out : List ℕ) (r : Answer) (x : Result) → concluded out r ≡ instanceOf (getElem? (allDeclared limit (length lent) (read l) []) k) sizes lent
       → concluded out r ≡ finished (record { result = x; output = out })
-      → (instanceOutcome l k sizes limit lent ≡ finished (record { result = x; output = out })) × (8 * x .records ≤ length out) × (x .steps ≤ limit)
+      → (instanceOutcome l k sizes limit lent ≡ finished (record { result = x; output = out })) × SoundInstance l k sizes limit lent (record { result = x; output = out })
+      × (8 * x .records ≤ length out) × (x .steps ≤ limit)
   instance-answers out r x h j =
       let g = sym instance-is ∙ sym h ∙ j in
-      let w = wiresLaidOut l k sizes in
-      let s = sound-of 20 limit w 0 lent (record { result = x; output = out }) (subst (λ (c : Conclusion). Finishes 20 limit w 0 lent c) g (instance-sound l k sizes limit lent e .0)) in
-      (g, s .0, s .1)
+      let laid = wiresLaidOut l k sizes in
+      let a : Reply = record { result = x; output = out } in
+      let s = sound-of 20 limit laid 0 lent a _ g (instance-sound l k sizes limit lent e .0) in
+      let w = kept-within 20 limit laid 0 lent a s in
+      (g, (λ z. (s, λ suits. sound-of 23 limit laid 0 lent a _ g (instance-sound l k sizes limit lent e .1 suits))), w .0, w .1)
 
 -- ---- a program that is turned down
 
@@ -114,3 +124,7 @@ module _ (l : List ℕ) (x : Result) (e : x ≡ checkResult l) (h : x .number �
   -- the check writes nothing and takes no step
   pub refused-counts : (x .records ≡ 0) × (x .steps ≡ 0)
   refused-counts = rw e (check-counts l)
+
+  -- and a promise for accepted programs says nothing of it
+  pub refused-sound : {A : Type 0} → checkResult l .number ≡ 0 → A
+  refused-sound z = absurd (omega (arith, nonzero))

@@ -1,5 +1,9 @@
--- What the answers of the calls from C stand for.
-use Rattle.language.specs.Result.{Result}
+-- What the answers of the calls from C stand for, and what is promised of them for an accepted program.
+use Prim.Native.Nat.{ℕ}
+use mathlib.Core.Path.{_≡_}
+use mathlib.Core.List.{List}
+use Rattle.language.specs.Result.{Result, Answer as Reply, checkResult}
+use Rattle.language.specs.Sound.{qubitsDeclared, bitsDeclared, wiresLaidOut, Sound, Suits}
 use Rattle.emit.specs.declared.Answer.{Answer}
 use Rattle.emit.specs.declared.Answer.the-variants.{Going, Ended, Stuck}
 use Rattle.metaqasm.specs.declared.MetaqasmResult.{MetaqasmResult}
@@ -13,3 +17,14 @@ abbrev pub Told : Answer → Type 0
 Told (Going s) = Unit {0}
 Told (Ended n p s) = Unit {0}
 Told Stuck = ⊥
+
+-- Where the check gives 0, the answer of a run is sound: its number is 0 or 24 to 27, it keeps to the limit and the output, and its records name only what is declared.
+abbrev pub SoundRun : (program : List ℕ) (limit : ℕ) (lent : List ℕ) → Reply → Type 0
+SoundRun program limit lent a = checkResult program .number ≡ 0 → Sound 24 limit (qubitsDeclared program) (bitsDeclared program) lent a
+
+-- The same of an instance, with a number from 20 on; from 23 on where the family is declared and the sizes suit it.
+abbrev pub SoundInstance : (program : List ℕ) (family : ℕ) (sizes : List ℕ) (limit : ℕ) (lent : List ℕ) → Reply → Type 0
+SoundInstance program family sizes limit lent a =
+    checkResult program .number ≡ 0
+    → Sound 20 limit (wiresLaidOut program family sizes) 0 lent a
+    × (Suits program family sizes → Sound 23 limit (wiresLaidOut program family sizes) 0 lent a)

@@ -5,7 +5,7 @@ ghost use Prim.Native.Nat.{ℕ, _*_, _≤_};
 ghost use lib.ListN.{length};
 ghost use Rattle.language.specs.Result.{finished, checkResult, instanceOutcome, runOutcome};
 ghost use Rattle.runs.specs.Concluded.{concluded, resultIn};
-ghost use Rattle.metaqasm.specs.Answers.{answered, Told};
+ghost use Rattle.metaqasm.specs.Answers.{answered, Told, SoundRun, SoundInstance};
 use check_program::Outcome;
 use emit::Answer;
 use emit::State;
@@ -75,12 +75,13 @@ pub extern "C" fn metaqasm_check(program: &[u8]) -> MetaqasmResult
     checked(program)
 }
 
-// Writes the gate list of the whole program. The first promise rules out that the machine is stuck (run-sound); the others
-// are parts of it that callers need: the records fit the output, and no more steps are taken than the limit allows. What the
-// records name is said by run-sound.
+// Writes the gate list of the whole program. The first promise rules out that the machine is stuck. The second says, where
+// the check gives 0, which ends are possible, what the records name and which bytes are kept. The others are parts of it that
+// hold for every program.
 #[no_mangle]
 pub extern "C" fn metaqasm_run(program: &[u8], limit: u64, output: &mut [u8]) -> MetaqasmResult
     ensures { λ r. ⌜ runOutcome (now (program .entry)) limit (now (output .entry)) ≡ finished (record { result = answered r; output = now (output .exit) }) ⌝ }
+    ensures { λ r. ⌜ SoundRun (now (program .entry)) limit (now (output .entry)) (record { result = answered r; output = now (output .exit) }) ⌝ }
     ensures { λ r. ⌜ 8 * r .records ≤ length (now (output .exit)) ⌝ }
     ensures { λ r. ⌜ r .steps ≤ limit ⌝ }
 {
@@ -97,7 +98,7 @@ fn wide(n: u32) -> usize
     n as usize
 }
 
-// Writes the gate list of one family at given sizes. What the records name is said by instance-sound.
+// Writes the gate list of one family at given sizes, with the same promises.
 #[no_mangle]
 pub extern "C" fn metaqasm_instance(
     program: &[u8],
@@ -107,6 +108,7 @@ pub extern "C" fn metaqasm_instance(
     output: &mut [u8],
 ) -> MetaqasmResult
     ensures { λ r. ⌜ instanceOutcome (now (program .entry)) family (now (sizes .entry)) limit (now (output .entry)) ≡ finished (record { result = answered r; output = now (output .exit) }) ⌝ }
+    ensures { λ r. ⌜ SoundInstance (now (program .entry)) family (now (sizes .entry)) limit (now (output .entry)) (record { result = answered r; output = now (output .exit) }) ⌝ }
     ensures { λ r. ⌜ 8 * r .records ≤ length (now (output .exit)) ⌝ }
     ensures { λ r. ⌜ r .steps ≤ limit ⌝ }
 {

@@ -34,7 +34,7 @@ same-length c =
 returns : tie.Need-returns
 unfolding outcomeOf jobMeant
 returns c =
-    (ap (λ j. outcomeOf (jobMeant j (now (c .before .before .before .before .before .before .before .before .before .args .sizes))) (now (c .before .before .before .before .before .before .before .before .before .args .program)) (now (c .before .before .before .before .before .before .before .before .before .args .output))) (c .before .before .before .before .enum-told .given .1) ∙ c .before .before .metaqasm-run .ensures .0, c .before .before .metaqasm-run .ensures .1 .0)
+    (ap (λ j. outcomeOf (jobMeant j (now (c .before .before .before .before .before .before .before .before .before .args .sizes))) (now (c .before .before .before .before .before .before .before .before .before .args .program)) (now (c .before .before .before .before .before .before .before .before .before .args .output))) (c .before .before .before .before .enum-told .given .1) ∙ c .before .before .metaqasm-run .ensures .0, c .before .before .metaqasm-run .ensures .1 .1 .0)
 
 same-length-2 : tie.Need-same-length-2
 same-length-2 c =
@@ -43,7 +43,7 @@ same-length-2 c =
 returns-2 : tie.Need-returns-2
 unfolding outcomeOf jobMeant
 returns-2 c =
-    (ap (λ j. outcomeOf (jobMeant j (now (c .before .before .before .before .before .before .before .before .before .before .before .args .sizes))) (now (c .before .before .before .before .before .before .before .before .before .before .before .args .program)) (now (c .before .before .before .before .before .before .before .before .before .before .before .args .output))) (c .before .before .before .before .before .before .job .given .1) ∙ c .before .before .metaqasm-instance .ensures .0, c .before .before .metaqasm-instance .ensures .1 .0)
+    (ap (λ j. outcomeOf (jobMeant j (now (c .before .before .before .before .before .before .before .before .before .before .before .args .sizes))) (now (c .before .before .before .before .before .before .before .before .before .before .before .args .program)) (now (c .before .before .before .before .before .before .before .before .before .before .before .args .output))) (c .before .before .before .before .before .before .job .given .1) ∙ c .before .before .metaqasm-instance .ensures .0, c .before .before .metaqasm-instance .ensures .1 .1 .0)
 
 pub answer-spec : {M : Type 1} → statement M
 answer-spec =

@@ -14,7 +14,7 @@ use denote.Ref.{now}
 use lib.ListN.{length}
 use Rattle.language.specs.Result.{Result}
 use Rattle.metaqasm.specs.Answers.{answered}
-use Rattle.metaqasm.proofs.Telling.{acceptable, instance-told, instance-answers, refused-instance, refused-counts}
+use Rattle.metaqasm.proofs.Telling.{acceptable, instance-told, instance-answers, refused-instance, refused-counts, refused-sound}
 
 -- src/lib.rt:114:9
 checked-requires : tie.Need-checked-requires
@@ -29,7 +29,7 @@ returns c =
     let lent = now (a .output) in
     let x = answered (c .before .before .checked .result) in
     let n = refused-counts l x (c .before .before .checked .ensures) (c .if1 .taken) in
-    (refused-instance l x (c .before .before .checked .ensures) (c .if1 .taken) (a .family) (now (a .sizes)) (a .limit) lent, (omega (arith, n .0), omega (arith, n .1)))
+    (refused-instance l x (c .before .before .checked .ensures) (c .if1 .taken) (a .family) (now (a .sizes)) (a .limit) lent, ((λ z. refused-sound l x (c .before .before .checked .ensures) (c .if1 .taken) z), (omega (arith, n .0), omega (arith, n .1))))
 
 -- src/lib.rt:118:34
 wide-requires : tie.Need-wide-requires
@@ -68,7 +68,7 @@ returns-2 c =
     let e = sym (ap (λ (r : Result). r .number) (c .before .before .before .before .before .before .before .before .checked .ensures)) ∙ c .before .before .before .before .before .before .if1 .left in
     let out = c .before .before .before .instance .last .1 .1 .1 .1 .0 in
     let t = instance-answers l (a .family) (now (a .sizes)) (a .limit) lent e out (c .before .before .before .instance .result) (answered (c .told .result)) (rw (c .before .before .before .before .before .wide .ensures) at (c .before .before .before .instance .ensures)) (c .told .ensures out) in
-    (t .0, (t .1, t .2))
+    (t .0, (t .1, (t .2, t .3)))
 
 pub metaqasm-instance-spec : {M : Type 1} → statement M
 metaqasm-instance-spec =

@@ -13,7 +13,7 @@ use denote.Ref.{now}
 use lib.ListN.{length}
 use Rattle.language.specs.Result.{Result}
 use Rattle.metaqasm.specs.Answers.{answered}
-use Rattle.metaqasm.proofs.Telling.{acceptable, run-told, run-answers, refused-run, refused-counts}
+use Rattle.metaqasm.proofs.Telling.{acceptable, run-told, run-answers, refused-run, refused-counts, refused-sound}
 
 -- src/lib.rt:88:9
 checked-requires : tie.Need-checked-requires
@@ -28,7 +28,7 @@ returns c =
     let lent = now (a .output) in
     let x = answered (c .before .before .checked .result) in
     let n = refused-counts l x (c .before .before .checked .ensures) (c .if1 .taken) in
-    (refused-run l x (c .before .before .checked .ensures) (c .if1 .taken) (a .limit) lent, (omega (arith, n .0), omega (arith, n .1)))
+    (refused-run l x (c .before .before .checked .ensures) (c .if1 .taken) (a .limit) lent, ((λ z. refused-sound l x (c .before .before .checked .ensures) (c .if1 .taken) z), (omega (arith, n .0), omega (arith, n .1))))
 
 -- src/lib.rt:92:10
 run-requires : tie.Need-run-requires
@@ -62,7 +62,7 @@ returns-2 c =
     let e = sym (ap (λ (r : Result). r .number) (c .before .before .before .before .before .before .before .checked .ensures)) ∙ c .before .before .before .before .before .if1 .left in
     let out = c .before .before .before .run .last .1 .1 .0 in
     let t = run-answers l (a .limit) lent e out (c .before .before .before .run .result) (answered (c .told .result)) (c .before .before .before .run .ensures) (c .told .ensures out) in
-    (t .0, (t .1, t .2))
+    (t .0, (t .1, (t .2, t .3)))
 
 pub metaqasm-run-spec : {M : Type 1} → statement M
 metaqasm-run-spec =
