@@ -22,7 +22,7 @@
  * Time. The figures are of a common machine of two cores. A check takes at most some 30 ns for each byte of the program, 2 ms
  * for the longest. The step limit bounds steps, not seconds: a step takes time in proportion to the indexes and operands of
  * its own statement (and, where a list begins to run backward, to the fields of the list). Most take 0.1 microseconds or
- * less. The slowest found are gates in a loop with an index of 60,000 bytes, which each round evaluates: 0.06 ms a step, or
+ * less. The slowest found are gates in a loop with an index of 60,000 bytes, which each round evaluates: 0.07 ms a step, or
  * 1 ns for each byte of the program, and twice that while the machine was busy. Reckon with at most 0.2 ms, or 3 ns a byte.
  * A call cannot be cancelled: give it a limit that may be waited for, or make it in a process that may be ended. (A later
  * version may bring runs that can be left.)

@@ -1,7 +1,8 @@
 #!/usr/bin/env bash
 # Tests of the listing program, target/bin/list: what it prints, and what it says where its words, its input or its output are bad.
-# It runs from the repository root and needs a C compiler. Its last line is `N passed, M failed`, and it succeeds only with M = 0.
+# It needs a C compiler. Its last line is `N passed, M failed`, and it succeeds only with M = 0.
 set -u
+cd "$(dirname "$0")/../.." || exit 2
 
 list=target/bin/list
 usage='usage: list [FAMILY [SIZE ..]] < PROGRAM; list --help says more'
