@@ -208,11 +208,11 @@ module _ (limit room : ℕ) where
 -- ---- the order within a statement
 
 pub gate-law : GateLaw
-unfolding meet M.runStatement
+unfolding meet M.runStatement M.runGate
 gate-law limit room p g o e fs f = refl
 
 pub cx-law : CxLaw
-unfolding meet M.runStatement M._>>=_ M._>>_ after
+unfolding meet M.runStatement M.runCx M._>>=_ M._>>_ after
 cx-law limit room p c o e fs f = ap (λ (k : Wire → Wire → Run (Unit {0})). M._>>_ (M.step limit room p) (M._>>=_ (M.wireOf p f c) (λ x. M._>>=_ (M.wireOf p f o) (k x)))) (fun-ext (λ x. fun-ext (λ y. fun-ext (λ s. go (eqb (x .number) (y .number)) x y s))))
   where
     go : (b : Bool) (x y : Wire) (s : State) → cond b (M.endAt 25 p) (M.write limit room p f (doCx x y)) s ≡ after (cond b (M.endAt 25 p) done s) (λ u. M.write limit room p f (doCx x y))

@@ -229,7 +229,7 @@ through-order forward h k = through-then h k
 through-order backward h k = through-then k h
 
 mutual
-  unfolding M.runStatement M.enter M.inCall
+  unfolding M.runStatement M.runGate M.runCx M.runCall M.runReverse M.runFor M.enter M.inCall
 
   through-statement : (x : Statement) (xs : List Everywhere) (f : Frame) → Passes (λ l r. M.runStatement l r x (map (familyAt l r) xs) f)
   through-statement (gate p g o e) xs f = through-then (through-step p) (through-bind (through-wire p f o) λ w. through-write p f _)
@@ -304,19 +304,34 @@ give-at : {x : Runs Globals} (g : Global) → ((l r : ℕ) → x l r ≡ give (g
 unfolding meetAll M._>>_ after
 give-at g e = gives [] g e
 
-through-top : (x : Top) (g : Global) → Through globalsAt (λ l r. M.runTop l r x (globalsAt l r g))
-unfolding M.runTop M.withFamilies M.withWires M.withBits M.topFrame
-through-top (family p m n types body) g = give-at (record { families = declares (family p m n types body) (g .families); registers = g .registers; qubits = g .qubits; bits = g .bits })
+through-act : (x : Top) (g : Global) → Passes (λ l r. M.actTop l r x (globalsAt l r g))
+unfolding M.actTop M.runMeasure M.runReset M.runIf M.topFrame
+through-act (family p m n types body) g = through-give tt
+through-act (qreg p n e) g = through-give tt
+through-act (creg p n e) g = through-give tt
+through-act (measure p o c e) g = through-then (through-step p) (through-bind (through-wire p _ o) λ w. through-bind (through-bit p _ c) λ b. through-write p _ _)
+through-act (reset p o e) g = through-then (through-step p) (through-bind (through-wire p _ o) λ w. through-write p _ _)
+through-act (if p v o ss) g = through-then (through-step p) (through-bind (through-bit p _ o) λ b. through-statements ss (g .families) _)
+through-act (statement x) g = through-statement x (g .families) _
+through-act (badTop n p) g = through-nothing
+
+through-declare : (x : Top) (g : Global) → Through globalsAt (λ l r. M.declareTop l r x (globalsAt l r g))
+unfolding M.declareTop M.withFamilies M.withWires M.withBits
+through-declare (family p m n types body) g = give-at (record { families = declares (family p m n types body) (g .families); registers = g .registers; qubits = g .qubits; bits = g .bits })
     (λ l r. ap (λ (fs : List Family). give (record { families = fs; registers = g .registers; qubits = g .qubits; bits = g .bits })) (declared-at (family p m n types body) (g .families) l r))
-through-top (qreg p (number n) e) g = through-give (besides g (M.withWires (globalsAt 0 0 g) n))
-through-top (qreg p missing e) g = through-nothing
-through-top (creg p (number n) e) g = through-give (besides g (M.withBits (globalsAt 0 0 g) n))
-through-top (creg p missing e) g = through-nothing
-through-top (measure p o c e) g = through-then (through-step p) (through-bind (through-wire p _ o) λ w. through-bind (through-bit p _ c) λ b. through-then (through-write p _ _) (through-give g))
-through-top (reset p o e) g = through-then (through-step p) (through-bind (through-wire p _ o) λ w. through-then (through-write p _ _) (through-give g))
-through-top (if p v o ss) g = through-then (through-step p) (through-bind (through-bit p _ o) λ b. through-then (through-statements ss (g .families) _) (through-give g))
-through-top (statement x) g = through-then (through-statement x (g .families) _) (through-give g)
-through-top (badTop n p) g = through-nothing
+through-declare (qreg p (number n) e) g = through-give (besides g (M.withWires (globalsAt 0 0 g) n))
+through-declare (qreg p missing e) g = through-nothing
+through-declare (creg p (number n) e) g = through-give (besides g (M.withBits (globalsAt 0 0 g) n))
+through-declare (creg p missing e) g = through-nothing
+through-declare (measure p o c e) g = through-give g
+through-declare (reset p o e) g = through-give g
+through-declare (if p v o ss) g = through-give g
+through-declare (statement x) g = through-give g
+through-declare (badTop n p) g = through-nothing
+
+through-top : (x : Top) (g : Global) → Through globalsAt (λ l r. M.runTop l r x (globalsAt l r g))
+unfolding M.runTop
+through-top x g = through-then (through-act x g) (through-declare x g)
 
 through-tops : (xs : List Top) (g : Global) → Through globalsAt (λ l r. M.runTops l r xs (globalsAt l r g))
 unfolding M.runTops

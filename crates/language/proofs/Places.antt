@@ -184,7 +184,7 @@ module _ (size : ℕ) where
     ends-enter (some x) f k = record { ends = λ s. k x refl .ends s }
 
     mutual
-      unfolding M.runStatement FairStatement M.enter M.inCall
+      unfolding M.runStatement M.runGate M.runCx M.runCall M.runReverse M.runFor FairStatement M.enter M.inCall
 
       pub ends-statement : (x : Statement) (fs : List Family) (f : Frame) → FairStatement size x → AllOf Kept fs → Ends (M.runStatement limit room x fs f)
       ends-statement (gate p g o e) fs f h k = ends-then (ends-step p (h .0)) (ends-bind (ends-wire p f o (h .0)) λ w. ends-write p f _ (h .0))
@@ -252,19 +252,34 @@ module _ (size : ℕ) where
     leads-nothing : Leads M.noMeaning
     leads-nothing = record { ends = λ s. tt }
 
+    ends-act : (x : Top) (g : Globals) → FairTop size x → AllOf Kept (g .families) → Ends (M.actTop limit room x g)
+    unfolding M.actTop M.runMeasure M.runReset M.runIf FairTop
+    ends-act (family p m n types body) g h k = ends-give tt
+    ends-act (qreg p n e) g h k = ends-give tt
+    ends-act (creg p n e) g h k = ends-give tt
+    ends-act (measure p o c e) g h k =
+        ends-then (ends-step p (h .0)) (ends-bind (ends-wire p (M.topFrame g) o (h .0)) λ w. ends-bind (ends-bit p (M.topFrame g) c (h .0)) λ b. ends-write p (M.topFrame g) _ (h .0))
+    ends-act (reset p o e) g h k = ends-then (ends-step p (h .0)) (ends-bind (ends-wire p (M.topFrame g) o (h .0)) λ w. ends-write p (M.topFrame g) _ (h .0))
+    ends-act (if p v o ss) g h k = ends-then (ends-step p (h .0)) (ends-bind (ends-bit p (M.topFrame g) o (h .0)) λ b. ends-statements ss (g .families) _ (h .2) k)
+    ends-act (statement x) g h k = ends-statement x (g .families) (M.topFrame g) h k
+    ends-act (badTop n p) g h k = ends-nothing
+
+    leads-declare : (x : Top) (g : Globals) → FairTop size x → AllOf Kept (g .families) → Leads (M.declareTop limit room x g)
+    unfolding M.declareTop M.withFamilies M.withWires M.withBits
+    leads-declare (family p m n types body) g h k = leads-give _ (declared-kept (family p m n types body) (g .families) h k)
+    leads-declare (qreg p (number n) e) g h k = leads-give _ k
+    leads-declare (qreg p missing e) g h k = leads-nothing
+    leads-declare (creg p (number n) e) g h k = leads-give _ k
+    leads-declare (creg p missing e) g h k = leads-nothing
+    leads-declare (measure p o c e) g h k = leads-give g k
+    leads-declare (reset p o e) g h k = leads-give g k
+    leads-declare (if p v o ss) g h k = leads-give g k
+    leads-declare (statement x) g h k = leads-give g k
+    leads-declare (badTop n p) g h k = leads-nothing
+
     leads-top : (x : Top) (g : Globals) → FairTop size x → AllOf Kept (g .families) → Leads (M.runTop limit room x g)
-    unfolding M.runTop FairTop M.withFamilies M.withWires M.withBits
-    leads-top (family p m n types body) g h k = leads-give _ (declared-kept (family p m n types body) (g .families) h k)
-    leads-top (qreg p (number n) e) g h k = leads-give _ k
-    leads-top (qreg p missing e) g h k = leads-nothing
-    leads-top (creg p (number n) e) g h k = leads-give _ k
-    leads-top (creg p missing e) g h k = leads-nothing
-    leads-top (measure p o c e) g h k = leads-then (ends-step p (h .0)) (leads-bind (ends-wire p (M.topFrame g) o (h .0)) λ w. leads-bind (ends-bit p (M.topFrame g) c (h .0)) λ b.
-        leads-then (ends-write p (M.topFrame g) _ (h .0)) (leads-give g k))
-    leads-top (reset p o e) g h k = leads-then (ends-step p (h .0)) (leads-bind (ends-wire p (M.topFrame g) o (h .0)) λ w. leads-then (ends-write p (M.topFrame g) _ (h .0)) (leads-give g k))
-    leads-top (if p v o ss) g h k = leads-then (ends-step p (h .0)) (leads-bind (ends-bit p (M.topFrame g) o (h .0)) λ b. leads-then (ends-statements ss (g .families) _ (h .2) k) (leads-give g k))
-    leads-top (statement x) g h k = leads-then (ends-statement x (g .families) (M.topFrame g) h k) (leads-give g k)
-    leads-top (badTop n p) g h k = leads-nothing
+    unfolding M.runTop
+    leads-top x g h k = leads-then (ends-act x g h k) (leads-declare x g h k)
 
     leads-on : (o : Outcome Globals) (next : Globals → Run Globals) → LeadsIn o → ((g : Globals) → AllOf Kept (g .families) → Ends (next g)) → EndsIn (M.after o next)
     unfolding M.after

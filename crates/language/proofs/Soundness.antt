@@ -23,7 +23,8 @@ use Rattle.language.specs.Theorem.{Reports, RunTheorem, instanceAt}
 use Rattle.language.proofs.FormLaws.{Naturals}
 use Rattle.language.proofs.FormLaws as L
 use Rattle.language.proofs.Safe.{World, Held, Safe, goes, ends, Any, then-both}
-use Rattle.language.proofs.Tops.{program-safe, instance-safe, program-counts, layout-few}
+use Rattle.language.proofs.Accepted.{program-counts}
+use Rattle.language.proofs.Tops.{program-safe, instance-safe, layout-few}
 use Rattle.language.proofs.Instances.{declared-family, family-found, family-missing}
 use Rattle.language.proofs.Refusals.{accepted}
 use Rattle.language.proofs.Output.{written-size, drop-written, none-written, bytes-written}

@@ -17,7 +17,7 @@ use Rattle.language.specs.Machine as m
 use Rattle.language.specs.Machine.{Outcome, Run, Globals, Family, give, after, declared, allDeclared, runTops, runTop, _>>=_, _>>_}
 use Rattle.language.specs.Result.{writtenInto}
 use Rattle.language.proofs.ReadLaws.{AllRows, choose-all}
-use Rattle.language.proofs.Tops.{TopGood, aFamily, aQreg, aCreg, aMeasure, aReset, anIf, aStatement}
+use Rattle.language.proofs.Accepted.{TopGood, aFamily, aQreg, aCreg, aMeasure, aReset, anIf, aStatement}
 use Rattle.emit.specs.declared.State.{State}
 use Rattle.emit.specs.declared.Answer.{Answer}
 use Rattle.emit.specs.declared.Answer.the-variants.{Going, Ended, Stuck}

@@ -14,7 +14,7 @@ use Rattle.language.specs.Form.{constantForm}
 use Rattle.language.specs.Check as C
 use Rattle.language.specs.Check.{Declared, Signature, quantum, classical}
 use Rattle.language.specs.Machine.{Meaning, wires, bits, Globals, Family, Run, give, declared, allDeclared, runTop, runTops, withFamilies, withWires, withBits, _>>=_, after}
-use Rattle.language.proofs.Tops.{TopGood, aFamily, aQreg, aCreg, aMeasure, aReset, anIf, aStatement}
+use Rattle.language.proofs.Accepted.{TopGood, aFamily, aQreg, aCreg, aMeasure, aReset, anIf, aStatement}
 use Rattle.operands.specs.Stand.{theWire, theBit, clipped, registerOf, registersOf}
 use Rattle.fields.specs.declared.Header.the-variants.{Whole}
 use Rattle.fields.proofs.Parts.{look}

@@ -18,7 +18,7 @@ use Rattle.language.specs.Check.{Declared, check, good}
 use Rattle.language.specs.Lookup.{mapped}
 use Rattle.language.specs.Machine as m
 use Rattle.language.specs.Machine.{Run, Globals, give, noMeaning, after, allDeclared, runTop, runTops, nothingYet, _>>=_, _>>_}
-use Rattle.language.proofs.Tops.{TopGood, aFamily, aQreg, aCreg, aMeasure, aReset, anIf, aStatement}
+use Rattle.language.proofs.Accepted.{TopGood, aFamily, aQreg, aCreg, aMeasure, aReset, anIf, aStatement}
 use Rattle.language.proofs.Families.{family-at}
 use Rattle.fields.specs.Table.{Listed}
 use Rattle.fields.specs.declared.Header.the-variants.{Whole, End, Cut}

@@ -13,7 +13,7 @@ use Rattle.language.specs.Read.{Field, field, badHeader, fields, read, readTop,
 use Rattle.language.specs.Check as C
 use Rattle.language.specs.Check.{Declared, nothingDeclared, check, good}
 use Rattle.language.specs.Machine.{Family, declared, allDeclared}
-use Rattle.language.proofs.Tops.{TopGood, aFamily, aQreg, aCreg, aMeasure, aReset, anIf, aStatement, TopsGood, noMore, andThen, tops-good}
+use Rattle.language.proofs.Accepted.{TopGood, aFamily, aQreg, aCreg, aMeasure, aReset, anIf, aStatement, TopsGood, noMore, andThen, tops-good}
 use Rattle.language.proofs.Families.{families-before}
 use Rattle.fields.specs.Header.{fieldsAt, headerOf}
 use Rattle.fields.specs.declared.Header.the-variants.{Whole}
