@@ -11,7 +11,7 @@ use Rattle.language.specs.Limits.{deepest, furthest}
 use Rattle.language.specs.Tree.{Place, Gate, gateH, gateT, gateTdg, badIndex}
 use Rattle.language.specs.Form.{inRange}
 use Rattle.language.specs.Read.{fields, due, operandDue, outerIndex}
-use Rattle.language.specs.Machine.{Run, Frame, Direction, forward, backward, write, written, wireOf, doCx, endAt, noMeaning, evaluate, startOf, roundsOf, _>>=_}
+use Rattle.language.specs.Machine.{Run, Frame, Direction, forward, backward, endAt, noMeaning, evaluate, startOf, roundsOf, runGate, runCx, _>>=_}
 use Rattle.indexes.specs.declared.Value.{Value}
 use Rattle.indexes.specs.declared.Value.the-variants.{Is, Over as vOver, Stuck as vStuck}
 use Rattle.operands.specs.Stand.{operandsOf, frameOf}
@@ -40,14 +40,12 @@ codeOf tag back = cond (eqb tag 32) 1 (cond (eqb tag 33) (cond back 3 2) (cond b
 abbrev pub frameIn : Mode → List ℤ → Scope → List ℕ → Frame
 frameIn m values scope regs = frameOf (directionOf (m .back)) (conditionOf (m .cond)) values (operandsOf scope regs)
 
-unfoldable pub gateRun : Mode → (room : ℕ) → ℕ → Place → List ℕ → Frame → Run (Unit {0})
-gateRun m room tag p l f = wireOf p f (operandDue p 0 (fields (p + 3) l)) >>= (λ w. write (m .limit) room p f (written (f .direction) (gateFor tag) w))
+-- the gate of this tag, and the cx, with this content
+abbrev pub gateAt : Mode → (room : ℕ) → ℕ → Place → List ℕ → Frame → Run (Unit {0})
+gateAt m room tag p l f = runGate (m .limit) room p (gateFor tag) (operandDue p 0 (fields (p + 3) l)) f
 
-unfoldable pub cxRun : Mode → (room : ℕ) → Place → List ℕ → Frame → Run (Unit {0})
-cxRun m room p l f =
-    wireOf p f (operandDue p 0 (fields (p + 3) l)) >>= (λ x.
-    wireOf p f (operandDue p 1 (fields (p + 3) l)) >>= (λ y.
-    cond (eqb (x .number) (y .number)) (endAt 25 p) (write (m .limit) room p f (doCx x y))))
+abbrev pub cxAt : Mode → (room : ℕ) → Place → List ℕ → Frame → Run (Unit {0})
+cxAt m room p l f = runCx (m .limit) room p (operandDue p 0 (fields (p + 3) l)) (operandDue p 1 (fields (p + 3) l)) f
 
 -- why a loop has no bounds
 unfoldable pub boundOf : Value → Bounds
@@ -150,5 +148,6 @@ Entered m tag size base st (Going s) = Steps m tag size st s
 Entered m tag size base st (Ended n p s) = Full m tag size base st n p s
 Entered m tag size base st aStuck = Enterable m tag size → ⊥
 
-unfoldable pub actRun : Mode → (room : ℕ) → ℕ → Place → List ℕ → Frame → Run (Unit {0})
-actRun m room tag p l f = cond (eqb tag 35) (cxRun m room p l f) (gateRun m room tag p l f)
+-- the gate or the cx of this tag
+unfoldable pub actAt : Mode → (room : ℕ) → ℕ → Place → List ℕ → Frame → Run (Unit {0})
+actAt m room tag p l f = cond (eqb tag 35) (cxAt m room p l f) (gateAt m room tag p l f)

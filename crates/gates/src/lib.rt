@@ -8,7 +8,7 @@ ghost use lib.IntN.{ℤ, _-ℤ_};
 ghost use Rattle.language.specs.Machine.{roundsOf, startOf};
 ghost use Rattle.language.specs.Form.{inRange};
 ghost use Rattle.emit.specs.Squares.{Does};
-ghost use Rattle.gates.specs.Gates.{codeOf, frameIn, directionOf, boundOf, Bounded, mostRounds, Repeated, turnOf, namelessOf, Entered, actRun, deeperOf, innerOf, enteredOf};
+ghost use Rattle.gates.specs.Gates.{codeOf, frameIn, directionOf, boundOf, Bounded, mostRounds, Repeated, turnOf, namelessOf, Entered, actAt, deeperOf, innerOf, enteredOf};
 use emit::Answer;
 use emit::Condition;
 use emit::State;
@@ -63,7 +63,7 @@ pub fn act(
 ) -> Answer
     requires { ⌜ to ≤ length (now p) ⌝ }
     requires { ⌜ (m .many ≤ 20) × (place ≤ 65535) ⌝ }
-    ensures { λ r. ⌜ Does (now (out .entry)) st (now (out .exit)) r (actRun m (length (now (out .entry))) tag place (slice from to (now (p .entry))) (frameIn m (take (m .many) (now (vars .entry))) scope (now (regs .entry)))) ⌝ }
+    ensures { λ r. ⌜ Does (now (out .entry)) st (now (out .exit)) r (actAt m (length (now (out .entry))) tag place (slice from to (now (p .entry))) (frameIn m (take (m .many) (now (vars .entry))) scope (now (regs .entry)))) ⌝ }
 {
     let many = fields::wide(m.many);
     let c = m.cond;

@@ -229,7 +229,7 @@ through-order forward h k = through-then h k
 through-order backward h k = through-then k h
 
 mutual
-  unfolding M.runStatement M.runGate M.runCx M.runCall M.runReverse M.runFor M.enter M.inCall
+  unfolding M.runStatement M.runGate M.runCx M.runCall M.callFamily M.runReverse M.runFor M.enter M.inCall
 
   through-statement : (x : Statement) (xs : List Everywhere) (f : Frame) → Passes (λ l r. M.runStatement l r x (map (familyAt l r) xs) f)
   through-statement (gate p g o e) xs f = through-then (through-step p) (through-bind (through-wire p f o) λ w. through-write p f _)

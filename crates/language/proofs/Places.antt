@@ -184,7 +184,7 @@ module _ (size : ℕ) where
     ends-enter (some x) f k = record { ends = λ s. k x refl .ends s }
 
     mutual
-      unfolding M.runStatement M.runGate M.runCx M.runCall M.runReverse M.runFor FairStatement M.enter M.inCall
+      unfolding M.runStatement M.runGate M.runCx M.runCall M.callFamily M.runReverse M.runFor FairStatement M.enter M.inCall
 
       pub ends-statement : (x : Statement) (fs : List Family) (f : Frame) → FairStatement size x → AllOf Kept fs → Ends (M.runStatement limit room x fs f)
       ends-statement (gate p g o e) fs f h k = ends-then (ends-step p (h .0)) (ends-bind (ends-wire p f o (h .0)) λ w. ends-write p f _ (h .0))

@@ -17,7 +17,7 @@ use Rattle.language.specs.Read.{Field, field, read, readTop, readIf, ifOf, choo
 use Rattle.language.specs.Check.{Declared, check, good}
 use Rattle.language.specs.Lookup.{mapped}
 use Rattle.language.specs.Machine as m
-use Rattle.language.specs.Machine.{Run, Globals, give, noMeaning, after, allDeclared, runTop, runTops, nothingYet, _>>=_, _>>_}
+use Rattle.language.specs.Machine.{actTop, Run, Globals, give, noMeaning, after, allDeclared, runTop, runTops, nothingYet, _>>=_, _>>_}
 use Rattle.language.proofs.Accepted.{TopGood, aFamily, aQreg, aCreg, aMeasure, aReset, anIf, aStatement}
 use Rattle.language.proofs.Families.{family-at}
 use Rattle.fields.specs.Table.{Listed}
@@ -32,7 +32,7 @@ use Rattle.emit.specs.Squares.{told, flat, Does}
 use Rattle.emit.proofs.Answer.{the-type}
 use Rattle.runs.specs.declared.Totals.{Totals}
 use Rattle.runs.specs.Whole.{topsAt, globalsOf}
-use Rattle.runs.specs.Acting.{acting, ActReady}
+use Rattle.runs.specs.Acting.{ActReady}
 use Rattle.runs.proofs.Reaching.{zero-totals, Reached, topOf, tops-next, reached-next, families-seen}
 use Rattle.runs.proofs.Acting.{tag-acts, act-then, act-other}
 use Rattle.runs.proofs.Topping.{acting-is}
@@ -106,17 +106,17 @@ module _ (limit room : ℕ) (l : List ℕ) where
 
   -- a field that declares nothing
   module _ (at tag next : ℕ) (e : look l at ≡ Whole tag next) (h : (tag ≡ 1 → ⊥) × (tag ≡ 2 → ⊥) × (tag ≡ 3 → ⊥)) (g : Globals)
-      (out : List ℕ) (st : State) (out' : List ℕ) (r : Answer) (d : Does out st out' r (acting limit room (readTop (field at tag (slice (at + 3) next l))) g)) where
-    acts-there : runTops limit room (topsAt l at) g ≡ ((acting limit room (topOf limit room l at tag next) g >> give g) >>= runTops limit room (topsAt l next))
+      (out : List ℕ) (st : State) (out' : List ℕ) (r : Answer) (d : Does out st out' r (actTop limit room (readTop (field at tag (slice (at + 3) next l))) g)) where
+    acts-there : runTops limit room (topsAt l at) g ≡ ((actTop limit room (topOf limit room l at tag next) g >> give g) >>= runTops limit room (topsAt l next))
     unfolding runTops
     acts-there = ap (λ (xs : List Top). runTops limit room xs g) (tops-next limit room l at tag next e)
         ∙ ap (λ (x : Run Globals). x >>= runTops limit room (topsAt l next)) (acting-is limit room (topOf limit room l at tag next) g (tag-acts at tag (slice (at + 3) next l) h))
 
     pub acts-then : (t : State) (x : List ℕ) (q : Answer) → r ≡ Going t → Does out' t x q (runTops limit room (topsAt l next) g) → Does out st x q (runTops limit room (topsAt l at) g)
-    acts-then t x q k b = does-same out st x q _ _ acts-there (act-then out st out' r (acting limit room (topOf limit room l at tag next) g) g (runTops limit room (topsAt l next)) d t x q k b)
+    acts-then t x q k b = does-same out st x q _ _ acts-there (act-then out st out' r (actTop limit room (topOf limit room l at tag next) g) g (runTops limit room (topsAt l next)) d t x q k b)
 
     pub acts-other : OneOf (1 ∷ 2 ∷ []) (tagOf the-type r) → Does out st out' r (runTops limit room (topsAt l at) g)
-    acts-other k = does-same out st out' r _ _ acts-there (act-other out st out' r (acting limit room (topOf limit room l at tag next) g) g (runTops limit room (topsAt l next)) d k)
+    acts-other k = does-same out st out' r _ _ acts-there (act-other out st out' r (actTop limit room (topOf limit room l at tag next) g) g (runTops limit room (topsAt l next)) d k)
 
   -- what the code asks of a field that declares nothing
   pub act-ready : (at tag next : ℕ) (t : Totals) (r : Reached limit room l at t) → look l at ≡ Whole tag next

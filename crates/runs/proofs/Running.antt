@@ -12,7 +12,7 @@ use lib.ListN.{length, take}
 use lib.Seq.{slice}
 use Rattle.language.specs.Limits.{mostRegisters, longestProgram}
 use Rattle.language.specs.Read.{field, fields, readTop}
-use Rattle.language.specs.Machine.{Run, Globals, runTops}
+use Rattle.language.specs.Machine.{actTop, Run, Globals, runTops}
 use Rattle.fields.specs.declared.Header.the-variants.{Whole, End, Cut}
 use Rattle.fields.proofs.Parts.{look}
 use Rattle.fields.proofs.Between.{in-whole}
@@ -25,7 +25,7 @@ use Rattle.calls.specs.Families.{Tabled}
 use Rattle.calls.proofs.Tabling.{tabled, tabled-fewer}
 use Rattle.runs.specs.declared.Totals.{Totals}
 use Rattle.runs.specs.Whole.{topsAt, globalsOf, moreFamilies, moreLocations, sizeIn, totalOf, Acceptable, DeclareReady, OneMore, Declares, FullTable, started}
-use Rattle.runs.specs.Acting.{acting, globalsIn, Within, ActReady}
+use Rattle.runs.specs.Acting.{globalsIn, Within, ActReady}
 use Rattle.runs.proofs.Reaching.{zero-totals, Reached, reached-start}
 use Rattle.runs.proofs.Declaring.{registerTag, register-room, register-reached, register-runs, family-room, family-reached, family-runs}
 use Rattle.runs.proofs.Acting.{acting-reached}
@@ -125,9 +125,9 @@ module _ (limit : ℕ) (l out₀ : List ℕ) where
         acts-ready = act-ready limit room l at tag next t (i .reached) e h
 
         module _ (out' : List ℕ) (r : Answer)
-            (d : (q b : ℕ) → Does out s out' r (acting limit (length out) (readTop (field at tag (slice (at + 3) next l))) (globalsIn limit (length out) l (t .families) (take (3 * t .registers) regs) q b))) where
-          there : Does out s out' r (acting limit room (readTop (field at tag (slice (at + 3) next l))) (globalsOf limit room l t regs))
-          there = subst (λ (n : ℕ). Does out s out' r (acting limit n (readTop (field at tag (slice (at + 3) next l))) (globalsIn limit n l (t .families) (take (3 * t .registers) regs) (t .qubits) (t .bits)))) (i .same) (d (t .qubits) (t .bits))
+            (d : (q b : ℕ) → Does out s out' r (actTop limit (length out) (readTop (field at tag (slice (at + 3) next l))) (globalsIn limit (length out) l (t .families) (take (3 * t .registers) regs) q b))) where
+          there : Does out s out' r (actTop limit room (readTop (field at tag (slice (at + 3) next l))) (globalsOf limit room l t regs))
+          there = subst (λ (n : ℕ). Does out s out' r (actTop limit n (readTop (field at tag (slice (at + 3) next l))) (globalsIn limit n l (t .families) (take (3 * t .registers) regs) (t .qubits) (t .bits)))) (i .same) (d (t .qubits) (t .bits))
 
           pub acted-on : (u : State) → r ≡ Going u → length out' ≡ length out → At regs out' next t u
           acted-on u k n = record {

@@ -12,8 +12,8 @@ use lib.Seq.{slice, drop-drop}
 use Rattle.language.specs.Tree.{Place, Top, family, qreg, creg, measure, reset, if, statement, badTop}
 use Rattle.language.specs.Read.{Field, field, fields, choose, readTop, readIf, ifOf, measureOf, resetOf, readStatement, statementsBy}
 use Rattle.language.specs.Machine as m
-use Rattle.language.specs.Machine.{Run, Frame, forward, always, endAt, Globals, Family, give, after, step, wireOf, bitOf, topFrame, inCondition, whenBit, noMeaning, runTop, inOrder, runStatement, runStatements, _>>=_, _>>_}
-use Rattle.language.proofs.Runs.{after-after, then-done}
+use Rattle.language.specs.Machine.{actTop, declareTop, runMeasure, runReset, runIf, Run, Frame, forward, always, endAt, Globals, Family, give, after, step, topFrame, inCondition, whenBit, noMeaning, runTop, inOrder, runStatement, runStatements, _>>=_, _>>_}
+use Rattle.language.proofs.Runs.{then-done}
 use types.Run.{OneOf}
 use denote.Enum.Declared.{tagOf}
 use Rattle.fields.specs.declared.Header.the-variants.{Whole}
@@ -29,38 +29,26 @@ use Rattle.gates.specs.declared.Mode.{Mode}
 use Rattle.operands.specs.Stand.{theBit, bitten, BitAt, operandsOf}
 use Rattle.emit.specs.Squares.{conditionOf}
 use Rattle.gates.specs.Gates.{directionOf, frameIn}
-use Rattle.tops.specs.Tops.{resetRun, measureRun}
+use Rattle.tops.specs.Tops.{resetAt, measureAt}
 use Rattle.unroller.specs.Runs.{listRun}
-use Rattle.runs.specs.Acting.{acting, globalsIn, topMode, underMode, ifRun}
+use Rattle.runs.specs.Acting.{globalsIn, topMode, underMode, ifAt}
 use Rattle.runs.proofs.Acting.{Acts}
-
-then-assoc : {B : Type 0} (x y : Run (Unit {0})) (z : Run B) → ((x >> y) >> z) ≡ (x >> (y >> z))
-unfolding _>>_
-then-assoc x y z = fun-ext (λ s. after-after (x s) (λ u. y) (λ u. z))
-
-bind-assoc : {A B : Type 0} (x : Run A) (f : A → Run (Unit {0})) (z : Run B) → ((x >>= f) >> z) ≡ (x >>= (λ a. f a >> z))
-unfolding _>>_ _>>=_
-bind-assoc x f z = fun-ext (λ s. after-after (x s) f (λ u. z))
 
 nothing-then : {B : Type 0} (z : Run B) → (noMeaning >> z) ≡ noMeaning
 unfolding _>>_ after
 nothing-then z = refl
 
 -- the globals are given on
-pub acting-is : (limit room : ℕ) (x : Top) (g : Globals) → Acts x → runTop limit room x g ≡ (acting limit room x g >> give g)
-unfolding runTop acting
-acting-is limit room (measure p o c e) g h = sym (then-assoc (step limit room p) _ (give g)
-    ∙ ap (λ (r : Run Globals). step limit room p >> r) (bind-assoc (wireOf p (topFrame g) o) _ (give g)
-    ∙ ap (λ f. wireOf p (topFrame g) o >>= f) (fun-ext (λ w. bind-assoc (bitOf p (topFrame g) c) _ (give g)))))
-acting-is limit room (reset p o e) g h = sym (then-assoc (step limit room p) _ (give g)
-    ∙ ap (λ (r : Run Globals). step limit room p >> r) (bind-assoc (wireOf p (topFrame g) o) _ (give g)))
-acting-is limit room (if p v o ss) g h = sym (then-assoc (step limit room p) _ (give g)
-    ∙ ap (λ (r : Run Globals). step limit room p >> r) (bind-assoc (bitOf p (topFrame g) o) _ (give g)))
+pub acting-is : (limit room : ℕ) (x : Top) (g : Globals) → Acts x → runTop limit room x g ≡ (actTop limit room x g >> give g)
+unfolding runTop actTop declareTop
+acting-is limit room (measure p o c e) g h = refl
+acting-is limit room (reset p o e) g h = refl
+acting-is limit room (if p v o ss) g h = refl
 acting-is limit room (statement x) g h = refl
 acting-is limit room (family p k n types body) g h = absurd h
 acting-is limit room (qreg p n e) g h = absurd h
 acting-is limit room (creg p n e) g h = absurd h
-acting-is limit room (badTop n p) g h = sym (nothing-then (give g))
+acting-is limit room (badTop n p) g h = nothing-then _ ∙ sym (nothing-then (give g))
 
 -- a tag that is none of a top field's own
 outside : (tag : ℕ) → (tag < 1) ⊎ (6 < tag) → ((tag ≡ 1 → ⊥) × (tag ≡ 2 → ⊥) × (tag ≡ 3 → ⊥)) × ((tag ≡ 4 → ⊥) × (tag ≡ 5 → ⊥) × (tag ≡ 6 → ⊥))
@@ -81,22 +69,22 @@ module _ (limit room seen registers : ℕ) (program regs : List ℕ) (q b : ℕ)
   unfolding topFrame directionOf conditionOf operandsOf
   top-frame = rw (top .0, top .1) refl
 
-  pub measure-acts : (p : Place) (l : List ℕ) → acting limit room (readTop (field p 4 l)) g ≡ (step limit room p >> measureRun (topMode limit seen 0) room p l (frameIn (topMode limit seen 0) [] scope regs))
-  unfolding acting readTop choose measureOf measureRun
+  pub measure-acts : (p : Place) (l : List ℕ) → actTop limit room (readTop (field p 4 l)) g ≡ (step limit room p >> measureAt (topMode limit seen 0) room p l (frameIn (topMode limit seen 0) [] scope regs))
+  unfolding actTop readTop choose measureOf runMeasure
   measure-acts p l = rw top-frame refl
 
-  pub reset-acts : (p : Place) (l : List ℕ) → acting limit room (readTop (field p 5 l)) g ≡ (step limit room p >> resetRun (topMode limit seen 0) room p l (frameIn (topMode limit seen 0) [] scope regs))
-  unfolding acting readTop choose resetOf resetRun
+  pub reset-acts : (p : Place) (l : List ℕ) → actTop limit room (readTop (field p 5 l)) g ≡ (step limit room p >> resetAt (topMode limit seen 0) room p l (frameIn (topMode limit seen 0) [] scope regs))
+  unfolding actTop readTop choose resetOf runReset
   reset-acts p l = rw top-frame refl
 
-  pub if-acts : (p : Place) (l : List ℕ) → 1 ≤ length l → acting limit room (readTop (field p 6 l)) g ≡ (step limit room p >> ifRun limit room p l (g .families) (frameIn (topMode limit seen 0) [] scope regs))
-  unfolding acting readTop choose readIf ifOf ifRun
+  pub if-acts : (p : Place) (l : List ℕ) → 1 ≤ length l → actTop limit room (readTop (field p 6 l)) g ≡ (step limit room p >> ifAt limit room p l (g .families) (frameIn (topMode limit seen 0) [] scope regs))
+  unfolding actTop readTop choose readIf ifOf runIf
   if-acts p [] h = absurd (omega arith)
   if-acts p (v ∷ rest) h = rw top-frame refl
 
   statement-acts : (p tag : ℕ) (l : List ℕ) → (tag ≡ 1 → ⊥) × (tag ≡ 2 → ⊥) × (tag ≡ 3 → ⊥) → (tag ≡ 4 → ⊥) × (tag ≡ 5 → ⊥) × (tag ≡ 6 → ⊥)
-      → acting limit room (readTop (field p tag l)) g ≡ runStatement limit room (readStatement 16 (field p tag l)) (g .families) (frameIn (topMode limit seen 0) [] scope regs)
-  unfolding acting readTop choose
+      → actTop limit room (readTop (field p tag l)) g ≡ runStatement limit room (readStatement 16 (field p tag l)) (g .families) (frameIn (topMode limit seen 0) [] scope regs)
+  unfolding actTop readTop choose
   statement-acts p tag l h k = rw (ne-eqb tag 1 (h .0), ne-eqb tag 2 (h .1), ne-eqb tag 3 (h .2), ne-eqb tag 4 (k .0), ne-eqb tag 5 (k .1), ne-eqb tag 6 (k .2), top-frame) refl
 
   -- a list of one statement
@@ -108,19 +96,19 @@ module _ (limit room seen registers : ℕ) (program regs : List ℕ) (q b : ℕ)
       ∙ then-done (runStatement limit room (readStatement 16 (field p tag l)) (g .families) (frameIn mode [] scope regs))
 
   pub list-acts : (p tag : ℕ) (bytes l : List ℕ) → fields p bytes ≡ (field p tag l ∷ []) → (tag < 1) ⊎ (6 < tag)
-      → acting limit room (readTop (field p tag l)) g ≡ listRun (topMode limit seen 0) room p bytes program (frameIn (topMode limit seen 0) [] scope regs)
+      → actTop limit room (readTop (field p tag l)) g ≡ listRun (topMode limit seen 0) room p bytes program (frameIn (topMode limit seen 0) [] scope regs)
   list-acts p tag bytes l e h = let o = outside tag h in statement-acts p tag l (o .0) (o .1) ∙ sym (single p tag bytes l e)
 
   -- measure, reset and if take a step first
-  pub timed : (p tag : ℕ) (l : List ℕ) → 3 < tag → tag ≤ 6 → (tag ≡ 6 → 1 ≤ length l) → (next : Run (Unit {0})) × (acting limit room (readTop (field p tag l)) g ≡ (step limit room p >> next))
+  pub timed : (p tag : ℕ) (l : List ℕ) → 3 < tag → tag ≤ 6 → (tag ≡ 6 → 1 ≤ length l) → (next : Run (Unit {0})) × (actTop limit room (readTop (field p tag l)) g ≡ (step limit room p >> next))
   timed p tag l h k i = go (eqb tag 4) (eqb tag 5) (eqb-true tag 4) (eqb-true tag 5) (eqb-false tag 4) (eqb-false tag 5)
     where
-      at : (t : ℕ) → tag ≡ t → (next : Run (Unit {0})) × (acting limit room (readTop (field p t l)) g ≡ (step limit room p >> next))
-          → (next : Run (Unit {0})) × (acting limit room (readTop (field p tag l)) g ≡ (step limit room p >> next))
-      at t e x = (x .0, ap (λ (n : ℕ). acting limit room (readTop (field p n l)) g) e ∙ x .1)
+      at : (t : ℕ) → tag ≡ t → (next : Run (Unit {0})) × (actTop limit room (readTop (field p t l)) g ≡ (step limit room p >> next))
+          → (next : Run (Unit {0})) × (actTop limit room (readTop (field p tag l)) g ≡ (step limit room p >> next))
+      at t e x = (x .0, ap (λ (n : ℕ). actTop limit room (readTop (field p n l)) g) e ∙ x .1)
 
       go : (a c : Bool) → (a ≡ true → tag ≡ 4) → (c ≡ true → tag ≡ 5) → (a ≡ false → tag ≡ 4 → ⊥) → (c ≡ false → tag ≡ 5 → ⊥)
-          → (next : Run (Unit {0})) × (acting limit room (readTop (field p tag l)) g ≡ (step limit room p >> next))
+          → (next : Run (Unit {0})) × (actTop limit room (readTop (field p tag l)) g ≡ (step limit room p >> next))
       go true c f u v w = at 4 (f refl) (_, measure-acts p l)
       go false true f u v w = at 5 (u refl) (_, reset-acts p l)
       go false false f u v w =
@@ -140,20 +128,20 @@ module _ (limit room seen : ℕ) (regs : List ℕ) (scope : Scope) (p : Place) (
   rest = drop-drop 1 from (take to program)
 
   module _ (r : Bitten) (bit : BitAt (slice (from + 1) to program) 0 [] (operandsOf scope regs) r) where
-    if-is : ifRun limit room p content fs frame ≡ (bitten p r >>= (λ b. runStatements limit room (statementsBy (readStatement 15) (drop 1 (fields (p + 4) (slice (from + 1) to program)))) fs (inCondition frame (whenBit b (getD content 0 0)))))
-    unfolding ifRun directionOf conditionOf
+    if-is : ifAt limit room p content fs frame ≡ (bitten p r >>= (λ b. runStatements limit room (statementsBy (readStatement 15) (drop 1 (fields (p + 4) (slice (from + 1) to program)))) fs (inCondition frame (whenBit b (getD content 0 0)))))
+    unfolding runIf directionOf conditionOf
     if-is = rw rest (ap (λ (x : Run _). x >>= (λ b. runStatements limit room (statementsBy (readStatement 15) (drop 1 (fields (p + 4) (slice (from + 1) to program)))) fs (inCondition frame (whenBit b (getD content 0 0))))) (sym (bit p p (p + 4) forward always)))
 
-    pub if-over : r ≡ Over → ifRun limit room p (slice from to program) fs (frameIn (topMode limit seen 0) [] scope regs) ≡ endAt 24 p
+    pub if-over : r ≡ Over → ifAt limit room p (slice from to program) fs (frameIn (topMode limit seen 0) [] scope regs) ≡ endAt 24 p
     unfolding bitten _>>=_ after
     if-over e = if-is ∙ rw e refl
 
-    pub if-stuck : r ≡ Stuck → ifRun limit room p (slice from to program) fs (frameIn (topMode limit seen 0) [] scope regs) ≡ noMeaning
+    pub if-stuck : r ≡ Stuck → ifAt limit room p (slice from to program) fs (frameIn (topMode limit seen 0) [] scope regs) ≡ noMeaning
     unfolding bitten _>>=_ after
     if-stuck e = if-is ∙ rw e refl
 
     pub if-bit : (b : Bit) (c : Condition) (tag mid : ℕ) → from ≡ p + 3 → from < to → to ≤ length program → r ≡ Is b → conditionOf c ≡ whenBit (theBit (b .0)) (getD program from 0) → lookIn program (from + 1) to ≡ Whole tag mid
-        → ifRun limit room p (slice from to program) fs (frameIn (topMode limit seen 0) [] scope regs) ≡ runStatements limit room (statementsBy (readStatement 15) (fields mid (slice mid to program))) fs (frameIn (underMode limit seen c) [] scope regs)
+        → ifAt limit room p (slice from to program) fs (frameIn (topMode limit seen 0) [] scope regs) ≡ runStatements limit room (statementsBy (readStatement 15) (fields mid (slice mid to program))) fs (frameIn (underMode limit seen c) [] scope regs)
     unfolding bitten _>>=_ after inCondition
     if-bit b c tag mid near low high e k h =
         let w = in-whole program (from + 1) to tag mid h in
@@ -162,5 +150,5 @@ module _ (limit room seen : ℕ) (regs : List ℕ) (scope : Scope) (p : Place) (
         if-is ∙ rw (e, q, k, first-byte program from to low high) refl
 
   -- an if whose bit is due where no field is has none
-  pub if-none : OneOf (1 ∷ 2 ∷ []) (tagOf the-type (lookIn program (from + 1) to)) → ifRun limit room p (slice from to program) fs (frameIn (topMode limit seen 0) [] scope regs) ≡ noMeaning
+  pub if-none : OneOf (1 ∷ 2 ∷ []) (tagOf the-type (lookIn program (from + 1) to)) → ifAt limit room p (slice from to program) fs (frameIn (topMode limit seen 0) [] scope regs) ≡ noMeaning
   if-none h = if-stuck Stuck (bit-none program (from + 1) to [] (operandsOf scope regs) h) refl

@@ -1,38 +1,17 @@
 -- What the top fields that declare nothing do.
-use Prim.Native.Nat.{ℕ, _+_, _≤_}
+use Prim.Native.Nat.{ℕ, _+_, _≤_, pred}
 use mathlib.Core.Path.{_≡_}
 use mathlib.Core.List.{List, []}
 use mathlib.Core.Bool.{false}
 use lib.ListN.{length, take, drop, getD}
 use Rattle.language.specs.Limits.{deepest, longestProgram}
-use Rattle.language.specs.Tree.{Place, Top, family, qreg, creg, measure, reset, if, statement, badTop}
+use Rattle.language.specs.Tree.{Place}
 use Rattle.language.specs.Read.{fields, read, operandDue, readStatement, statementsBy}
-use Rattle.language.specs.Machine.{Run, Frame, Family, Globals, allDeclared, step, write, wireOf, bitOf, topFrame, inCondition, whenBit, doMeasure, doReset, noMeaning, runStatement, runStatements, _>>=_, _>>_}
+use Rattle.language.specs.Machine.{Run, Frame, Family, Globals, allDeclared, runIf, runStatements}
 use Rattle.operands.specs.Stand.{registersOf}
 use Rattle.emit.specs.declared.Condition.{Condition}
 use Rattle.emit.specs.declared.Condition.the-variants.{Always}
 use Rattle.gates.specs.declared.Mode.{Mode}
-
--- a top field without the globals that it gives on
-unfoldable pub acting : (limit room : ℕ) → Top → Globals → Run (Unit {0})
-acting limit room (measure p o c e) g = do
-  step limit room p
-  w ← wireOf p (topFrame g) o
-  b ← bitOf p (topFrame g) c
-  write limit room p (topFrame g) (doMeasure w b)
-acting limit room (reset p o e) g = do
-  step limit room p
-  w ← wireOf p (topFrame g) o
-  write limit room p (topFrame g) (doReset w)
-acting limit room (if p v o ss) g = do
-  step limit room p
-  b ← bitOf p (topFrame g) o
-  runStatements limit room ss (g .families) (inCondition (topFrame g) (whenBit b v))
-acting limit room (statement x) g = runStatement limit room x (g .families) (topFrame g)
-acting limit room (family p m n types body) g = noMeaning
-acting limit room (qreg p n e) g = noMeaning
-acting limit room (creg p n e) g = noMeaning
-acting limit room (badTop n p) g = noMeaning
 
 -- what statements at the top see: so many families, and the registers of a table
 abbrev pub globalsIn : (limit room : ℕ) → (program : List ℕ) → (seen : ℕ) → (regs : List ℕ) → (qubits bits : ℕ) → Globals
@@ -44,13 +23,13 @@ abbrev pub topMode : (limit seen many : ℕ) → Mode
 topMode limit seen many = record { limit = limit; seen = seen; levels = deepest; many = many; back = false; cond = Always }
 
 abbrev pub underMode : (limit seen : ℕ) → Condition → Mode
-underMode limit seen c = record { limit = limit; seen = seen; levels = 15; many = 0; back = false; cond = c }
+underMode limit seen c = record { limit = limit; seen = seen; levels = pred deepest; many = 0; back = false; cond = c }
 
 -- the if with the content l, whose step is taken
-unfoldable pub ifRun : (limit room : ℕ) → Place → (l : List ℕ) → List Family → Frame → Run (Unit {0})
-ifRun limit room p l fs f =
-    bitOf p f (operandDue p 0 (fields (p + 4) (drop 1 l))) >>= (λ b.
-    runStatements limit room (statementsBy (readStatement 15) (drop 1 (fields (p + 4) (drop 1 l)))) fs (inCondition f (whenBit b (getD l 0 0))))
+abbrev pub ifAt : (limit room : ℕ) → Place → (l : List ℕ) → List Family → Frame → Run (Unit {0})
+ifAt limit room p l fs f =
+    let parts = fields (p + 4) (drop 1 l) in
+    runIf limit room p (getD l 0 0) (operandDue p 0 parts) (λ g. runStatements limit room (statementsBy (readStatement (pred deepest)) (drop 1 parts)) fs g) f
 
 -- a whole field from `at` to `next`, in a program that is not too long
 pub record Within (l : List ℕ) (at next : ℕ) : Type 0 where

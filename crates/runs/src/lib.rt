@@ -7,7 +7,7 @@ ghost use Prim.Native.Nat.{ℕ, _+_, _*_, _≤_, _<_};
 ghost use lib.ListN.{length, take, getElem?};
 ghost use lib.Seq.{slice};
 ghost use Rattle.language.specs.Read.{field, fields, read, readTop};
-ghost use Rattle.language.specs.Machine.{whenBit, runTops, runProgram, nothingYet, allDeclared, instanceRun};
+ghost use Rattle.language.specs.Machine.{actTop, whenBit, runTops, runProgram, nothingYet, allDeclared, instanceRun};
 ghost use Rattle.language.specs.Result.{conclusionOf, instanceOf};
 ghost use Rattle.operands.specs.Stand.{theBit, registersOf};
 ghost use Rattle.emit.specs.Squares.{Does, conditionOf};
@@ -15,7 +15,7 @@ ghost use Rattle.gates.specs.Gates.{frameIn};
 ghost use Rattle.calls.specs.Families.{Entry, Tabled};
 ghost use Rattle.unroller.specs.Runs.{listRun};
 ghost use Rattle.runs.specs.Whole.{totalOf, moreLocations, registerFrom, sizeIn, Room, Acceptable, moreFamilies, DeclareReady, Declares, DeclaringTag, FullTable, started, familyWith};
-ghost use Rattle.runs.specs.Acting.{acting, globalsIn, topMode, underMode, ifRun, Within, IfReady, ActReady};
+ghost use Rattle.runs.specs.Acting.{globalsIn, topMode, underMode, ifAt, Within, IfReady, ActReady};
 ghost use Rattle.runs.specs.Concluded.{concluded};
 use emit::Answer;
 use emit::Condition;
@@ -180,7 +180,7 @@ fn conditional(
     requires { ⌜ Within (now program) at to ⌝ }
     requires { ⌜ IfReady (slice (at + 3) to (now program)) ⌝ }
     requires { ⌜ Tabled (now program) (now table) seen ⌝ }
-    ensures { λ r. ⌜ Does (now (out .entry)) st (now (out .exit)) r (ifRun limit (length (now (out .entry))) at (slice (at + 3) to (now (program .entry))) (take seen (allDeclared limit (length (now (out .entry))) (read (now (program .entry))) [])) (frameIn (topMode limit seen 0) [] scope (now (regs .entry)))) ⌝ }
+    ensures { λ r. ⌜ Does (now (out .entry)) st (now (out .exit)) r (ifAt limit (length (now (out .entry))) at (slice (at + 3) to (now (program .entry))) (take seen (allDeclared limit (length (now (out .entry))) (read (now (program .entry))) [])) (frameIn (topMode limit seen 0) [] scope (now (regs .entry)))) ⌝ }
 {
     let mut vars = [0i32; 20];
     let from = at + 3;
@@ -217,7 +217,7 @@ fn act(
     requires { ⌜ fields at (slice at next (now program)) ≡ (field at tag (slice (at + 3) next (now program)) ∷ []) ⌝ }
     requires { ⌜ (t .registers ≤ 255) × (t .families ≤ 255) ⌝ }
     requires { ⌜ Tabled (now program) (now table) (t .families) ⌝ }
-    ensures { λ r. ⌜ ((q b : ℕ) → Does (now (out .entry)) st (now (out .exit)) r (acting limit (length (now (out .entry))) (readTop (field at tag (slice (at + 3) next (now (program .entry))))) (globalsIn limit (length (now (out .entry))) (now (program .entry)) (t .families) (take (3 * t .registers) (now (regs .entry))) q b))) ⌝ }
+    ensures { λ r. ⌜ ((q b : ℕ) → Does (now (out .entry)) st (now (out .exit)) r (actTop limit (length (now (out .entry))) (readTop (field at tag (slice (at + 3) next (now (program .entry))))) (globalsIn limit (length (now (out .entry))) (now (program .entry)) (t .families) (take (3 * t .registers) (now (regs .entry))) q b))) ⌝ }
 {
     let mut vars = [0i32; 20];
     let seen = t.families as u16;

@@ -8,7 +8,7 @@ use lib.Seq.{slice, drop-drop, take-length}
 use lib.IntN.{ℤ}
 use Rattle.language.specs.Tree.{call}
 use Rattle.language.specs.Read.{read, fields, statementsBy, outerStatement}
-use Rattle.language.specs.Machine.{Run, noMeaning, endAt, found, step, runStatement, runStatements, allDeclared, after, _>>=_, _>>_}
+use Rattle.language.specs.Machine.{Run, noMeaning, endAt, found, step, runCall, runStatement, runStatements, allDeclared, after, _>>=_, _>>_}
 use Rattle.language.proofs.Families.{family-not-called}
 use Rattle.fields.specs.Table.{pastOf}
 use Rattle.fields.proofs.Between.{not-empty, first-byte}
@@ -37,7 +37,7 @@ module _ (m : Mode) (room from to place : ℕ) (p program : List ℕ) (values : 
 
   -- a number of no family
   pub call-none : m .seen ≤ getD p from 0 → whole ≡ (step (m .limit) room place >> noMeaning)
-  unfolding runStatement found _>>=_ after
+  unfolding runStatement runCall found _>>=_ after
   call-none h = call-read ∙ rw (family-not-called (m .limit) room (read program) (m .seen) (getD p from 0) h)
 
   module _ (at : ℕ) (h : getD p from 0 < m .seen) (e : Entry program (getD p from 0) at) (sizes : List ℤ) (hand : List ℕ) (r : Taken)

@@ -13,7 +13,7 @@ use lib.Dec.{eqb, leb}
 use lib.IntN.{_-ℤ_}
 use Rattle.language.specs.Tree.{badIndex, Statement, call, badStatement}
 use Rattle.language.specs.Read.{Field, field, fields, due, choose, outerIndex, readStatement, statementBy, deepStatement, statementsBy, gateOf, cxOf, readCall, forOf}
-use Rattle.language.specs.Machine.{Run, Frame, flipped, noMeaning, evaluate, found, step, rounds, roundsOf, startOf, inRound, inDirection, runStatement, runStatements, _>>=_, _>>_}
+use Rattle.language.specs.Machine.{callFamily, runGate, runCx, runCall, runReverse, runFor, Run, Frame, flipped, noMeaning, evaluate, found, step, rounds, roundsOf, startOf, inRound, inDirection, runStatement, runStatements, _>>=_, _>>_}
 use Rattle.language.proofs.Integers.{clash}
 use Rattle.emit.specs.Squares.{Does}
 use Rattle.emit.specs.declared.State.{State}
@@ -22,9 +22,9 @@ use Rattle.emit.specs.declared.Answer.the-variants.{Going, Ended, Stuck as aStu
 use Rattle.emit.proofs.Answer.{the-type}
 use Rattle.emit.proofs.Doing.{step-full, does-stuck, not-first}
 use Rattle.gates.specs.declared.Mode.{Mode}
-use Rattle.gates.specs.Gates.{directionOf, gateFor, gateRun, cxRun, namelessOf, actRun, Enterable, Steps, Entered}
+use Rattle.gates.specs.Gates.{directionOf, gateFor, gateAt, cxAt, namelessOf, actAt, Enterable, Steps, Entered}
 use Rattle.gates.proofs.Acting.{does-as}
-use Rattle.calls.specs.Arguments.{argumentsIn, calling}
+use Rattle.calls.specs.Arguments.{argumentsIn}
 use Rattle.unroller.specs.Runs.{familiesIn, oneRun, listAt}
 
 -- one level
@@ -66,29 +66,29 @@ module _ (m : Mode) (room base tag : ℕ) (l program : List ℕ) (f : Frame) whe
         go [] k = absurd (k refl)
         go (x ∷ l) k = refl
 
-    pub one-gate : 32 ≤ tag → tag < 35 → oneRun m room base tag l program f ≡ (step (m .limit) room base >> gateRun m room tag base l f)
-    unfolding statementBy choose runStatement runs gateOf gateRun gateFor
+    pub one-gate : 32 ≤ tag → tag < 35 → oneRun m room base tag l program f ≡ (step (m .limit) room base >> gateAt m room tag base l f)
+    unfolding statementBy choose runStatement runs gateOf runGate gateFor
     one-gate a b = ap runs (level (m .levels) (field base tag l) h) ∙ go (eqb tag 32) refl (eqb tag 33) refl
       where
-        go : (u : Bool) → eqb tag 32 ≡ u → (v : Bool) → eqb tag 33 ≡ v → runs (statementBy (readStatement (m .levels - 1)) (field base tag l)) ≡ (step (m .limit) room base >> gateRun m room tag base l f)
+        go : (u : Bool) → eqb tag 32 ≡ u → (v : Bool) → eqb tag 33 ≡ v → runs (statementBy (readStatement (m .levels - 1)) (field base tag l)) ≡ (step (m .limit) room base >> gateAt m room tag base l f)
         go true e v g = let t : tag ≡ 32 = eqb-true tag 32 e in rw t
         go false e true g = let t : tag ≡ 33 = eqb-true tag 33 g in rw t
         go false e false g = let t : tag ≡ 34 = omega (arith, eqb-false tag 32 e, eqb-false tag 33 g) in rw t
 
-    pub one-cx : tag ≡ 35 → oneRun m room base tag l program f ≡ (step (m .limit) room base >> cxRun m room base l f)
-    unfolding statementBy choose runStatement runs cxOf cxRun
+    pub one-cx : tag ≡ 35 → oneRun m room base tag l program f ≡ (step (m .limit) room base >> cxAt m room base l f)
+    unfolding statementBy choose runStatement runs cxOf runCx
     one-cx e = ap runs (level (m .levels) (field base tag l) h) ∙ rw e
 
     pub one-reverse : tag ≡ 37 → oneRun m room base tag l program f
         ≡ (step (m .limit) room base >> runStatements (m .limit) room (listAt (m .levels - 1) (base + 3) l) (familiesIn m room program) (inDirection f (flipped (f .direction))))
-    unfolding statementBy choose runStatement runs
+    unfolding statementBy choose runStatement runReverse runs
     one-reverse e = ap runs (level (m .levels) (field base tag l) h) ∙ rw e
 
     pub one-for : tag ≡ 38 → oneRun m room base tag l program f ≡ (step (m .limit) room base >>
         (evaluate base (f .variables) (due (outerIndex) (badIndex 4 base) (fields (base + 3) l)) >>= (λ x.
         evaluate base (f .variables) (due (outerIndex) (badIndex 4 base) (drop 1 (fields (base + 3) l))) >>= (λ y.
         rounds (m .limit) room base (f .direction) (roundsOf (y -ℤ x)) (startOf (f .direction) x y) (λ z. runStatements (m .limit) room (statementsBy (readStatement (m .levels - 1)) (drop 2 (fields (base + 3) l))) (familiesIn m room program) (inRound f z))))))
-    unfolding statementBy choose runStatement runs forOf
+    unfolding statementBy choose runStatement runFor runs forOf
     one-for e = ap runs (level (m .levels) (field base tag l) h) ∙ rw e
 
 pub turned : (b : Bool) → flipped (directionOf b) ≡ directionOf (not b)
@@ -128,8 +128,8 @@ module _ (m : Mode) (room base tag : ℕ) (l program : List ℕ) (f : Frame) whe
     pub is : oneRun m room base tag l program f ≡ (step (m .limit) room base >> after-it)
 
   -- a call, too
-  call-first : runStatement (m .limit) room (call base (getD l 0 0) (argumentsIn (base + 4) (drop 1 l))) (familiesIn m room program) f ≡ (step (m .limit) room base >> (found (getElem? (familiesIn m room program) (getD l 0 0)) >>= calling base f (argumentsIn (base + 4) (drop 1 l))))
-  unfolding runStatement calling
+  call-first : runStatement (m .limit) room (call base (getD l 0 0) (argumentsIn (base + 4) (drop 1 l))) (familiesIn m room program) f ≡ (step (m .limit) room base >> (found (getElem? (familiesIn m room program) (getD l 0 0)) >>= callFamily base f (argumentsIn (base + 4) (drop 1 l))))
+  unfolding runStatement runCall
   call-first = refl
 
   pub first : Enterable m tag (length l) → First
@@ -152,11 +152,11 @@ module _ (m : Mode) (room base tag : ℕ) (l program : List ℕ) (f : Frame) whe
   one-stops o st aStuck e h = does-as o st o aStuck noMeaning (oneRun m room base tag l program f) (one-refused e) (does-stuck o st o)
 
   -- a gate or a cx
-  pub one-acts : (m .levels ≡ 0 → ⊥) → 32 ≤ tag → tag < 36 → oneRun m room base tag l program f ≡ (step (m .limit) room base >> actRun m room tag base l f)
-  unfolding actRun
+  pub one-acts : (m .levels ≡ 0 → ⊥) → 32 ≤ tag → tag < 36 → oneRun m room base tag l program f ≡ (step (m .limit) room base >> actAt m room tag base l f)
+  unfolding actAt
   one-acts h a b = go (eqb tag 35) refl
     where
-      go : (u : Bool) → eqb tag 35 ≡ u → oneRun m room base tag l program f ≡ (step (m .limit) room base >> cond u (cxRun m room base l f) (gateRun m room tag base l f))
+      go : (u : Bool) → eqb tag 35 ≡ u → oneRun m room base tag l program f ≡ (step (m .limit) room base >> cond u (cxAt m room base l f) (gateAt m room tag base l f))
       go true e = one-cx m room base tag l program f h (eqb-true tag 35 e)
       go false e = one-gate m room base tag l program f h a (omega (arith, eqb-false tag 35 e))
 

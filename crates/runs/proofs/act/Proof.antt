@@ -21,7 +21,8 @@ use lib.Seq.{slice}
 use Rattle.language.specs.Read.{readTop, field}
 use Rattle.emit.proofs.Doing.{step-full, step-taken}
 use Rattle.gates.proofs.Acting.{does-as}
-use Rattle.runs.specs.Acting.{acting, globalsIn}
+use Rattle.language.specs.Machine.{actTop}
+use Rattle.runs.specs.Acting.{globalsIn}
 use Rattle.runs.proofs.Topping.{list-acts, timed, measure-acts, reset-acts, if-acts}
 
 -- src/lib.rt:234:16
@@ -58,7 +59,7 @@ returns c =
     let content = slice (a .at + 3) (a .next) l in
     λ q b.
     let g = globalsIn (a .limit) room l (a .t .families) (take (3 * a .t .registers) (now (a .regs))) q b in
-    let run = acting (a .limit) room (readTop (field (a .at) (a .tag) content)) g in
+    let run = actTop (a .limit) room (readTop (field (a .at) (a .tag) content)) g in
     does-as _ _ _ _ _ run (list-acts (a .limit) room (a .t .families) (a .t .registers) l (now (a .regs)) q b (c .before .before .before .before .before .before .before .top-scope .result) (c .before .before .before .before .before .before .before .top-scope .ensures) (a .at) (a .tag) (slice (a .at) (a .next) l) content (c .before .before .before .before .before .before .before .before .before .before .before .pre .1 .0) (⊎-map (λ h. omega (arith, h .taken)) (λ h. ltb-true 6 (a .tag) (h .1 .taken)) (c .before .before .before .before .before .if1 .came))) (rw (c .before .before .before .before .before .before .top-mode .ensures) at (c .before .before .once .ensures))
 
 -- src/lib.rt:242:20
@@ -75,7 +76,7 @@ returns-2 c =
     let content = slice (a .at + 3) (a .next) l in
     λ q b.
     let g = globalsIn (a .limit) room l (a .t .families) (take (3 * a .t .registers) (now (a .regs))) q b in
-    let run = acting (a .limit) room (readTop (field (a .at) (a .tag) content)) g in
+    let run = actTop (a .limit) room (readTop (field (a .at) (a .tag) content)) g in
     let ap₀ = c .before .before .before .before .before .before .before .before .pre .0 .0 .apart in
     let t = timed (a .limit) room (a .t .families) (a .t .registers) l (now (a .regs)) q b (c .before .before .before .before .top-scope .result) (c .before .before .before .before .top-scope .ensures) (a .at) (a .tag) content (omega (arith, c .before .before .if1 .left, ap₀ .0, ap₀ .1, ap₀ .2)) (omega (arith, ltb-false 6 (a .tag) (c .before .if2 .left))) (λ e. c .before .before .before .before .before .before .before .before .pre .0 .0 .ready e .long) in
     does-as _ _ _ _ _ run (t .1) (step-full (a .limit) room (now (a .out)) (a .st) (a .at) (t .0) (omega (arith, c .if3 .taken)))
@@ -109,8 +110,8 @@ returns-3 c =
     let content = slice (a .at + 3) (a .next) l in
     λ q b.
     let g = globalsIn (a .limit) room l (a .t .families) (take (3 * a .t .registers) (now (a .regs))) q b in
-    let run = acting (a .limit) room (readTop (field (a .at) (a .tag) content)) g in
-    does-as _ _ _ _ _ run (ap (λ (t : ℕ). acting (a .limit) room (readTop (field (a .at) t content)) g) (c .before .before .before .before .before .if4 .taken) ∙ measure-acts (a .limit) room (a .t .families) (a .t .registers) l (now (a .regs)) q b (c .before .before .before .before .before .before .before .before .before .before .top-scope .result) (c .before .before .before .before .before .before .before .before .before .before .top-scope .ensures) (a .at) content) (step-taken (a .limit) room (now (a .out)) (a .st) _ (a .at) _ _ _ (omega (arith, c .before .before .before .before .before .before .if3 .left)) refl refl (rw (c .before .before .before .before .before .before .before .before .before .top-mode .ensures) at (c .before .before .measure .ensures)))
+    let run = actTop (a .limit) room (readTop (field (a .at) (a .tag) content)) g in
+    does-as _ _ _ _ _ run (ap (λ (t : ℕ). actTop (a .limit) room (readTop (field (a .at) t content)) g) (c .before .before .before .before .before .if4 .taken) ∙ measure-acts (a .limit) room (a .t .families) (a .t .registers) l (now (a .regs)) q b (c .before .before .before .before .before .before .before .before .before .before .top-scope .result) (c .before .before .before .before .before .before .before .before .before .before .top-scope .ensures) (a .at) content) (step-taken (a .limit) room (now (a .out)) (a .st) _ (a .at) _ _ _ (omega (arith, c .before .before .before .before .before .before .if3 .left)) refl refl (rw (c .before .before .before .before .before .before .before .before .before .top-mode .ensures) at (c .before .before .measure .ensures)))
 
 -- src/lib.rt:255:9
 reset-requires : tie.Need-reset-requires
@@ -131,8 +132,8 @@ returns-4 c =
     let content = slice (a .at + 3) (a .next) l in
     λ q b.
     let g = globalsIn (a .limit) room l (a .t .families) (take (3 * a .t .registers) (now (a .regs))) q b in
-    let run = acting (a .limit) room (readTop (field (a .at) (a .tag) content)) g in
-    does-as _ _ _ _ _ run (ap (λ (t : ℕ). acting (a .limit) room (readTop (field (a .at) t content)) g) (c .before .before .before .before .before .if5 .taken) ∙ reset-acts (a .limit) room (a .t .families) (a .t .registers) l (now (a .regs)) q b (c .before .before .before .before .before .before .before .before .before .before .before .top-scope .result) (c .before .before .before .before .before .before .before .before .before .before .before .top-scope .ensures) (a .at) content) (step-taken (a .limit) room (now (a .out)) (a .st) _ (a .at) _ _ _ (omega (arith, c .before .before .before .before .before .before .before .if3 .left)) refl refl (rw (c .before .before .before .before .before .before .before .before .before .before .top-mode .ensures) at (c .before .before .reset .ensures)))
+    let run = actTop (a .limit) room (readTop (field (a .at) (a .tag) content)) g in
+    does-as _ _ _ _ _ run (ap (λ (t : ℕ). actTop (a .limit) room (readTop (field (a .at) t content)) g) (c .before .before .before .before .before .if5 .taken) ∙ reset-acts (a .limit) room (a .t .families) (a .t .registers) l (now (a .regs)) q b (c .before .before .before .before .before .before .before .before .before .before .before .top-scope .result) (c .before .before .before .before .before .before .before .before .before .before .before .top-scope .ensures) (a .at) content) (step-taken (a .limit) room (now (a .out)) (a .st) _ (a .at) _ _ _ (omega (arith, c .before .before .before .before .before .before .before .if3 .left)) refl refl (rw (c .before .before .before .before .before .before .before .before .before .before .top-mode .ensures) at (c .before .before .reset .ensures)))
 
 -- src/lib.rt:257:5
 conditional-requires : tie.Need-conditional-requires
@@ -156,10 +157,10 @@ returns-5 c =
     let content = slice (a .at + 3) (a .next) l in
     λ q b.
     let g = globalsIn (a .limit) room l (a .t .families) (take (3 * a .t .registers) (now (a .regs))) q b in
-    let run = acting (a .limit) room (readTop (field (a .at) (a .tag) content)) g in
+    let run = actTop (a .limit) room (readTop (field (a .at) (a .tag) content)) g in
     let ap₀ = c .before .before .before .before .before .before .before .before .before .before .before .before .before .before .pre .0 .0 .apart in
     let e : _≡_ {A = ℕ} (a .tag) 6 = omega (arith, c .before .before .before .before .before .before .before .before .if1 .left, ltb-false 6 (a .tag) (c .before .before .before .before .before .before .before .if2 .left), c .before .before .before .before .before .if4 .left, c .before .before .before .before .if5 .left, ap₀ .0, ap₀ .1, ap₀ .2) in
-    does-as _ _ _ _ _ run (ap (λ (t : ℕ). acting (a .limit) room (readTop (field (a .at) t content)) g) e ∙ if-acts (a .limit) room (a .t .families) (a .t .registers) l (now (a .regs)) q b (c .before .before .before .before .before .before .before .before .before .before .top-scope .result) (c .before .before .before .before .before .before .before .before .before .before .top-scope .ensures) (a .at) content (c .before .before .before .before .before .before .before .before .before .before .before .before .before .before .pre .0 .0 .ready e .long)) (step-taken (a .limit) room (now (a .out)) (a .st) _ (a .at) _ _ _ (omega (arith, c .before .before .before .before .before .before .if3 .left)) refl refl (c .before .before .conditional .ensures))
+    does-as _ _ _ _ _ run (ap (λ (t : ℕ). actTop (a .limit) room (readTop (field (a .at) t content)) g) e ∙ if-acts (a .limit) room (a .t .families) (a .t .registers) l (now (a .regs)) q b (c .before .before .before .before .before .before .before .before .before .before .top-scope .result) (c .before .before .before .before .before .before .before .before .before .before .top-scope .ensures) (a .at) content (c .before .before .before .before .before .before .before .before .before .before .before .before .before .before .pre .0 .0 .ready e .long)) (step-taken (a .limit) room (now (a .out)) (a .st) _ (a .at) _ _ _ (omega (arith, c .before .before .before .before .before .before .if3 .left)) refl refl (c .before .before .conditional .ensures))
 
 pub act-spec : {M : Type 1} → statement M
 act-spec =

@@ -22,7 +22,7 @@ use Rattle.emit.proofs.Doing.{does-end, does-stuck}
 use Rattle.gates.proofs.Acting.{does-as}
 use Rattle.gates.specs.Gates.{frameIn}
 use Rattle.fields.proofs.Between.{in-whole, first-byte}
-use Rattle.runs.specs.Acting.{topMode, ifRun}
+use Rattle.runs.specs.Acting.{topMode, ifAt}
 use Rattle.runs.proofs.Topping.{if-over, if-stuck, if-bit, if-none}
 
 -- src/lib.rt:186:16
@@ -52,7 +52,7 @@ returns c =
     let l = now (a .program) in
     let room = length (now (a .out)) in
     let fs = take (a .seen) (allDeclared (a .limit) room (read l) []) in
-    let run = ifRun (a .limit) room (a .at) (slice (a .at + 3) (a .to) l) fs (frameIn (topMode (a .limit) (a .seen) 0) [] (a .scope) (now (a .regs))) in
+    let run = ifAt (a .limit) room (a .at) (slice (a .at + 3) (a .to) l) fs (frameIn (topMode (a .limit) (a .seen) 0) [] (a .scope) (now (a .regs))) in
     does-as _ _ _ _ _ run (if-none (a .limit) room (a .seen) (now (a .regs)) (a .scope) (a .at) l (a .at + 3) (a .to) fs (rw (c .before .header-at .ensures) at (c .match .keys2))) (does-stuck (now (a .out)) (a .st) _)
 
 -- src/lib.rt:191:16
@@ -116,7 +116,7 @@ returns-2 c =
     let l = now (a .program) in
     let room = length (now (a .out)) in
     let fs = take (a .seen) (allDeclared (a .limit) room (read l) []) in
-    let run = ifRun (a .limit) room (a .at) (slice (a .at + 3) (a .to) l) fs (frameIn (topMode (a .limit) (a .seen) 0) [] (a .scope) (now (a .regs))) in
+    let run = ifAt (a .limit) room (a .at) (slice (a .at + 3) (a .to) l) fs (frameIn (topMode (a .limit) (a .seen) 0) [] (a .scope) (now (a .regs))) in
     does-as _ _ _ _ _ run (if-over (a .limit) room (a .seen) (now (a .regs)) (a .scope) (a .at) l (a .at + 3) (a .to) fs (c .before .before .bit-at .result) (c .before .before .bit-at .ensures) (c .enum-told .given .1)) (does-end (now (a .out)) (a .st) 24 (a .at))
 
 -- src/lib.rt:168:1
@@ -126,7 +126,7 @@ returns-3 c =
     let l = now (a .program) in
     let room = length (now (a .out)) in
     let fs = take (a .seen) (allDeclared (a .limit) room (read l) []) in
-    let run = ifRun (a .limit) room (a .at) (slice (a .at + 3) (a .to) l) fs (frameIn (topMode (a .limit) (a .seen) 0) [] (a .scope) (now (a .regs))) in
+    let run = ifAt (a .limit) room (a .at) (slice (a .at + 3) (a .to) l) fs (frameIn (topMode (a .limit) (a .seen) 0) [] (a .scope) (now (a .regs))) in
     does-as _ _ _ _ _ run (if-stuck (a .limit) room (a .seen) (now (a .regs)) (a .scope) (a .at) l (a .at + 3) (a .to) fs (c .before .before .bit-at .result) (c .before .before .bit-at .ensures) (c .enum-told2 .given .1)) (does-stuck (now (a .out)) (a .st) _)
 
 -- src/lib.rt:168:1
@@ -141,7 +141,7 @@ returns-4 c =
     let l = now (a .program) in
     let room = length (now (a .out)) in
     let fs = take (a .seen) (allDeclared (a .limit) room (read l) []) in
-    let run = ifRun (a .limit) room (a .at) (slice (a .at + 3) (a .to) l) fs (frameIn (topMode (a .limit) (a .seen) 0) [] (a .scope) (now (a .regs))) in
+    let run = ifAt (a .limit) room (a .at) (slice (a .at + 3) (a .to) l) fs (frameIn (topMode (a .limit) (a .seen) 0) [] (a .scope) (now (a .regs))) in
     let high = c .before .before .before .before .before .before .before .before .before .before .before .before .before .before .before .before .before .before .before .pre .0 .high in
     let low : a .at + 3 < a .to = omega (arith, c .before .before .before .before .before .before .before .before .before .before .before .before .before .before .before .before .before .before .before .pre .1 .0 .long, length-slice (a .at + 3) (a .to) l high) in
     does-as _ _ _ _ _ run (if-bit (a .limit) room (a .seen) (now (a .regs)) (a .scope) (a .at) l (a .at + 3) (a .to) fs (c .before .before .before .before .before .before .before .before .before .before .before .bit-at .result) (c .before .before .before .before .before .before .before .before .before .before .before .bit-at .ensures) (c .before .before .before .before .before .before .before .before .before .b .given .0 .0) (c .before .before .before .before .before .before .condition .result) _ (c .before .before .before .before .before .before .before .before .before .before .before .before .before .before .mid .given .0 .1 .0) refl low high (c .before .before .before .before .before .before .before .before .before .b .given .1) (c .before .before .before .before .before .before .condition .ensures) (sym (c .before .before .before .before .before .before .before .before .before .before .before .before .before .before .before .before .header-at .ensures) ∙ c .before .before .before .before .before .before .before .before .before .before .before .before .before .before .mid .given .1))
