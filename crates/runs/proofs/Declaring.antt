@@ -9,11 +9,11 @@ use lib.Seq.{slice}
 use lib.IntN.{pos}
 use Rattle.language.specs.Limits.{mostFamilies, mostRegisters, mostWires, mostBits}
 use Rattle.language.specs.Tree.{Place, Top, family, qreg, creg, measure, reset, if, statement, badTop, number, missing, Number, Ending, Statements, ParameterType}
-use Rattle.language.specs.Read.{read, field, readTop, readFamily, readRegister, familyOf, choose, twoBytes}
+use Rattle.language.specs.Read.{read, field, readTop, readFamily, readRegister, registerSize, registerEnd, familyOf, choose, twoBytes}
 use Rattle.language.specs.Form.{constantForm}
 use Rattle.language.specs.Check as C
 use Rattle.language.specs.Check.{Declared, Signature, quantum, classical}
-use Rattle.language.specs.Machine.{Meaning, wires, bits, Globals, Family, Run, give, declared, allDeclared, runTop, runTops, withFamilies, withWires, withBits, _>>=_, after}
+use Rattle.language.specs.Machine.{Meaning, wires, bits, Globals, Family, Run, give, declared, allDeclared, actTop, declareTop, runTop, runTops, withFamilies, withWires, withBits, _>>=_, _>>_, after}
 use Rattle.language.proofs.Accepted.{TopGood, aFamily, aQreg, aCreg, aMeasure, aReset, anIf, aStatement}
 use Rattle.operands.specs.Stand.{theWire, theBit, clipped, registerOf, registersOf}
 use Rattle.fields.specs.declared.Header.the-variants.{Whole}
@@ -68,7 +68,7 @@ laid false = withBits
 -- a register's content that is good has its size
 register-good : (b : Bool) (t : Totals) (d a : Declared) (p : Place) (content : List ℕ) → Counted t d → Leaves d a (readRegister (make b) p content)
     → Room content (t .registers) (totalOf b t) × (a ≡ checked b d (sizeIn content))
-unfolding readRegister Leaves make checked totalOf
+unfolding readRegister registerSize registerEnd Leaves make checked totalOf
 register-good true t d a p [] c h = absurd h
 register-good true t d a p (low ∷ []) c h = absurd h
 register-good true t d a p (low ∷ high ∷ rest) c h = (record { long = omega arith; few = omega (arith, c .registers, h .1); fits = omega (arith, c .qubits, h .2) }, h .0)
@@ -79,7 +79,7 @@ register-good false t d a p (low ∷ high ∷ rest) c h = (record { long = omega
 -- what the machine does with it; it declares no family
 register-run : (b : Bool) (limit room : ℕ) (p : Place) (content : List ℕ) (g : Globals) (fs : List Family) → 2 ≤ length content
     → (runTop limit room (readRegister (make b) p content) g ≡ give (laid b g (sizeIn content))) × (declared limit room (readRegister (make b) p content) fs ≡ fs)
-unfolding readRegister runTop declared make laid
+unfolding readRegister registerSize registerEnd runTop actTop declareTop _>>_ after declared make laid
 register-run b limit room p [] g fs h = absurd (omega arith)
 register-run b limit room p (low ∷ []) g fs h = absurd (omega arith)
 register-run true limit room p (low ∷ high ∷ rest) g fs h = (refl, refl)
@@ -120,7 +120,7 @@ is-register false at content = refl
 -- ---- families
 
 family-run : (limit room : ℕ) (p : Place) (content : List ℕ) (g : Globals) → runTop limit room (readFamily p content) g ≡ give (withFamilies g (declared limit room (readFamily p content) (g .families)))
-unfolding readFamily familyOf runTop
+unfolding readFamily familyOf runTop actTop declareTop _>>_ after
 family-run limit room p [] g = refl
 family-run limit room p (m ∷ []) g = refl
 family-run limit room p (m ∷ n ∷ rest) g = refl

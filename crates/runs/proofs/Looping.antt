@@ -17,7 +17,7 @@ use Rattle.language.specs.Read.{Field, field, read, readTop, readIf, ifOf, choo
 use Rattle.language.specs.Check.{Declared, check, good}
 use Rattle.language.specs.Lookup.{mapped}
 use Rattle.language.specs.Machine as m
-use Rattle.language.specs.Machine.{actTop, Run, Globals, give, noMeaning, after, allDeclared, runTop, runTops, nothingYet, _>>=_, _>>_}
+use Rattle.language.specs.Machine.{actTop, declareTop, Run, Globals, give, noMeaning, after, allDeclared, runTop, runTops, nothingYet, _>>=_, _>>_}
 use Rattle.language.proofs.Accepted.{TopGood, aFamily, aQreg, aCreg, aMeasure, aReset, anIf, aStatement}
 use Rattle.language.proofs.Families.{family-at}
 use Rattle.fields.specs.Table.{Listed}
@@ -101,7 +101,7 @@ module _ (limit room : ℕ) (l : List ℕ) where
       (λ lent rs w. let p = w .output in let q = w .size in cc)
 
   pub at-cut : (at : ℕ) (g : Globals) (out : List ℕ) (st : State) → look l at ≡ Cut → Does out st out Stuck (runTops limit room (topsAt l at) g)
-  unfolding runTops readTop runTop _>>=_ after told flat
+  unfolding runTops readTop runTop actTop declareTop _>>=_ _>>_ after told flat
   at-cut at g out st e = does-same out st out Stuck noMeaning _ (ap (λ (fs : List Field). runTops limit room (map readTop fs) g) (when-cut l at (length l) (omega arith) e)) (λ lent rs w. refl)
 
   -- a field that declares nothing
