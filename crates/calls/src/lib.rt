@@ -8,15 +8,15 @@ ghost use mathlib.Core.Bool.{true};
 ghost use Rattle.language.specs.Form.{inRange};
 ghost use Rattle.language.specs.Read.{isIndexTag, isOperandTag};
 ghost use Rattle.fields.specs.Table.{pastOf};
-ghost use Rattle.operands.specs.Stand.{operandsOf, ofParameter};
-ghost use Rattle.calls.specs.Families.{FamilyHead, Passed, BodyFrom};
-ghost use Rattle.calls.specs.Arguments.{handedOf, handedIn, operandsIn, SizesAre, KeepsMore, Handed, Takes, Fits, Fitting, Scopes, Arguments};
+ghost use Rattle.operands.specs.Meanings.{operandsOf, ofParameter};
+ghost use Rattle.calls.specs.Families.{FamilyHead, PastFields, BodyFrom};
+ghost use Rattle.calls.specs.Arguments.{gatheredOperand, gatheredOperands, operandArguments, SizesAre, KeepsMore, OperandsGathered, Takes, Fits, Fitting, Scopes, Arguments};
 use fields::Header;
 use indexes::Value;
 use operands::Operand;
 use operands::Parameter;
 use operands::Scope;
-use operands::Stands;
+use operands::OperandMeaning;
 use operands::Wire;
 
 // The position past the field at `at`.
@@ -28,14 +28,14 @@ pub fn past(program: &[u8], at: usize) -> usize
 }
 
 // The position past the first k fields from `from` on, or the end where there are fewer.
-fn passed(p: &[u8], from: usize, to: usize, k: usize) -> usize
-    requires { ⌜ (from ≤ to) × (to ≤ length (now p)) ⌝ }
-    ensures { λ r. ⌜ Passed k (now (p .entry)) from to r ⌝ }
+fn passed(bytes: &[u8], from: usize, to: usize, k: usize) -> usize
+    requires { ⌜ (from ≤ to) × (to ≤ length (now bytes)) ⌝ }
+    ensures { λ r. ⌜ PastFields k (now (bytes .entry)) from to r ⌝ }
 {
     let mut at = from;
     let mut i: usize = 0;
     while i < k {
-        let Header::Whole(_, next) = fields::header_at(p, at, to) else {
+        let Header::Whole(_, next) = fields::header_at(bytes, at, to) else {
             return to;
         };
         at = next;
@@ -104,21 +104,21 @@ fn store(sizes: &mut [i32; 20], k: usize, z: i64)
 
 // The sizes among the arguments from `from` to `to`. The first four are stored.
 fn sizes_of(
-    p: &[u8],
+    bytes: &[u8],
     from: usize,
     to: usize,
     vars: &[i32; 20],
     many: usize,
     sizes: &mut [i32; 20],
 ) -> Gathered
-    requires { ⌜ to ≤ length (now p) ⌝ }
+    requires { ⌜ to ≤ length (now bytes) ⌝ }
     requires { ⌜ many ≤ 20 ⌝ }
-    ensures { λ r. ⌜ SizesAre (slice from to (now (p .entry))) (take many (now (vars .entry))) (now (sizes .exit)) r ⌝ }
+    ensures { λ r. ⌜ SizesAre (slice from to (now (bytes .entry))) (take many (now (vars .entry))) (now (sizes .exit)) r ⌝ }
 {
     let mut at = from;
     let mut k: usize = 0;
     loop {
-        match fields::header_at(p, at, to) {
+        match fields::header_at(bytes, at, to) {
             Header::End => return Gathered::Are(k),
             Header::Cut => return Gathered::Stuck,
             Header::Whole(tag, next) => {
@@ -127,7 +127,7 @@ fn sizes_of(
                     at = next;
                     continue;
                 }
-                match indexes::evaluate(p, content, next, tag, vars, many, 16) {
+                match indexes::evaluate(bytes, content, next, tag, vars, many, 16) {
                     Value::Over => return Gathered::Over,
                     Value::Stuck => return Gathered::Stuck,
                     Value::Is(z) => {
@@ -149,7 +149,7 @@ fn tell_given(given: [u16; 24])
 // Puts an operand behind the n that are gathered: the tag of its type, its first wire and its size.
 fn put(given: &mut [u16; 24], n: usize, kind: u16, first: u16, size: u16)
     requires { ⌜ n < 8 ⌝ }
-    ensures { λ _. ⌜ handedIn (take (3 * (n + 1)) (now (given .exit))) ≡ handedIn (take (3 * n) (now (given .entry))) ++ (handedOf kind first size ∷ []) ⌝ }
+    ensures { λ _. ⌜ gatheredOperands (take (3 * (n + 1)) (now (given .exit))) ≡ gatheredOperands (take (3 * n) (now (given .entry))) ++ (gatheredOperand kind first size ∷ []) ⌝ }
 {
     tell_given(*given);
     let at = 3 * n;
@@ -161,7 +161,7 @@ fn put(given: &mut [u16; 24], n: usize, kind: u16, first: u16, size: u16)
 }
 
 // One operand more than the n that are gathered. No family takes a classical one, or a ninth: then the answer is 9.
-fn keep(given: &mut [u16; 24], n: usize, s: Stands) -> usize
+fn keep(given: &mut [u16; 24], n: usize, s: OperandMeaning) -> usize
     ensures { λ r. ⌜ KeepsMore (now (given .entry)) n s (now (given .exit)) r ⌝ }
 {
     tell_given(*given);
@@ -170,24 +170,24 @@ fn keep(given: &mut [u16; 24], n: usize, s: Stands) -> usize
     }
     let more = n + 1;
     match s {
-        Stands::AWire(w) => {
+        OperandMeaning::AWire(w) => {
             put(given, n, 16, w.0, 0);
             return more;
         }
-        Stands::Wires(first, size) => {
+        OperandMeaning::Wires(first, size) => {
             put(given, n, 17, first.0, size);
             return more;
         }
-        Stands::ABit(_) => {
+        OperandMeaning::ABit(_) => {
             return 9;
         }
-        Stands::Bits(_, _) => {
+        OperandMeaning::Bits(_, _) => {
             return 9;
         }
-        Stands::Over => {
+        OperandMeaning::Over => {
             return 9;
         }
-        Stands::Stuck => {
+        OperandMeaning::Stuck => {
             return 9;
         }
     }
@@ -195,7 +195,7 @@ fn keep(given: &mut [u16; 24], n: usize, s: Stands) -> usize
 
 // The operands among the arguments from `from` to `to`, gathered as numbers.
 fn operands_of(
-    p: &[u8],
+    bytes: &[u8],
     from: usize,
     to: usize,
     vars: &[i32; 20],
@@ -204,14 +204,14 @@ fn operands_of(
     regs: &[u16; 765],
     given: &mut [u16; 24],
 ) -> Gathered
-    requires { ⌜ to ≤ length (now p) ⌝ }
+    requires { ⌜ to ≤ length (now bytes) ⌝ }
     requires { ⌜ many ≤ 20 ⌝ }
-    ensures { λ r. ⌜ Handed (operandsIn (slice from to (now (p .entry))) (take many (now (vars .entry))) (operandsOf scope (now (regs .entry)))) (now (given .exit)) r ⌝ }
+    ensures { λ r. ⌜ OperandsGathered (operandArguments (slice from to (now (bytes .entry))) (take many (now (vars .entry))) (operandsOf scope (now (regs .entry)))) (now (given .exit)) r ⌝ }
 {
     let mut at = from;
     let mut n: usize = 0;
     loop {
-        match fields::header_at(p, at, to) {
+        match fields::header_at(bytes, at, to) {
             Header::End => return Gathered::Are(n),
             Header::Cut => return Gathered::Stuck,
             Header::Whole(tag, next) => {
@@ -220,11 +220,11 @@ fn operands_of(
                     at = next;
                     continue;
                 }
-                let s = operands::meaning(p, content, next, tag, vars, many, scope, regs);
-                if let Stands::Over = s {
+                let s = operands::meaning(bytes, content, next, tag, vars, many, scope, regs);
+                if let OperandMeaning::Over = s {
                     return Gathered::Over;
                 }
-                if let Stands::Stuck = s {
+                if let OperandMeaning::Stuck = s {
                     return Gathered::Stuck;
                 }
                 n = keep(given, n, s);
@@ -251,16 +251,16 @@ pub enum Fit {
 }
 
 // Whether the first n operands are of the kinds that the n type fields from `from` on say.
-fn fits(p: &[u8], from: usize, to: usize, n: usize, given: &[u16; 24]) -> Fit
-    requires { ⌜ (from ≤ to) × (to ≤ length (now p)) ⌝ }
+fn fits(bytes: &[u8], from: usize, to: usize, n: usize, given: &[u16; 24]) -> Fit
+    requires { ⌜ (from ≤ to) × (to ≤ length (now bytes)) ⌝ }
     requires { ⌜ n ≤ 8 ⌝ }
-    ensures { λ r. ⌜ Fits (now (p .entry)) from to n (now (given .entry)) r ⌝ }
+    ensures { λ r. ⌜ Fits (now (bytes .entry)) from to n (now (given .entry)) r ⌝ }
 {
     tell_given(*given);
     let mut at = from;
     let mut i: usize = 0;
     while i < n {
-        let Header::Whole(tag, next) = fields::header_at(p, at, to) else {
+        let Header::Whole(tag, next) = fields::header_at(bytes, at, to) else {
             return Fit::Not;
         };
         let j = 3 * i;
@@ -294,7 +294,7 @@ fn fitting(program: &[u8], at: usize, k: usize, n: usize, given: &[u16; 24]) -> 
 // The parameter whose three numbers begin at i.
 fn parameter(given: &[u16; 24], i: usize) -> Parameter
     requires { ⌜ i + 2 < 24 ⌝ }
-    ensures { λ r. ⌜ ofParameter r ≡ handedOf (getD (now (given .entry)) i 0) (getD (now (given .entry)) (i + 1) 0) (getD (now (given .entry)) (i + 2) 0) ⌝ }
+    ensures { λ r. ⌜ ofParameter r ≡ gatheredOperand (getD (now (given .entry)) i 0) (getD (now (given .entry)) (i + 1) 0) (getD (now (given .entry)) (i + 2) 0) ⌝ }
 {
     let second = i + 1;
     let third = i + 2;
@@ -342,7 +342,7 @@ pub enum Taken {
 // The arguments from `from` to `to` of a call to the family whose field is at `at`: the sizes, and the operands gathered as
 // numbers.
 pub fn arguments(
-    p: &[u8],
+    bytes: &[u8],
     from: usize,
     to: usize,
     program: &[u8],
@@ -354,19 +354,19 @@ pub fn arguments(
     sizes: &mut [i32; 20],
     given: &mut [u16; 24],
 ) -> Taken
-    requires { ⌜ to ≤ length (now p) ⌝ }
+    requires { ⌜ to ≤ length (now bytes) ⌝ }
     requires { ⌜ many ≤ 20 ⌝ }
     requires { ⌜ FamilyHead (now program) at ⌝ }
-    ensures { λ r. ⌜ Arguments (slice from to (now (p .entry))) (now (program .entry)) at (take many (now (vars .entry))) (operandsOf scope (now (regs .entry))) (now (sizes .exit)) (now (given .exit)) r ⌝ }
+    ensures { λ r. ⌜ Arguments (slice from to (now (bytes .entry))) (now (program .entry)) at (take many (now (vars .entry))) (operandsOf scope (now (regs .entry))) (now (sizes .exit)) (now (given .exit)) r ⌝ }
 {
-    let s = sizes_of(p, from, to, vars, many, sizes);
+    let s = sizes_of(bytes, from, to, vars, many, sizes);
     if let Gathered::Over = s {
         return Taken::Over;
     }
     let Gathered::Are(k) = s else {
         return Taken::Stuck;
     };
-    let o = operands_of(p, from, to, vars, many, scope, regs, given);
+    let o = operands_of(bytes, from, to, vars, many, scope, regs, given);
     if let Gathered::Over = o {
         return Taken::Over;
     }

@@ -14,9 +14,9 @@ use Rattle.language.specs.Read.{fields, due, operandDue, outerIndex}
 use Rattle.language.specs.Machine.{Run, Frame, Direction, forward, backward, endAt, noMeaning, evaluate, startOf, roundsOf, runGate, runCx, _>>=_}
 use Rattle.indexes.specs.declared.Value.{Value}
 use Rattle.indexes.specs.declared.Value.the-variants.{Is, Over as vOver, Stuck as vStuck}
-use Rattle.operands.specs.Stand.{operandsOf, frameOf}
+use Rattle.operands.specs.Meanings.{operandsOf, frameOf}
 use Rattle.operands.specs.declared.Scope.{Scope}
-use Rattle.emit.specs.Squares.{conditionOf}
+use Rattle.emit.specs.Outcomes.{conditionOf}
 use Rattle.emit.specs.declared.State.{State}
 use Rattle.emit.specs.declared.Answer.{Answer}
 use Rattle.emit.specs.declared.Answer.the-variants.{Going, Ended, Stuck as aStuck}
@@ -35,17 +35,17 @@ unfoldable pub gateFor : ℕ → Gate
 gateFor tag = cond (eqb tag 32) gateH (cond (eqb tag 33) gateT gateTdg)
 
 unfoldable pub codeOf : ℕ → Bool → ℕ
-codeOf tag back = cond (eqb tag 32) 1 (cond (eqb tag 33) (cond back 3 2) (cond back 2 3))
+codeOf tag reversed = cond (eqb tag 32) 1 (cond (eqb tag 33) (cond reversed 3 2) (cond reversed 2 3))
 
 abbrev pub frameIn : Mode → List ℤ → Scope → List ℕ → Frame
-frameIn m values scope regs = frameOf (directionOf (m .back)) (conditionOf (m .cond)) values (operandsOf scope regs)
+frameIn mode values scope regs = frameOf (directionOf (mode .reversed)) (conditionOf (mode .condition)) values (operandsOf scope regs)
 
 -- the gate of this tag, and the cx, with this content
 abbrev pub gateAt : Mode → (room : ℕ) → ℕ → Place → List ℕ → Frame → Run (Unit {0})
-gateAt m room tag p l f = runGate (m .limit) room p (gateFor tag) (operandDue p 0 (fields (p + 3) l)) f
+gateAt mode room tag p l f = runGate (mode .limit) room p (gateFor tag) (operandDue p 0 (fields (p + 3) l)) f
 
 abbrev pub cxAt : Mode → (room : ℕ) → Place → List ℕ → Frame → Run (Unit {0})
-cxAt m room p l f = runCx (m .limit) room p (operandDue p 0 (fields (p + 3) l)) (operandDue p 1 (fields (p + 3) l)) f
+cxAt mode room p l f = runCx (mode .limit) room p (operandDue p 0 (fields (p + 3) l)) (operandDue p 1 (fields (p + 3) l)) f
 
 -- why a loop has no bounds
 unfoldable pub boundOf : Value → Bounds
@@ -83,23 +83,23 @@ abbrev pub mostRounds : ℕ
 mostRounds = furthest + furthest + 1
 
 -- a for runs its body so often, from the value `start` on, and its body begins at `at`
-pub record Rounds (l : List ℕ) (from to : ℕ) (values : List ℤ) (back : Bool) (start : ℤ) (total at : ℕ) : Type 0 where
+pub record Rounds (l : List ℕ) (from to : ℕ) (values : List ℤ) (reversed : Bool) (start : ℤ) (total at : ℕ) : Type 0 where
   pub x : ℤ
   pub y : ℤ
   pub bounded : Bounded l from to values (Are x y at)
-  pub first : start ≡ startOf (directionOf back) x y
+  pub first : start ≡ startOf (directionOf reversed) x y
   pub often : total ≡ roundsOf (y -ℤ x)
 
 -- how the body of a for runs
 unfoldable pub Looped : List ℕ → (from to : ℕ) → List ℤ → Bool → Repeats → Type 0
-Looped l from to values back (Times start total at) = Rounds l from to values back start total at
-Looped l from to values back rOver = Bounded l from to values Over
-Looped l from to values back rStuck = Bounded l from to values Stuck
+Looped l from to values reversed (Times start total at) = Rounds l from to values reversed start total at
+Looped l from to values reversed rOver = Bounded l from to values Over
+Looped l from to values reversed rStuck = Bounded l from to values Stuck
 
 -- how the body of a reverse or a for runs: of a reverse once
-pub record Repeated (l : List ℕ) (from to tag : ℕ) (values : List ℤ) (back : Bool) (r : Repeats) : Type 0 where
+pub record Repeated (l : List ℕ) (from to tag : ℕ) (values : List ℤ) (reversed : Bool) (r : Repeats) : Type 0 where
   pub once : tag ≡ 37 → r ≡ Times (pos 0) 1 from
-  pub looped : (tag ≡ 37 → ⊥) → Looped l from to values back r
+  pub looped : (tag ≡ 37 → ⊥) → Looped l from to values reversed r
 
 -- the loop variable in the round i, of a loop whose first value is `start`
 unfoldable pub turnOf : Bool → ℤ → ℕ → ℤ
@@ -108,46 +108,46 @@ turnOf false start i = start +ℤ pos i
 
 -- a level deeper, with so many values in scope, in a direction
 abbrev pub deeperOf : Mode → (many : ℕ) → Bool → Mode
-deeperOf m many back = record { limit = m .limit; seen = m .seen; levels = m .levels - 1; many = many; back = back; cond = m .cond }
+deeperOf mode many reversed = record { limit = mode .limit; «families_visible» = mode .«families_visible»; levels = mode .levels - 1; variables = many; reversed = reversed; condition = mode .condition }
 
 -- in the body of the reverse or the for with this tag
 abbrev pub innerOf : Mode → (tag : ℕ) → Mode
-innerOf m tag = cond (eqb tag 37) (deeperOf m (m .many) (not (m .back))) (deeperOf m (m .many + 1) (m .back))
+innerOf mode tag = cond (eqb tag 37) (deeperOf mode (mode .variables) (not (mode .reversed))) (deeperOf mode (mode .variables + 1) (mode .reversed))
 
 -- in the body of the family n, which has so many values
 abbrev pub enteredOf : Mode → (n many : ℕ) → Mode
-enteredOf m n many = record { limit = m .limit; seen = n; levels = deepest; many = many; back = m .back; cond = m .cond }
+enteredOf mode n many = record { limit = mode .limit; «families_visible» = n; levels = deepest; variables = many; reversed = mode .reversed; condition = mode .condition }
 
 -- a call that names no family
 unfoldable pub namelessOf : ℕ → ℕ → Bool
 namelessOf tag size = eqb tag 36 && eqb size 0
 
 -- a statement that may be entered: not too deep, of a tag that there is, and no call without a family
-pub record Enterable (m : Mode) (tag size : ℕ) : Type 0 where
-  pub deep : m .levels ≡ 0 → ⊥
+pub record Enterable (mode : Mode) (tag size : ℕ) : Type 0 where
+  pub deep : mode .levels ≡ 0 → ⊥
   pub low : 32 ≤ tag
   pub high : tag ≤ 38
   pub named : namelessOf tag size ≡ false
 
-pub record Steps (m : Mode) (tag size : ℕ) (st s : State) : Type 0 where
-  pub enterable : Enterable m tag size
-  pub left : st .steps < m .limit
-  pub same : s .at ≡ st .at
+pub record StepTaken (mode : Mode) (tag size : ℕ) (st s : State) : Type 0 where
+  pub enterable : Enterable mode tag size
+  pub left : st .steps < mode .limit
+  pub same : s .written ≡ st .written
   pub more : s .steps ≡ st .steps + 1
 
-pub record Full (m : Mode) (tag size : ℕ) (base : Place) (st : State) (n : ℕ) (p : Place) (s : State) : Type 0 where
-  pub enterable : Enterable m tag size
-  pub none : m .limit ≤ st .steps
+pub record NoStepLeft (mode : Mode) (tag size : ℕ) (base : Place) (st : State) (n : ℕ) (p : Place) (s : State) : Type 0 where
+  pub enterable : Enterable mode tag size
+  pub none : mode .limit ≤ st .steps
   pub number : n ≡ 26
   pub place : p ≡ base
   pub same : s ≡ st
 
 -- what entering a statement answers
 unfoldable pub Entered : Mode → (tag size : ℕ) → Place → State → Answer → Type 0
-Entered m tag size base st (Going s) = Steps m tag size st s
-Entered m tag size base st (Ended n p s) = Full m tag size base st n p s
-Entered m tag size base st aStuck = Enterable m tag size → ⊥
+Entered mode tag size base st (Going s) = StepTaken mode tag size st s
+Entered mode tag size base st (Ended n p s) = NoStepLeft mode tag size base st n p s
+Entered mode tag size base st aStuck = Enterable mode tag size → ⊥
 
 -- the gate or the cx of this tag
 unfoldable pub actAt : Mode → (room : ℕ) → ℕ → Place → List ℕ → Frame → Run (Unit {0})
-actAt m room tag p l f = cond (eqb tag 35) (cxAt m room p l f) (gateAt m room tag p l f)
+actAt mode room tag p l f = cond (eqb tag 35) (cxAt mode room p l f) (gateAt mode room tag p l f)

@@ -7,7 +7,7 @@ ghost use lib.Seq.{slice};
 ghost use lib.IntN.{ℤ, _-ℤ_};
 ghost use Rattle.language.specs.Machine.{roundsOf, startOf};
 ghost use Rattle.language.specs.Form.{inRange};
-ghost use Rattle.emit.specs.Squares.{Does};
+ghost use Rattle.emit.specs.Outcomes.{Does};
 ghost use Rattle.gates.specs.Gates.{codeOf, frameIn, directionOf, boundOf, Bounded, mostRounds, Repeated, turnOf, namelessOf, Entered, actAt, deeperOf, innerOf, enteredOf};
 use emit::Answer;
 use emit::Condition;
@@ -15,33 +15,33 @@ use emit::State;
 use fields::Header;
 use indexes::Value;
 use operands::Scope;
-use operands::Wired;
+use operands::WireMeaning;
 
 // What stays: the limit of steps, how many families may be called, the levels left, how many values are in scope, the
 // direction and the condition.
 pub struct Mode {
     pub limit: u64,
-    pub seen: u16,
+    pub families_visible: u16,
     pub levels: u8,
-    pub many: u8,
-    pub back: bool,
-    pub cond: Condition,
+    pub variables: u8,
+    pub reversed: bool,
+    pub condition: Condition,
 }
 
 // The op of a gate in a direction.
-fn code(tag: u8, back: bool) -> u8
-    ensures { λ r. ⌜ r ≡ codeOf tag back ⌝ }
+fn code(tag: u8, reversed: bool) -> u8
+    ensures { λ r. ⌜ r ≡ codeOf tag reversed ⌝ }
 {
     if tag == 32 {
         return 1;
     }
     if tag == 33 {
-        if back {
+        if reversed {
             return 3;
         }
         return 2;
     }
-    if back {
+    if reversed {
         return 2;
     }
     3
@@ -49,7 +49,7 @@ fn code(tag: u8, back: bool) -> u8
 
 // Writes the gate or the cx with this tag, whose content is from `from` to `to` and whose step is taken.
 pub fn act(
-    p: &[u8],
+    bytes: &[u8],
     from: usize,
     to: usize,
     tag: u8,
@@ -57,30 +57,30 @@ pub fn act(
     vars: &[i32; 20],
     scope: Scope,
     regs: &[u16; 765],
-    m: Mode,
+    mode: Mode,
     st: State,
     out: &mut [u8],
 ) -> Answer
-    requires { ⌜ to ≤ length (now p) ⌝ }
-    requires { ⌜ (m .many ≤ 20) × (place ≤ 65535) ⌝ }
-    ensures { λ r. ⌜ Does (now (out .entry)) st (now (out .exit)) r (actAt m (length (now (out .entry))) tag place (slice from to (now (p .entry))) (frameIn m (take (m .many) (now (vars .entry))) scope (now (regs .entry)))) ⌝ }
+    requires { ⌜ to ≤ length (now bytes) ⌝ }
+    requires { ⌜ (mode .variables ≤ 20) × (place ≤ 65535) ⌝ }
+    ensures { λ r. ⌜ Does (now (out .entry)) st (now (out .exit)) r (actAt mode (length (now (out .entry))) tag place (slice from to (now (bytes .entry))) (frameIn mode (take (mode .variables) (now (vars .entry))) scope (now (regs .entry)))) ⌝ }
 {
-    let many = fields::wide(m.many);
-    let c = m.cond;
-    match operands::wire_at(p, from, to, vars, many, scope, regs) {
-        Wired::Over => Answer::Ended(24, place as u16, st),
-        Wired::Stuck => Answer::Stuck,
-        Wired::Is(x) => {
+    let many = fields::wide(mode.variables);
+    let c = mode.condition;
+    match operands::wire_at(bytes, from, to, vars, many, scope, regs) {
+        WireMeaning::Over => Answer::Ended(24, place as u16, st),
+        WireMeaning::Stuck => Answer::Stuck,
+        WireMeaning::Is(x) => {
             if tag != 35 {
-                return emit::write_record(out, st, place, code(tag, m.back), x.0, 0, c);
+                return emit::write_record(out, st, place, code(tag, mode.reversed), x.0, 0, c);
             }
-            let Header::Whole(_, mid) = fields::header_at(p, from, to) else {
+            let Header::Whole(_, mid) = fields::header_at(bytes, from, to) else {
                 return Answer::Stuck;
             };
-            match operands::wire_at(p, mid, to, vars, many, scope, regs) {
-                Wired::Over => Answer::Ended(24, place as u16, st),
-                Wired::Stuck => Answer::Stuck,
-                Wired::Is(y) => {
+            match operands::wire_at(bytes, mid, to, vars, many, scope, regs) {
+                WireMeaning::Over => Answer::Ended(24, place as u16, st),
+                WireMeaning::Stuck => Answer::Stuck,
+                WireMeaning::Is(y) => {
                     if x.0 == y.0 {
                         return Answer::Ended(25, place as u16, st);
                     }
@@ -109,23 +109,23 @@ fn bound(v: Value) -> Bounds
 }
 
 // The bounds of the for whose content is from `from` to `to`.
-fn bounds_of(p: &[u8], from: usize, to: usize, vars: &[i32; 20], many: usize) -> Bounds
-    requires { ⌜ to ≤ length (now p) ⌝ }
+fn bounds_of(bytes: &[u8], from: usize, to: usize, vars: &[i32; 20], many: usize) -> Bounds
+    requires { ⌜ to ≤ length (now bytes) ⌝ }
     requires { ⌜ many ≤ 20 ⌝ }
-    ensures { λ r. ⌜ Bounded (now (p .entry)) from to (take many (now (vars .entry))) r ⌝ }
+    ensures { λ r. ⌜ Bounded (now (bytes .entry)) from to (take many (now (vars .entry))) r ⌝ }
 {
-    let low = indexes::index_at(p, from, to, vars, many);
+    let low = indexes::index_at(bytes, from, to, vars, many);
     let Value::Is(x) = low else {
         return bound(low);
     };
-    let Header::Whole(_, mid) = fields::header_at(p, from, to) else {
+    let Header::Whole(_, mid) = fields::header_at(bytes, from, to) else {
         return Bounds::Stuck;
     };
-    let high = indexes::index_at(p, mid, to, vars, many);
+    let high = indexes::index_at(bytes, mid, to, vars, many);
     let Value::Is(y) = high else {
         return bound(high);
     };
-    let Header::Whole(_, body) = fields::header_at(p, mid, to) else {
+    let Header::Whole(_, body) = fields::header_at(bytes, mid, to) else {
         return Bounds::Stuck;
     };
     Bounds::Are(x, y, body)
@@ -144,10 +144,10 @@ fn tally(x: i64, y: i64) -> usize
 }
 
 // The value of the first round: rising from the low bound, or falling from the high one.
-fn first_value(back: bool, x: i64, y: i64) -> i64
-    ensures { λ r. ⌜ r ≡ startOf (directionOf back) x y ⌝ }
+fn first_value(reversed: bool, x: i64, y: i64) -> i64
+    ensures { λ r. ⌜ r ≡ startOf (directionOf reversed) x y ⌝ }
 {
-    if back {
+    if reversed {
         return y;
     }
     x
@@ -162,26 +162,26 @@ pub enum Repeats {
 
 // How the body of the reverse or the for runs whose content is from `from` to `to`: of a reverse once.
 pub fn repeats_of(
-    p: &[u8],
+    bytes: &[u8],
     from: usize,
     to: usize,
     tag: u8,
     vars: &[i32; 20],
     many: usize,
-    back: bool,
+    reversed: bool,
 ) -> Repeats
-    requires { ⌜ to ≤ length (now p) ⌝ }
+    requires { ⌜ to ≤ length (now bytes) ⌝ }
     requires { ⌜ many ≤ 20 ⌝ }
-    ensures { λ r. ⌜ Repeated (now (p .entry)) from to tag (take many (now (vars .entry))) back r ⌝ }
+    ensures { λ r. ⌜ Repeated (now (bytes .entry)) from to tag (take many (now (vars .entry))) reversed r ⌝ }
 {
     if tag == 37 {
         return Repeats::Are(0, 1, from);
     }
-    match bounds_of(p, from, to, vars, many) {
+    match bounds_of(bytes, from, to, vars, many) {
         Bounds::Over => Repeats::Over,
         Bounds::Stuck => Repeats::Stuck,
         Bounds::Are(x, y, at) => {
-            let start = first_value(back, x, y);
+            let start = first_value(reversed, x, y);
             let total = tally(x, y);
             Repeats::Are(start, total, at)
         }
@@ -189,12 +189,12 @@ pub fn repeats_of(
 }
 
 // The loop variable in the round i, of a loop whose first value is `start`.
-pub fn turn(back: bool, start: i64, i: usize) -> i32
-    requires { ⌜ (inRange start ≡ true) × (inRange (turnOf back start i) ≡ true) ⌝ }
-    ensures { λ r. ⌜ r ≡ turnOf back start i ⌝ }
+pub fn turn(reversed: bool, start: i64, i: usize) -> i32
+    requires { ⌜ (inRange start ≡ true) × (inRange (turnOf reversed start i) ≡ true) ⌝ }
+    ensures { λ r. ⌜ r ≡ turnOf reversed start i ⌝ }
 {
     let k = i as i64;
-    if back {
+    if reversed {
         let z = start - k;
         return z as i32;
     }
@@ -210,11 +210,11 @@ fn nameless(tag: u8, size: usize) -> bool
 }
 
 // Enters the statement with this tag and so many bytes of content: takes its step, unless it has no meaning or none is left.
-pub fn step(tag: u8, size: usize, place: usize, m: Mode, st: State) -> Answer
+pub fn step(tag: u8, size: usize, place: usize, mode: Mode, st: State) -> Answer
     requires { ⌜ place ≤ 65535 ⌝ }
-    ensures { λ r. ⌜ Entered m tag size place st r ⌝ }
+    ensures { λ r. ⌜ Entered mode tag size place st r ⌝ }
 {
-    if m.levels == 0 {
+    if mode.levels == 0 {
         return Answer::Stuck;
     }
     if tag < 32 {
@@ -227,58 +227,58 @@ pub fn step(tag: u8, size: usize, place: usize, m: Mode, st: State) -> Answer
         return Answer::Stuck;
     }
     let steps = st.steps;
-    if m.limit <= steps {
+    if mode.limit <= steps {
         return Answer::Ended(26, place as u16, st);
     }
     let taken = steps + 1;
     Answer::Going(State {
-        at: st.at,
+        written: st.written,
         steps: taken,
     })
 }
 
 // A level deeper, with so many values in scope, in a direction.
-fn deeper(m: Mode, many: u8, back: bool) -> Mode
-    requires { ⌜ 0 < m .levels ⌝ }
-    ensures { λ r. ⌜ r ≡ deeperOf m many back ⌝ }
+fn deeper(mode: Mode, variables: u8, reversed: bool) -> Mode
+    requires { ⌜ 0 < mode .levels ⌝ }
+    ensures { λ r. ⌜ r ≡ deeperOf mode variables reversed ⌝ }
 {
-    let levels = m.levels;
-    let cond = m.cond;
+    let levels = mode.levels;
+    let condition = mode.condition;
     let below = levels - 1;
     Mode {
-        limit: m.limit,
-        seen: m.seen,
+        limit: mode.limit,
+        families_visible: mode.families_visible,
         levels: below,
-        many,
-        back,
-        cond,
+        variables,
+        reversed,
+        condition,
     }
 }
 
 // What stays in the body of the reverse or the for with this tag.
-pub fn inner(m: Mode, tag: u8) -> Mode
-    requires { ⌜ (0 < m .levels) × (m .many ≤ 19) ⌝ }
-    ensures { λ r. ⌜ r ≡ innerOf m tag ⌝ }
+pub fn inner(mode: Mode, tag: u8) -> Mode
+    requires { ⌜ (0 < mode .levels) × (mode .variables ≤ 19) ⌝ }
+    ensures { λ r. ⌜ r ≡ innerOf mode tag ⌝ }
 {
-    let many = m.many;
+    let variables = mode.variables;
     if tag == 37 {
-        return deeper(m, many, !m.back);
+        return deeper(mode, variables, !mode.reversed);
     }
-    let more = many + 1;
-    deeper(m, more, m.back)
+    let more = variables + 1;
+    deeper(mode, more, mode.reversed)
 }
 
 // What stays in the body of family n, which has so many values.
-pub fn entered(m: Mode, n: u16, many: u8) -> Mode
-    ensures { λ r. ⌜ r ≡ enteredOf m n many ⌝ }
+pub fn entered(mode: Mode, n: u16, variables: u8) -> Mode
+    ensures { λ r. ⌜ r ≡ enteredOf mode n variables ⌝ }
 {
-    let kept = m.cond;
+    let kept = mode.condition;
     Mode {
-        limit: m.limit,
-        seen: n,
+        limit: mode.limit,
+        families_visible: n,
         levels: 16,
-        many,
-        back: m.back,
-        cond: kept,
+        variables,
+        reversed: mode.reversed,
+        condition: kept,
     }
 }

@@ -4,7 +4,7 @@ ghost use mathlib.Core.Path.{_≡_};
 ghost use mathlib.Core.Bool.{true, false};
 ghost use Prim.Native.Nat.{ℕ, _<_, _≤_};
 ghost use lib.ListN.{length};
-ghost use Rattle.lists.specs.Walks.{mostKept, Kept, Lasts, Walking, Sought, Starting, passedOf, wholeOf};
+ghost use Rattle.lists.specs.Walks.{mostKept, PositionsKept, Lasts, Walking, Sought, Starting, passedOf, wholeOf};
 use fields::Header;
 
 // How many positions are kept at most.
@@ -79,9 +79,9 @@ fn skipped(all: bool, at: usize, due: usize) -> bool
 
 // Finds the last field from the last kept position on. It is kept, and so are some on the way to it, or all. At a bad header
 // none is.
-fn last(p: &[u8], from: usize, to: usize, cuts: &mut [u16; KEPT], depth: usize) -> Held
-    requires { ⌜ (to ≤ length (now p)) × (to ≤ 65535) × (from < to) × (depth ≤ mostKept) × Kept (now p) from (now cuts) depth to ⌝ }
-    ensures { λ r. ⌜ Lasts (now (p .entry)) from to (now (cuts .exit)) (r .depth) (r .sure) ⌝ }
+fn last(bytes: &[u8], from: usize, to: usize, cuts: &mut [u16; KEPT], depth: usize) -> Held
+    requires { ⌜ (to ≤ length (now bytes)) × (to ≤ 65535) × (from < to) × (depth ≤ mostKept) × PositionsKept (now bytes) from (now cuts) depth to ⌝ }
+    ensures { λ r. ⌜ Lasts (now (bytes .entry)) from to (now (cuts .exit)) (r .depth) (r .sure) ⌝ }
 {
     tell(*cuts);
     let first = depth - 1;
@@ -90,7 +90,7 @@ fn last(p: &[u8], from: usize, to: usize, cuts: &mut [u16; KEPT], depth: usize) 
     let mut due: usize = 0;
     let mut all = true;
     loop {
-        let Header::Whole(_, next) = fields::header_at(p, at, to) else {
+        let Header::Whole(_, next) = fields::header_at(bytes, at, to) else {
             return Held { depth: 0, sure: 0 };
         };
         let top = d - 1;
@@ -143,17 +143,17 @@ fn last(p: &[u8], from: usize, to: usize, cuts: &mut [u16; KEPT], depth: usize) 
 }
 
 // Begins a walk of the list from `from` to `to`.
-pub fn begin(p: &[u8], from: usize, to: usize, back: bool, cuts: &mut [u16; KEPT]) -> Begun
-    requires { ⌜ (from ≤ to) × (to ≤ length (now p)) × (to ≤ 65535) ⌝ }
-    ensures { λ r. ⌜ Starting (now (p .entry)) from to back (now (cuts .exit)) r ⌝ }
+pub fn begin(bytes: &[u8], from: usize, to: usize, reversed: bool, cuts: &mut [u16; KEPT]) -> Begun
+    requires { ⌜ (from ≤ to) × (to ≤ length (now bytes)) × (to ≤ 65535) ⌝ }
+    ensures { λ r. ⌜ Starting (now (bytes .entry)) from to reversed (now (cuts .exit)) r ⌝ }
 {
-    if back {
+    if reversed {
         if to <= from {
             return Begun::With(0, 0);
         }
         tell(*cuts);
         cuts[0] = from as u16;
-        let held = last(p, from, to, cuts, 1);
+        let held = last(bytes, from, to, cuts, 1);
         if held.depth == 0 {
             return Begun::Broken;
         }
@@ -176,13 +176,13 @@ pub fn whole(from: usize, to: usize, depth: usize, sure: usize) -> Walk
 }
 
 // Finds the next field.
-pub fn seek(p: &[u8], w: Walk, back: bool, cuts: &mut [u16; KEPT]) -> Walk
-    requires { ⌜ Walking (now p) back w (now cuts) × (w .at < w .to) × (w .to ≤ 65535) ⌝ }
-    ensures { λ r. ⌜ Sought (now (p .entry)) back w r (now (cuts .exit)) ⌝ }
+pub fn seek(bytes: &[u8], w: Walk, reversed: bool, cuts: &mut [u16; KEPT]) -> Walk
+    requires { ⌜ Walking (now bytes) reversed w (now cuts) × (w .at < w .to) × (w .to ≤ 65535) ⌝ }
+    ensures { λ r. ⌜ Sought (now (bytes .entry)) reversed w r (now (cuts .exit)) ⌝ }
 {
     let at = w.at;
     let to = w.to;
-    if back {
+    if reversed {
         if w.sure < w.depth {
             tell(*cuts);
             let below = w.depth - 1;
@@ -195,7 +195,7 @@ pub fn seek(p: &[u8], w: Walk, back: bool, cuts: &mut [u16; KEPT]) -> Walk
                 sure: w.sure,
             };
         }
-        let held = last(p, at, to, cuts, w.depth);
+        let held = last(bytes, at, to, cuts, w.depth);
         tell(*cuts);
         let depth = held.depth - 1;
         let here = long(cuts[depth]);
@@ -217,11 +217,11 @@ pub fn seek(p: &[u8], w: Walk, back: bool, cuts: &mut [u16; KEPT]) -> Walk
 }
 
 // Past the next field, which ends at `end`.
-pub fn passed(w: Walk, back: bool, end: usize) -> Walk
-    ensures { λ r. ⌜ r ≡ passedOf w back end ⌝ }
+pub fn passed(w: Walk, reversed: bool, end: usize) -> Walk
+    ensures { λ r. ⌜ r ≡ passedOf w reversed end ⌝ }
 {
     let here = w.here;
-    if back {
+    if reversed {
         return Walk {
             at: w.at,
             to: here,

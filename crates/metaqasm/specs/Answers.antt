@@ -13,10 +13,10 @@ abbrev pub answered : MetaqasmResult → Result
 answered r = record { number = r .number; place = r .place; records = r .records; steps = r .steps }
 
 -- an answer that a result can tell: not stuck
-abbrev pub Told : Answer → Type 0
-Told (Going s) = Unit {0}
-Told (Ended n p s) = Unit {0}
-Told Stuck = ⊥
+abbrev pub NotStuck : Answer → Type 0
+NotStuck (Going s) = Unit {0}
+NotStuck (Ended n p s) = Unit {0}
+NotStuck Stuck = ⊥
 
 -- Where the check gives 0, the answer of a run is sound: its number is 0 or 24 to 27, it keeps to the limit and the output, and its records name only what is declared.
 abbrev pub SoundRun : (program : List ℕ) (limit : ℕ) (lent : List ℕ) → Reply → Type 0

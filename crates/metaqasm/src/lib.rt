@@ -4,8 +4,8 @@ ghost use mathlib.Core.List.{List};
 ghost use Prim.Native.Nat.{ℕ, _*_, _≤_};
 ghost use lib.ListN.{length};
 ghost use Rattle.language.specs.Result.{finished, checkResult, instanceOutcome, runOutcome};
-ghost use Rattle.runs.specs.Concluded.{concluded, resultIn};
-ghost use Rattle.metaqasm.specs.Answers.{answered, Told, SoundRun, SoundInstance};
+ghost use Rattle.runs.specs.Conclusions.{concluded, resultIn};
+ghost use Rattle.metaqasm.specs.Answers.{answered, NotStuck, SoundRun, SoundInstance};
 use check_program::Outcome;
 use emit::Answer;
 use emit::State;
@@ -49,21 +49,21 @@ fn result(number: u32, place: u32, s: State) -> MetaqasmResult
     MetaqasmResult {
         number,
         place,
-        records: (s.at / 8) as u64,
+        records: (s.written / 8) as u64,
         steps: s.steps,
     }
 }
 
 // The result of a run that came to an answer.
-fn told(a: Answer) -> MetaqasmResult
-    requires { ⌜ Told a ⌝ }
+fn result_of_answer(a: Answer) -> MetaqasmResult
+    requires { ⌜ NotStuck a ⌝ }
     ensures { λ r. ⌜ ((output : List ℕ) → concluded output a ≡ finished (record { result = answered r; output = output })) ⌝ }
 {
     match a {
         Answer::Going(s) => result(0, 0, s),
         Answer::Ended(n, p, s) => result(n as u32, p as u32, s),
         // Not reached: what is required rules it out, and the theorem gives that. Its number is none that a call answers.
-        Answer::Stuck => result(4294967295, 0, State { at: 0, steps: 0 }),
+        Answer::Stuck => result(4294967295, 0, State { written: 0, steps: 0 }),
     }
 }
 
@@ -89,7 +89,7 @@ pub extern "C" fn metaqasm_run(program: &[u8], limit: u64, output: &mut [u8]) ->
     if first.number != 0 {
         return first;
     }
-    told(runs::run(program, limit, output))
+    result_of_answer(runs::run(program, limit, output))
 }
 
 fn wide(n: u32) -> usize
@@ -116,5 +116,5 @@ pub extern "C" fn metaqasm_instance(
     if first.number != 0 {
         return first;
     }
-    told(runs::instance(program, wide(family), sizes, limit, output))
+    result_of_answer(runs::instance(program, wide(family), sizes, limit, output))
 }

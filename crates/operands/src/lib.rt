@@ -8,7 +8,7 @@ ghost use Rattle.language.specs.Form.{inRange};
 ghost use lib.IntN.{ℤ};
 ghost use lib.ListN.{getElem?, take};
 ghost use mathlib.Core.List.{[], _∷_, _++_, map};
-ghost use Rattle.operands.specs.Stand.{ofParameter, registerOf, registersOf, operandsOf, Names, spotOf, placeOf, Elements, Operands, AsWire, WireAt, AsBit, BitAt};
+ghost use Rattle.operands.specs.Meanings.{ofParameter, registerOf, registersOf, operandsOf, OperandIs, locationIn, locationOf, ElementIs, FieldMeans, AsWire, WireAt, AsBit, BitAt};
 use fields::Header;
 use indexes::Value;
 
@@ -36,7 +36,7 @@ pub struct Scope {
 }
 
 // What an operand stands for, or that an index is out of range, or that it stands for nothing.
-pub enum Stands {
+pub enum OperandMeaning {
     AWire(Wire),
     ABit(Bit),
     Wires(Wire, u16),
@@ -46,7 +46,7 @@ pub enum Stands {
 }
 
 // A location's number, or none.
-pub enum Spot {
+pub enum Location {
     At(u16),
     Nowhere,
 }
@@ -58,20 +58,20 @@ fn tell_table(regs: [u16; 765])
 
 // The register n of the first `count` in a table that has three numbers for each: 0 or 1 for a quantum or a classical one, its
 // first location, its size.
-fn register(regs: &[u16; 765], count: u8, n: usize) -> Stands
-    ensures { λ r. ⌜ Names (registersOf (take (3 * count) (now (regs .entry)))) n r ⌝ }
+fn register(regs: &[u16; 765], count: u8, n: usize) -> OperandMeaning
+    ensures { λ r. ⌜ OperandIs (registersOf (take (3 * count) (now (regs .entry)))) n r ⌝ }
 {
     tell_table(*regs);
     if fields::wide(count) <= n {
-        return Stands::Stuck;
+        return OperandMeaning::Stuck;
     }
     let at = 3 * n;
     let first = at + 1;
     let size = at + 2;
     if regs[at] == 0 {
-        return Stands::Wires(Wire(regs[first]), regs[size]);
+        return OperandMeaning::Wires(Wire(regs[first]), regs[size]);
     }
-    Stands::Bits(Bit(regs[first]), regs[size])
+    OperandMeaning::Bits(Bit(regs[first]), regs[size])
 }
 
 // Puts a register into the table, behind the `count` that it has: 0 or 1 for a quantum or a classical one, its first location
@@ -95,28 +95,28 @@ fn tell(ps: [Parameter; 8])
 {}
 
 // What the parameter n stands for.
-fn bound(scope: Scope, n: usize) -> Stands
-    ensures { λ r. ⌜ Names (map ofParameter (take (scope .count) (scope .params))) n r ⌝ }
+fn bound(scope: Scope, n: usize) -> OperandMeaning
+    ensures { λ r. ⌜ OperandIs (map ofParameter (take (scope .count) (scope .params))) n r ⌝ }
 {
     let ps = scope.params;
     tell(ps);
     if fields::wide(scope.count) <= n {
-        return Stands::Stuck;
+        return OperandMeaning::Stuck;
     }
     if 8 <= n {
-        return Stands::Stuck;
+        return OperandMeaning::Stuck;
     }
     let q = ps[n];
     let o = q.operand;
     match o {
-        Operand::Single(w) => Stands::AWire(w),
-        Operand::Register { first, size } => Stands::Wires(first, size),
+        Operand::Single(w) => OperandMeaning::AWire(w),
+        Operand::Register { first, size } => OperandMeaning::Wires(first, size),
     }
 }
 
 // What the operand number n stands for.
-fn named(scope: Scope, regs: &[u16; 765], n: usize) -> Stands
-    ensures { λ r. ⌜ Names (operandsOf scope (now (regs .entry))) n r ⌝ }
+fn named(scope: Scope, regs: &[u16; 765], n: usize) -> OperandMeaning
+    ensures { λ r. ⌜ OperandIs (operandsOf scope (now (regs .entry))) n r ⌝ }
 {
     if scope.top {
         return register(regs, scope.count, n);
@@ -131,58 +131,58 @@ fn long(x: u16) -> usize
 }
 
 // The location i of a register.
-fn locate(first: u16, size: u16, i: usize) -> Spot
-    ensures { λ r. ⌜ r ≡ spotOf first size i ⌝ }
+fn locate(first: u16, size: u16, i: usize) -> Location
+    ensures { λ r. ⌜ r ≡ locationIn first size i ⌝ }
 {
     if long(size) <= i {
-        return Spot::Nowhere;
+        return Location::Nowhere;
     }
     let n = long(first) + i;
     if 65536 <= n {
-        return Spot::Nowhere;
+        return Location::Nowhere;
     }
-    Spot::At(n as u16)
+    Location::At(n as u16)
 }
 
 // The location that an index names in a register.
-fn place(first: u16, size: u16, z: i64) -> Spot
+fn indexed(first: u16, size: u16, z: i64) -> Location
     requires { ⌜ inRange z ≡ true ⌝ }
-    ensures { λ r. ⌜ r ≡ placeOf first size z ⌝ }
+    ensures { λ r. ⌜ r ≡ locationOf first size z ⌝ }
 {
     if z < 0 {
-        return Spot::Nowhere;
+        return Location::Nowhere;
     }
     locate(first, size, z as usize)
 }
 
 // What an element stands for.
-fn element(s: Stands, z: i64) -> Stands
+fn element(s: OperandMeaning, z: i64) -> OperandMeaning
     requires { ⌜ inRange z ≡ true ⌝ }
-    ensures { λ r. ⌜ Elements s z r ⌝ }
+    ensures { λ r. ⌜ ElementIs s z r ⌝ }
 {
     match s {
-        Stands::Wires(first, size) => {
-            let Spot::At(n) = place(first.0, size, z) else {
-                return Stands::Stuck;
+        OperandMeaning::Wires(first, size) => {
+            let Location::At(n) = indexed(first.0, size, z) else {
+                return OperandMeaning::Stuck;
             };
-            Stands::AWire(Wire(n))
+            OperandMeaning::AWire(Wire(n))
         }
-        Stands::Bits(first, size) => {
-            let Spot::At(n) = place(first.0, size, z) else {
-                return Stands::Stuck;
+        OperandMeaning::Bits(first, size) => {
+            let Location::At(n) = indexed(first.0, size, z) else {
+                return OperandMeaning::Stuck;
             };
-            Stands::ABit(Bit(n))
+            OperandMeaning::ABit(Bit(n))
         }
-        Stands::AWire(w) => Stands::Stuck,
-        Stands::ABit(b) => Stands::Stuck,
-        Stands::Over => Stands::Over,
-        Stands::Stuck => Stands::Stuck,
+        OperandMeaning::AWire(w) => OperandMeaning::Stuck,
+        OperandMeaning::ABit(b) => OperandMeaning::Stuck,
+        OperandMeaning::Over => OperandMeaning::Over,
+        OperandMeaning::Stuck => OperandMeaning::Stuck,
     }
 }
 
 // What the operand with this tag, whose content is from `from` to `to`, stands for.
 pub fn meaning(
-    p: &[u8],
+    bytes: &[u8],
     from: usize,
     to: usize,
     tag: u8,
@@ -190,116 +190,116 @@ pub fn meaning(
     many: usize,
     scope: Scope,
     regs: &[u16; 765],
-) -> Stands
-    requires { ⌜ (from ≤ to) × (to ≤ length (now p)) ⌝ }
+) -> OperandMeaning
+    requires { ⌜ (from ≤ to) × (to ≤ length (now bytes)) ⌝ }
     requires { ⌜ many ≤ 20 ⌝ }
-    ensures { λ r. ⌜ Operands tag (slice from to (now (p .entry))) (take many (now (vars .entry))) (operandsOf scope (now (regs .entry))) r ⌝ }
+    ensures { λ r. ⌜ FieldMeans tag (slice from to (now (bytes .entry))) (take many (now (vars .entry))) (operandsOf scope (now (regs .entry))) r ⌝ }
 {
     if from == to {
-        return Stands::Stuck;
+        return OperandMeaning::Stuck;
     }
-    let s = named(scope, regs, fields::wide(p[from]));
+    let s = named(scope, regs, fields::wide(bytes[from]));
     if tag == 48 {
         return s;
     }
     if tag != 49 {
-        return Stands::Stuck;
+        return OperandMeaning::Stuck;
     }
     let at = from + 1;
-    match indexes::index_at(p, at, to, vars, many) {
+    match indexes::index_at(bytes, at, to, vars, many) {
         Value::Is(z) => element(s, z),
         Value::Over => {
-            if let Stands::Stuck = s {
-                return Stands::Stuck;
+            if let OperandMeaning::Stuck = s {
+                return OperandMeaning::Stuck;
             }
-            Stands::Over
+            OperandMeaning::Over
         }
-        Value::Stuck => Stands::Stuck,
+        Value::Stuck => OperandMeaning::Stuck,
     }
 }
 
 // The wire that an operand stands for.
-pub enum Wired {
+pub enum WireMeaning {
     Is(Wire),
     Over,
     Stuck,
 }
 
-fn as_wire(s: Stands) -> Wired
+fn as_wire(s: OperandMeaning) -> WireMeaning
     ensures { λ r. ⌜ AsWire s r ⌝ }
 {
     match s {
-        Stands::AWire(w) => Wired::Is(w),
-        Stands::ABit(b) => Wired::Stuck,
-        Stands::Wires(w, n) => Wired::Stuck,
-        Stands::Bits(b, n) => Wired::Stuck,
-        Stands::Over => Wired::Over,
-        Stands::Stuck => Wired::Stuck,
+        OperandMeaning::AWire(w) => WireMeaning::Is(w),
+        OperandMeaning::ABit(b) => WireMeaning::Stuck,
+        OperandMeaning::Wires(w, n) => WireMeaning::Stuck,
+        OperandMeaning::Bits(b, n) => WireMeaning::Stuck,
+        OperandMeaning::Over => WireMeaning::Over,
+        OperandMeaning::Stuck => WireMeaning::Stuck,
     }
 }
 
 // The wire of the operand due at `at` in the bytes up to `to`.
 pub fn wire_at(
-    p: &[u8],
+    bytes: &[u8],
     at: usize,
     to: usize,
     vars: &[i32; 20],
     many: usize,
     scope: Scope,
     regs: &[u16; 765],
-) -> Wired
-    requires { ⌜ to ≤ length (now p) ⌝ }
+) -> WireMeaning
+    requires { ⌜ to ≤ length (now bytes) ⌝ }
     requires { ⌜ many ≤ 20 ⌝ }
-    ensures { λ r. ⌜ WireAt (slice at to (now (p .entry))) 0 (take many (now (vars .entry))) (operandsOf scope (now (regs .entry))) r ⌝ }
+    ensures { λ r. ⌜ WireAt (slice at to (now (bytes .entry))) 0 (take many (now (vars .entry))) (operandsOf scope (now (regs .entry))) r ⌝ }
 {
-    let Header::Whole(tag, end) = fields::header_at(p, at, to) else {
-        return Wired::Stuck;
+    let Header::Whole(tag, end) = fields::header_at(bytes, at, to) else {
+        return WireMeaning::Stuck;
     };
     let from = at + 3;
     // a whole operand is read in place, and the scope is not copied
     if tag == 48 && from < end {
-        return as_wire(named(scope, regs, fields::wide(p[from])));
+        return as_wire(named(scope, regs, fields::wide(bytes[from])));
     }
-    as_wire(meaning(p, from, end, tag, vars, many, scope, regs))
+    as_wire(meaning(bytes, from, end, tag, vars, many, scope, regs))
 }
 
 // The bit that an operand stands for.
-pub enum Bitten {
+pub enum BitMeaning {
     Is(Bit),
     Over,
     Stuck,
 }
 
-fn as_bit(s: Stands) -> Bitten
+fn as_bit(s: OperandMeaning) -> BitMeaning
     ensures { λ r. ⌜ AsBit s r ⌝ }
 {
     match s {
-        Stands::AWire(w) => Bitten::Stuck,
-        Stands::ABit(b) => Bitten::Is(b),
-        Stands::Wires(w, n) => Bitten::Stuck,
-        Stands::Bits(b, n) => Bitten::Stuck,
-        Stands::Over => Bitten::Over,
-        Stands::Stuck => Bitten::Stuck,
+        OperandMeaning::AWire(w) => BitMeaning::Stuck,
+        OperandMeaning::ABit(b) => BitMeaning::Is(b),
+        OperandMeaning::Wires(w, n) => BitMeaning::Stuck,
+        OperandMeaning::Bits(b, n) => BitMeaning::Stuck,
+        OperandMeaning::Over => BitMeaning::Over,
+        OperandMeaning::Stuck => BitMeaning::Stuck,
     }
 }
 
 // The bit of the operand due at `at` in the bytes up to `to`.
 pub fn bit_at(
-    p: &[u8],
+    bytes: &[u8],
     at: usize,
     to: usize,
     vars: &[i32; 20],
     many: usize,
     scope: Scope,
     regs: &[u16; 765],
-) -> Bitten
-    requires { ⌜ to ≤ length (now p) ⌝ }
+) -> BitMeaning
+    requires { ⌜ to ≤ length (now bytes) ⌝ }
     requires { ⌜ many ≤ 20 ⌝ }
-    ensures { λ r. ⌜ BitAt (slice at to (now (p .entry))) 0 (take many (now (vars .entry))) (operandsOf scope (now (regs .entry))) r ⌝ }
+    ensures { λ r. ⌜ BitAt (slice at to (now (bytes .entry))) 0 (take many (now (vars .entry))) (operandsOf scope (now (regs .entry))) r ⌝ }
 {
-    let Header::Whole(tag, end) = fields::header_at(p, at, to) else {
-        return Bitten::Stuck;
+    let Header::Whole(tag, end) = fields::header_at(bytes, at, to) else {
+        return BitMeaning::Stuck;
     };
     let from = at + 3;
-    as_bit(meaning(p, from, end, tag, vars, many, scope, regs))
+    as_bit(meaning(bytes, from, end, tag, vars, many, scope, regs))
 }

@@ -1,8 +1,8 @@
-pub mod Reaching
-pub mod Declaring
-pub mod Acting
-pub mod Concluding
-pub mod Topping
-pub mod Instancing
-pub mod Looping
-pub mod Running
+pub mod Reached
+pub mod Declarations
+pub mod TopActions
+pub mod Conclusions
+pub mod TopTags
+pub mod InstanceRuns
+pub mod TopLoop
+pub mod TopFields

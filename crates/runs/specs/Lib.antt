@@ -1,3 +1,3 @@
 pub mod Whole
-pub mod Concluded
-pub mod Acting
+pub mod Conclusions
+pub mod TopFields

@@ -13,7 +13,7 @@ use Rattle.fields.specs.Header.{fieldsAt}
 use Rattle.fields.specs.Table.{Listed}
 use Rattle.emit.specs.declared.State.{State}
 use Rattle.language.specs.Lookup.{meaning}
-use Rattle.operands.specs.Stand.{theWire, theBit, registersOf}
+use Rattle.operands.specs.Meanings.{theWire, theBit, registersOf}
 use Rattle.calls.specs.Families.{declaredAt}
 use Rattle.runs.specs.declared.Totals.{Totals}
 
@@ -49,7 +49,7 @@ abbrev pub sizeIn : List ℕ → ℕ
 sizeIn p = twoBytes (getD p 0 0) (getD p 1 0)
 
 -- content that declares a register, after so many registers with so many qubits or bits
-pub record Room (p : List ℕ) (count total : ℕ) : Type 0 where
+pub record RegisterRoom (p : List ℕ) (count total : ℕ) : Type 0 where
   pub long : 2 ≤ length p
   pub few : count < mostRegisters
   pub fits : total + sizeIn p ≤ 65535
@@ -65,8 +65,8 @@ pub record DeclareReady (tag : ℕ) (p : List ℕ) (t : Totals) : Type 0 where
   pub least : 1 ≤ tag
   pub most : tag ≤ 3
   pub family : tag ≡ 1 → t .families < 255
-  pub quantum : tag ≡ 2 → Room p (t .registers) (t .qubits)
-  pub classical : tag ≡ 3 → Room p (t .registers) (t .bits)
+  pub quantum : tag ≡ 2 → RegisterRoom p (t .registers) (t .qubits)
+  pub classical : tag ≡ 3 → RegisterRoom p (t .registers) (t .bits)
 
 -- the tables with one register more
 abbrev pub OneMore : (isQuantum : Bool) → (p : List ℕ) → Totals → (regs regs′ : List ℕ) → Totals → Type 0
@@ -92,7 +92,7 @@ pub record FullTable (l table : List ℕ) : Type 0 where
 
 -- nothing is written yet, and no step is taken
 abbrev pub started : State
-started = record { at = 0; steps = 0 }
+started = record { written = 0; steps = 0 }
 
 -- the family k of a program, whose field is at `at`, as the machine knows it
 abbrev pub familyWith : (limit room : ℕ) → List ℕ → (k at : ℕ) → Family

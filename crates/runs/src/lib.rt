@@ -9,14 +9,14 @@ ghost use lib.Seq.{slice};
 ghost use Rattle.language.specs.Read.{field, fields, read, readTop};
 ghost use Rattle.language.specs.Machine.{actTop, whenBit, runTops, runProgram, nothingYet, allDeclared, instanceRun};
 ghost use Rattle.language.specs.Result.{conclusionOf, instanceOf};
-ghost use Rattle.operands.specs.Stand.{theBit, registersOf};
-ghost use Rattle.emit.specs.Squares.{Does, conditionOf};
+ghost use Rattle.operands.specs.Meanings.{theBit, registersOf};
+ghost use Rattle.emit.specs.Outcomes.{Does, conditionOf};
 ghost use Rattle.gates.specs.Gates.{frameIn};
 ghost use Rattle.calls.specs.Families.{Entry, Tabled};
 ghost use Rattle.unroller.specs.Runs.{listRun};
-ghost use Rattle.runs.specs.Whole.{totalOf, moreLocations, registerFrom, sizeIn, Room, Acceptable, moreFamilies, DeclareReady, Declares, DeclaringTag, FullTable, started, familyWith};
-ghost use Rattle.runs.specs.Acting.{globalsIn, topMode, underMode, ifAt, Within, IfReady, ActReady};
-ghost use Rattle.runs.specs.Concluded.{concluded};
+ghost use Rattle.runs.specs.Whole.{totalOf, moreLocations, registerFrom, sizeIn, RegisterRoom, Acceptable, moreFamilies, DeclareReady, Declares, DeclaringTag, FullTable, started, familyWith};
+ghost use Rattle.runs.specs.TopFields.{globalsIn, topMode, underMode, ifAt, WholeField, IfReady, ActReady};
+ghost use Rattle.runs.specs.Conclusions.{concluded};
 use emit::Answer;
 use emit::Condition;
 use emit::State;
@@ -25,7 +25,7 @@ use gates::Mode;
 use layout::Layout;
 use layout::Sizes;
 use operands::Bit;
-use operands::Bitten;
+use operands::BitMeaning;
 use operands::Operand;
 use operands::Parameter;
 use operands::Scope;
@@ -41,7 +41,7 @@ pub struct Totals {
 
 // Declares the register with this content: it goes to the table.
 fn register(p: &[u8], quantum: bool, t: Totals, regs: &mut [u16; 765]) -> Totals
-    requires { ⌜ Room (now p) (t .registers) (totalOf quantum t) ⌝ }
+    requires { ⌜ RegisterRoom (now p) (t .registers) (totalOf quantum t) ⌝ }
     ensures { λ r. ⌜ r ≡ moreLocations quantum t (sizeIn (now (p .entry))) ⌝ }
     ensures { λ _. ⌜ registersOf (take (3 * (t .registers + 1)) (now (regs .exit))) ≡ registersOf (take (3 * t .registers) (now (regs .entry))) ++ (registerFrom quantum (totalOf quantum t) (sizeIn (now (p .entry))) ∷ []) ⌝ }
 {
@@ -104,25 +104,25 @@ fn top_mode(limit: u64, seen: u16, many: u8) -> Mode
 {
     Mode {
         limit,
-        seen,
+        families_visible: seen,
         levels: 16,
-        many,
-        back: false,
-        cond: Condition::Always,
+        variables: many,
+        reversed: false,
+        condition: Condition::Always,
     }
 }
 
 // How statements under a condition are run.
-fn under_mode(limit: u64, seen: u16, cond: Condition) -> Mode
-    ensures { λ r. ⌜ r ≡ underMode limit seen cond ⌝ }
+fn under_mode(limit: u64, seen: u16, condition: Condition) -> Mode
+    ensures { λ r. ⌜ r ≡ underMode limit seen condition ⌝ }
 {
     Mode {
         limit,
-        seen,
+        families_visible: seen,
         levels: 15,
-        many: 0,
-        back: false,
-        cond,
+        variables: 0,
+        reversed: false,
+        condition,
     }
 }
 
@@ -135,14 +135,14 @@ fn once(
     scope: Scope,
     regs: &[u16; 765],
     table: &[u16; 255],
-    m: Mode,
+    mode: Mode,
     st: State,
     out: &mut [u8],
 ) -> Answer
     requires { ⌜ (from ≤ to) × (to ≤ length (now program)) ⌝ }
-    requires { ⌜ m .many + m .levels ≤ 20 ⌝ }
-    requires { ⌜ Tabled (now program) (now table) (m .seen) ⌝ }
-    ensures { λ r. ⌜ Does (now (out .entry)) st (now (out .exit)) r (listRun m (length (now (out .entry))) from (slice from to (now (program .entry))) (now (program .entry)) (frameIn m (take (m .many) (now (vars .entry))) scope (now (regs .entry)))) ⌝ }
+    requires { ⌜ mode .variables + mode .levels ≤ 20 ⌝ }
+    requires { ⌜ Tabled (now program) (now table) (mode .«families_visible») ⌝ }
+    ensures { λ r. ⌜ Does (now (out .entry)) st (now (out .exit)) r (listRun mode (length (now (out .entry))) from (slice from to (now (program .entry))) (now (program .entry)) (frameIn mode (take (mode .variables) (now (vars .entry))) scope (now (regs .entry)))) ⌝ }
 {
     unroller::run_list(
         program,
@@ -158,7 +158,7 @@ fn once(
         regs,
         program,
         table,
-        m,
+        mode,
         st,
         out,
     )
@@ -177,7 +177,7 @@ fn conditional(
     st: State,
     out: &mut [u8],
 ) -> Answer
-    requires { ⌜ Within (now program) at to ⌝ }
+    requires { ⌜ WholeField (now program) at to ⌝ }
     requires { ⌜ IfReady (slice (at + 3) to (now program)) ⌝ }
     requires { ⌜ Tabled (now program) (now table) seen ⌝ }
     ensures { λ r. ⌜ Does (now (out .entry)) st (now (out .exit)) r (ifAt limit (length (now (out .entry))) at (slice (at + 3) to (now (program .entry))) (take seen (allDeclared limit (length (now (out .entry))) (read (now (program .entry))) [])) (frameIn (topMode limit seen 0) [] scope (now (regs .entry)))) ⌝ }
@@ -190,11 +190,11 @@ fn conditional(
     };
     let here = at as u16;
     match operands::bit_at(program, first, to, &vars, 0, scope, regs) {
-        Bitten::Over => Answer::Ended(24, here, st),
-        Bitten::Stuck => Answer::Stuck,
-        Bitten::Is(b) => {
-            let m = under_mode(limit, seen, condition(program[from], b));
-            once(program, mid, to, &mut vars, scope, regs, table, m, st, out)
+        BitMeaning::Over => Answer::Ended(24, here, st),
+        BitMeaning::Stuck => Answer::Stuck,
+        BitMeaning::Is(b) => {
+            let mode = under_mode(limit, seen, condition(program[from], b));
+            once(program, mid, to, &mut vars, scope, regs, table, mode, st, out)
         }
     }
 }
@@ -213,7 +213,7 @@ fn act(
     st: State,
     out: &mut [u8],
 ) -> Answer
-    requires { ⌜ ActReady tag (slice (at + 3) next (now program)) × Within (now program) at next ⌝ }
+    requires { ⌜ ActReady tag (slice (at + 3) next (now program)) × WholeField (now program) at next ⌝ }
     requires { ⌜ fields at (slice at next (now program)) ≡ (field at tag (slice (at + 3) next (now program)) ∷ []) ⌝ }
     requires { ⌜ (t .registers ≤ 255) × (t .families ≤ 255) ⌝ }
     requires { ⌜ Tabled (now program) (now table) (t .families) ⌝ }
@@ -222,9 +222,9 @@ fn act(
     let mut vars = [0i32; 20];
     let seen = t.families as u16;
     let scope = top_scope(t.registers);
-    let m = top_mode(limit, seen, 0);
+    let mode = top_mode(limit, seen, 0);
     if tag == 0 || 6 < tag {
-        return once(program, at, next, &mut vars, scope, regs, table, m, st, out);
+        return once(program, at, next, &mut vars, scope, regs, table, mode, st, out);
     }
     let steps = st.steps;
     if limit <= steps {
@@ -233,15 +233,15 @@ fn act(
     }
     let taken = steps + 1;
     let s = State {
-        at: st.at,
+        written: st.written,
         steps: taken,
     };
     let from = at + 3;
     if tag == 4 {
-        return tops::measure(program, from, next, at, &vars, scope, regs, m, s, out);
+        return tops::measure(program, from, next, at, &vars, scope, regs, mode, s, out);
     }
     if tag == 5 {
-        return tops::reset(program, from, next, at, &vars, scope, regs, m, s, out);
+        return tops::reset(program, from, next, at, &vars, scope, regs, mode, s, out);
     }
     conditional(program, at, next, seen, scope, regs, table, limit, s, out)
 }
@@ -311,7 +311,7 @@ fn top_fields(
         qubits: 0,
         bits: 0,
     };
-    let mut s = State { at: 0, steps: 0 };
+    let mut s = State { written: 0, steps: 0 };
     loop {
         match fields::header_at(program, at, to) {
             Header::End => return Answer::Going(s),
@@ -362,7 +362,7 @@ fn placed(
     requires { ⌜ many ≤ 4 ⌝ }
     ensures { λ r. ⌜ Does (now (out .entry)) started (now (out .exit)) r (instanceRun (familyWith limit (length (now (out .entry))) (now (program .entry)) k at) (take many (now (values .entry)))) ⌝ }
 {
-    let st = State { at: 0, steps: 0 };
+    let st = State { written: 0, steps: 0 };
     let to = calls::past(program, at);
     let from = at + 5;
     let count = fields::wide(program[at + 4]);
@@ -380,10 +380,10 @@ fn placed(
         Layout::Stuck => Answer::Stuck,
         Layout::Done => {
             let body = calls::body_start(program, at);
-            let m = top_mode(limit, k, many);
+            let mode = top_mode(limit, k, many);
             let none = [0u16; 765];
             let scope = laid.scope;
-            once(program, body, to, values, scope, &none, table, m, st, out)
+            once(program, body, to, values, scope, &none, table, mode, st, out)
         }
     }
 }
@@ -402,11 +402,11 @@ fn sized(
     requires { ⌜ Tabled (now program) (now table) k ⌝ }
     ensures { λ r. ⌜ concluded (now (out .exit)) r ≡ instanceOf (some (familyWith limit (length (now (out .entry))) (now (program .entry)) k at)) (now (sizes .entry)) (now (out .entry)) ⌝ }
 {
-    let none = State { at: 0, steps: 0 };
+    let none = State { written: 0, steps: 0 };
     let many = program[at + 3];
-    let m = fields::wide(many);
+    let mode = fields::wide(many);
     let mut values = [0i32; 20];
-    match layout::read_sizes(sizes, m, &mut values) {
+    match layout::read_sizes(sizes, mode, &mut values) {
         Sizes::WrongLength => Answer::Ended(21, 0, none),
         Sizes::TooLarge => Answer::Ended(22, 0, none),
         Sizes::Fit => placed(program, at, k, table, &mut values, many, limit, out),
@@ -427,7 +427,7 @@ pub fn instance(program: &[u8], family: usize, sizes: &[u8], limit: u64, out: &m
     let mut table = [0u16; 255];
     let n = fields::families(program, &mut table);
     if n <= family {
-        return Answer::Ended(20, 0, State { at: 0, steps: 0 });
+        return Answer::Ended(20, 0, State { written: 0, steps: 0 });
     }
     let at = long(table[family]);
     sized(program, at, narrow(family), &table, sizes, limit, out)

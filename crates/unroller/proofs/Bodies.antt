@@ -13,60 +13,60 @@ use Rattle.language.proofs.Families.{family-not-called}
 use Rattle.fields.specs.Table.{pastOf}
 use Rattle.fields.proofs.Between.{not-empty, first-byte}
 use Rattle.operands.specs.declared.Scope.{Scope}
-use Rattle.operands.specs.Stand.{operandsOf, frameOf}
-use Rattle.emit.specs.Squares.{conditionOf}
+use Rattle.operands.specs.Meanings.{operandsOf, frameOf}
+use Rattle.emit.specs.Outcomes.{conditionOf}
 use Rattle.gates.specs.declared.Mode.{Mode}
 use Rattle.gates.specs.Gates.{directionOf, frameIn, enteredOf}
 use Rattle.calls.specs.declared.Taken.{Taken}
 use Rattle.calls.specs.declared.Taken.the-variants.{All, Over, Stuck}
 use Rattle.calls.specs.Families.{declaredAt, Entry, BodyFrom}
-use Rattle.calls.specs.Arguments.{argumentsIn, handedIn, given, Begins, Scopes, Arguments}
-use Rattle.calls.proofs.Calling.{call-is}
+use Rattle.calls.specs.Arguments.{argumentsIn, gatheredOperands, given, BodyBegins, Scopes, Arguments}
+use Rattle.calls.proofs.CallByNumber.{call-is}
 use Rattle.unroller.specs.Runs.{familiesIn, oneRun, restRun}
 use Rattle.unroller.proofs.Statements.{one-call}
 
-module _ (m : Mode) (room from to place : ℕ) (p program : List ℕ) (values : List ℤ) (scope : Scope) (regs : List ℕ)
-    (deep : m .levels ≡ 0 → ⊥) (low : from < to) (high : to ≤ length p) where
+module _ (mode : Mode) (room from to place : ℕ) (bytes program : List ℕ) (values : List ℤ) (scope : Scope) (regs : List ℕ)
+    (deep : mode .levels ≡ 0 → ⊥) (low : from < to) (high : to ≤ length bytes) where
   abbrev whole : Run (Unit {0})
-  whole = oneRun m room place 36 (slice from to p) program (frameIn m values scope regs)
+  whole = oneRun mode room place 36 (slice from to bytes) program (frameIn mode values scope regs)
 
   -- the call by its number, the byte at `from`, with the arguments behind it
-  call-read : whole ≡ runStatement (m .limit) room (call place (getD p from 0) (argumentsIn (place + 4) (slice (from + 1) to p))) (familiesIn m room program) (frameIn m values scope regs)
-  call-read = one-call m room place 36 (slice from to p) program (frameIn m values scope regs) deep refl (not-empty p from to low high)
-      ∙ (λ j. runStatement (m .limit) room (call place (first-byte p from to low high j) (argumentsIn (place + 4) (drop-drop 1 from (take to p) j))) (familiesIn m room program) (frameIn m values scope regs))
+  call-read : whole ≡ runStatement (mode .limit) room (call place (getD bytes from 0) (argumentsIn (place + 4) (slice (from + 1) to bytes))) (familiesIn mode room program) (frameIn mode values scope regs)
+  call-read = one-call mode room place 36 (slice from to bytes) program (frameIn mode values scope regs) deep refl (not-empty bytes from to low high)
+      ∙ (λ j. runStatement (mode .limit) room (call place (first-byte bytes from to low high j) (argumentsIn (place + 4) (drop-drop 1 from (take to bytes) j))) (familiesIn mode room program) (frameIn mode values scope regs))
 
   -- a number of no family
-  pub call-none : m .seen ≤ getD p from 0 → whole ≡ (step (m .limit) room place >> noMeaning)
+  pub call-none : mode .«families_visible» ≤ getD bytes from 0 → whole ≡ (step (mode .limit) room place >> noMeaning)
   unfolding runStatement runCall found _>>=_ after
-  call-none h = call-read ∙ rw (family-not-called (m .limit) room (read program) (m .seen) (getD p from 0) h)
+  call-none h = call-read ∙ rw (family-not-called (mode .limit) room (read program) (mode .«families_visible») (getD bytes from 0) h)
 
-  module _ (at : ℕ) (h : getD p from 0 < m .seen) (e : Entry program (getD p from 0) at) (sizes : List ℤ) (hand : List ℕ) (r : Taken)
-      (w : Arguments (slice (from + 1) to p) program at values (operandsOf scope regs) sizes hand r) where
+  module _ (at : ℕ) (h : getD bytes from 0 < mode .«families_visible») (e : Entry program (getD bytes from 0) at) (sizes : List ℤ) (hand : List ℕ) (r : Taken)
+      (w : Arguments (slice (from + 1) to bytes) program at values (operandsOf scope regs) sizes hand r) where
     -- what the body does with so many operands
     abbrev bodied : ℕ → Run (Unit {0})
-    bodied n = runStatements (m .limit) room (declaredAt program at .body) (take (getD p from 0) (allDeclared (m .limit) room (read program) []))
-        (frameOf (directionOf (m .back)) (conditionOf (m .cond)) (take (getD program (at + 3) 0) sizes) (handedIn (take (3 * n) hand)))
+    bodied n = runStatements (mode .limit) room (declaredAt program at .body) (take (getD bytes from 0) (allDeclared (mode .limit) room (read program) []))
+        (frameOf (directionOf (mode .reversed)) (conditionOf (mode .condition)) (take (getD program (at + 3) 0) sizes) (gatheredOperands (take (3 * n) hand)))
 
-    called : whole ≡ (step (m .limit) room place >> given place r bodied)
-    called = call-read ∙ call-is program (getD p from 0) at (m .seen) e h (slice (from + 1) to p) values (operandsOf scope regs) sizes hand r w
-        (m .limit) room place (place + 4) (directionOf (m .back)) (conditionOf (m .cond))
+    called : whole ≡ (step (mode .limit) room place >> given place r bodied)
+    called = call-read ∙ call-is program (getD bytes from 0) at (mode .«families_visible») e h (slice (from + 1) to bytes) values (operandsOf scope regs) sizes hand r w
+        (mode .limit) room place (place + 4) (directionOf (mode .reversed)) (conditionOf (mode .condition))
 
-    pub call-over : r ≡ Over → whole ≡ (step (m .limit) room place >> endAt 24 place)
+    pub call-over : r ≡ Over → whole ≡ (step (mode .limit) room place >> endAt 24 place)
     unfolding given
-    call-over q = called ∙ ap (λ (x : Taken). step (m .limit) room place >> given place x bodied) q
+    call-over q = called ∙ ap (λ (x : Taken). step (mode .limit) room place >> given place x bodied) q
 
-    pub call-stuck : r ≡ Stuck → whole ≡ (step (m .limit) room place >> noMeaning)
+    pub call-stuck : r ≡ Stuck → whole ≡ (step (mode .limit) room place >> noMeaning)
     unfolding given
-    call-stuck q = called ∙ ap (λ (x : Taken). step (m .limit) room place >> given place x bodied) q
+    call-stuck q = called ∙ ap (λ (x : Taken). step (mode .limit) room place >> given place x bodied) q
 
     pub call-begins : (n start : ℕ) → r ≡ All n start → BodyFrom program at start
-    unfolding Begins
+    unfolding BodyBegins
     call-begins n start q = rw q at (w .begins)
 
     -- all are taken: the body's list, which begins at `start`
     pub call-all : (n start : ℕ) → r ≡ All n start → (inner : Scope) → Scopes hand n inner → (b : List ℕ) → b ≡ slice start (pastOf program at) program
-        → whole ≡ (step (m .limit) room place >> restRun (enteredOf m (getD p from 0) (getD program (at + 3) 0)) room start 0 (length b) b program
-        (frameIn (enteredOf m (getD p from 0) (getD program (at + 3) 0)) (take (getD program (at + 3) 0) sizes) inner regs))
+        → whole ≡ (step (mode .limit) room place >> restRun (enteredOf mode (getD bytes from 0) (getD program (at + 3) 0)) room start 0 (length b) b program
+        (frameIn (enteredOf mode (getD bytes from 0) (getD program (at + 3) 0)) (take (getD program (at + 3) 0) sizes) inner regs))
     unfolding given
     call-all n start q inner s b c =
         let o = call-begins n start q in
@@ -74,6 +74,6 @@ module _ (m : Mode) (room from to place : ℕ) (p program : List ℕ) (values : 
         let body : statementsBy outerStatement (fields (start + 0) (slice 0 (length b) b)) ≡ declaredAt program at .body =
         ap (λ (x : List ℕ). statementsBy outerStatement (fields (start + 0) x)) (take-length b ∙ c) ∙ ap (λ (k : ℕ). statementsBy outerStatement (fields k (slice start (pastOf program at) program))) (sym i)
         ∙ ap (statementsBy outerStatement) (o .rest (at + 5)) in
-        called ∙ ap (λ (x : Taken). step (m .limit) room place >> given place x bodied) q
-        ∙ (λ j. step (m .limit) room place >> runStatements (m .limit) room (sym body j) (take (getD p from 0) (allDeclared (m .limit) room (read program) []))
-        (frameOf (directionOf (m .back)) (conditionOf (m .cond)) (take (getD program (at + 3) 0) sizes) (sym (s .same regs) j)))
+        called ∙ ap (λ (x : Taken). step (mode .limit) room place >> given place x bodied) q
+        ∙ (λ j. step (mode .limit) room place >> runStatements (mode .limit) room (sym body j) (take (getD bytes from 0) (allDeclared (mode .limit) room (read program) []))
+        (frameOf (directionOf (mode .reversed)) (conditionOf (mode .condition)) (take (getD program (at + 3) 0) sizes) (sym (s .same regs) j)))

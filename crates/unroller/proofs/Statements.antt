@@ -15,15 +15,15 @@ use Rattle.language.specs.Tree.{badIndex, Statement, call, badStatement}
 use Rattle.language.specs.Read.{Field, field, fields, due, choose, outerIndex, readStatement, statementBy, deepStatement, statementsBy, gateOf, cxOf, readCall, forOf}
 use Rattle.language.specs.Machine.{callFamily, runGate, runCx, runCall, runReverse, runFor, Run, Frame, flipped, noMeaning, evaluate, found, step, rounds, roundsOf, startOf, inRound, inDirection, runStatement, runStatements, _>>=_, _>>_}
 use Rattle.language.proofs.Integers.{clash}
-use Rattle.emit.specs.Squares.{Does}
+use Rattle.emit.specs.Outcomes.{Does}
 use Rattle.emit.specs.declared.State.{State}
 use Rattle.emit.specs.declared.Answer.{Answer}
 use Rattle.emit.specs.declared.Answer.the-variants.{Going, Ended, Stuck as aStuck}
 use Rattle.emit.proofs.Answer.{the-type}
-use Rattle.emit.proofs.Doing.{step-full, does-stuck, not-first}
+use Rattle.emit.proofs.Sequences.{step-full, does-stuck, not-first}
 use Rattle.gates.specs.declared.Mode.{Mode}
-use Rattle.gates.specs.Gates.{directionOf, gateFor, gateAt, cxAt, namelessOf, actAt, Enterable, Steps, Entered}
-use Rattle.gates.proofs.Acting.{does-as}
+use Rattle.gates.specs.Gates.{directionOf, gateFor, gateAt, cxAt, namelessOf, actAt, Enterable, StepTaken, Entered}
+use Rattle.gates.proofs.GateRuns.{does-as}
 use Rattle.calls.specs.Arguments.{argumentsIn}
 use Rattle.unroller.specs.Runs.{familiesIn, oneRun, listAt}
 
@@ -33,63 +33,63 @@ unfolding readStatement
 level zero f h = absurd (h refl)
 level (suc n) f h = let e : suc n - 1 ≡ n = omega arith in rw e
 
-module _ (m : Mode) (room base tag : ℕ) (l program : List ℕ) (f : Frame) where
-  pub one-deep : m .levels ≡ 0 → oneRun m room base tag l program f ≡ noMeaning
+module _ (mode : Mode) (room base tag : ℕ) (l program : List ℕ) (f : Frame) where
+  pub one-deep : mode .levels ≡ 0 → oneRun mode room base tag l program f ≡ noMeaning
   unfolding readStatement deepStatement runStatement
   one-deep h = rw h (go (leb 32 tag && leb tag 38))
     where
-      go : (b : Bool) → runStatement (m .limit) room (cond b (badStatement 5 base) (badStatement 3 base)) (familiesIn m room program) f ≡ noMeaning
+      go : (b : Bool) → runStatement (mode .limit) room (cond b (badStatement 5 base) (badStatement 3 base)) (familiesIn mode room program) f ≡ noMeaning
       go true = refl
       go false = refl
 
-  module _ (h : m .levels ≡ 0 → ⊥) where
+  module _ (h : mode .levels ≡ 0 → ⊥) where
     runs : Statement → Run (Unit {0})
-    runs x = runStatement (m .limit) room x (familiesIn m room program) f
+    runs x = runStatement (mode .limit) room x (familiesIn mode room program) f
 
-    pub one-other : ((n : ℕ) → 32 ≤ n → n ≤ 38 → tag ≡ n → ⊥) → oneRun m room base tag l program f ≡ noMeaning
+    pub one-other : ((n : ℕ) → 32 ≤ n → n ≤ 38 → tag ≡ n → ⊥) → oneRun mode room base tag l program f ≡ noMeaning
     unfolding statementBy choose runStatement runs
-    one-other g = ap runs (level (m .levels) (field base tag l) h) ∙ rw (ne-eqb tag 32 (g 32 (omega arith) (omega arith)), ne-eqb tag 33 (g 33 (omega arith) (omega arith)), ne-eqb tag 34 (g 34 (omega arith) (omega arith)), ne-eqb tag 35 (g 35 (omega arith) (omega arith)), ne-eqb tag 36 (g 36 (omega arith) (omega arith)), ne-eqb tag 37 (g 37 (omega arith) (omega arith)), ne-eqb tag 38 (g 38 (omega arith) (omega arith)))
+    one-other g = ap runs (level (mode .levels) (field base tag l) h) ∙ rw (ne-eqb tag 32 (g 32 (omega arith) (omega arith)), ne-eqb tag 33 (g 33 (omega arith) (omega arith)), ne-eqb tag 34 (g 34 (omega arith) (omega arith)), ne-eqb tag 35 (g 35 (omega arith) (omega arith)), ne-eqb tag 36 (g 36 (omega arith) (omega arith)), ne-eqb tag 37 (g 37 (omega arith) (omega arith)), ne-eqb tag 38 (g 38 (omega arith) (omega arith)))
 
-    pub one-empty : tag ≡ 36 → length l ≡ 0 → oneRun m room base tag l program f ≡ noMeaning
+    pub one-empty : tag ≡ 36 → length l ≡ 0 → oneRun mode room base tag l program f ≡ noMeaning
     unfolding statementBy choose runStatement runs readCall
-    one-empty e k = ap runs (level (m .levels) (field base tag l) h) ∙ rw e (go l k)
+    one-empty e k = ap runs (level (mode .levels) (field base tag l) h) ∙ rw e (go l k)
       where
         go : (l : List ℕ) → length l ≡ 0 → runs (readCall base l) ≡ noMeaning
         go [] k = refl
         go (x ∷ l) k = absurd (omega arith)
 
-    pub one-call : tag ≡ 36 → (length l ≡ 0 → ⊥) → oneRun m room base tag l program f ≡ runStatement (m .limit) room (call base (getD l 0 0) (argumentsIn (base + 4) (drop 1 l))) (familiesIn m room program) f
+    pub one-call : tag ≡ 36 → (length l ≡ 0 → ⊥) → oneRun mode room base tag l program f ≡ runStatement (mode .limit) room (call base (getD l 0 0) (argumentsIn (base + 4) (drop 1 l))) (familiesIn mode room program) f
     unfolding statementBy choose runs readCall
-    one-call e k = ap runs (level (m .levels) (field base tag l) h) ∙ rw e (go l k)
+    one-call e k = ap runs (level (mode .levels) (field base tag l) h) ∙ rw e (go l k)
       where
         go : (l : List ℕ) → (length l ≡ 0 → ⊥) → runs (readCall base l) ≡ runs (call base (getD l 0 0) (argumentsIn (base + 4) (drop 1 l)))
         go [] k = absurd (k refl)
         go (x ∷ l) k = refl
 
-    pub one-gate : 32 ≤ tag → tag < 35 → oneRun m room base tag l program f ≡ (step (m .limit) room base >> gateAt m room tag base l f)
+    pub one-gate : 32 ≤ tag → tag < 35 → oneRun mode room base tag l program f ≡ (step (mode .limit) room base >> gateAt mode room tag base l f)
     unfolding statementBy choose runStatement runs gateOf runGate gateFor
-    one-gate a b = ap runs (level (m .levels) (field base tag l) h) ∙ go (eqb tag 32) refl (eqb tag 33) refl
+    one-gate a b = ap runs (level (mode .levels) (field base tag l) h) ∙ go (eqb tag 32) refl (eqb tag 33) refl
       where
-        go : (u : Bool) → eqb tag 32 ≡ u → (v : Bool) → eqb tag 33 ≡ v → runs (statementBy (readStatement (m .levels - 1)) (field base tag l)) ≡ (step (m .limit) room base >> gateAt m room tag base l f)
+        go : (u : Bool) → eqb tag 32 ≡ u → (v : Bool) → eqb tag 33 ≡ v → runs (statementBy (readStatement (mode .levels - 1)) (field base tag l)) ≡ (step (mode .limit) room base >> gateAt mode room tag base l f)
         go true e v g = let t : tag ≡ 32 = eqb-true tag 32 e in rw t
         go false e true g = let t : tag ≡ 33 = eqb-true tag 33 g in rw t
         go false e false g = let t : tag ≡ 34 = omega (arith, eqb-false tag 32 e, eqb-false tag 33 g) in rw t
 
-    pub one-cx : tag ≡ 35 → oneRun m room base tag l program f ≡ (step (m .limit) room base >> cxAt m room base l f)
+    pub one-cx : tag ≡ 35 → oneRun mode room base tag l program f ≡ (step (mode .limit) room base >> cxAt mode room base l f)
     unfolding statementBy choose runStatement runs cxOf runCx
-    one-cx e = ap runs (level (m .levels) (field base tag l) h) ∙ rw e
+    one-cx e = ap runs (level (mode .levels) (field base tag l) h) ∙ rw e
 
-    pub one-reverse : tag ≡ 37 → oneRun m room base tag l program f
-        ≡ (step (m .limit) room base >> runStatements (m .limit) room (listAt (m .levels - 1) (base + 3) l) (familiesIn m room program) (inDirection f (flipped (f .direction))))
+    pub one-reverse : tag ≡ 37 → oneRun mode room base tag l program f
+        ≡ (step (mode .limit) room base >> runStatements (mode .limit) room (listAt (mode .levels - 1) (base + 3) l) (familiesIn mode room program) (inDirection f (flipped (f .direction))))
     unfolding statementBy choose runStatement runReverse runs
-    one-reverse e = ap runs (level (m .levels) (field base tag l) h) ∙ rw e
+    one-reverse e = ap runs (level (mode .levels) (field base tag l) h) ∙ rw e
 
-    pub one-for : tag ≡ 38 → oneRun m room base tag l program f ≡ (step (m .limit) room base >>
+    pub one-for : tag ≡ 38 → oneRun mode room base tag l program f ≡ (step (mode .limit) room base >>
         (evaluate base (f .variables) (due (outerIndex) (badIndex 4 base) (fields (base + 3) l)) >>= (λ x.
         evaluate base (f .variables) (due (outerIndex) (badIndex 4 base) (drop 1 (fields (base + 3) l))) >>= (λ y.
-        rounds (m .limit) room base (f .direction) (roundsOf (y -ℤ x)) (startOf (f .direction) x y) (λ z. runStatements (m .limit) room (statementsBy (readStatement (m .levels - 1)) (drop 2 (fields (base + 3) l))) (familiesIn m room program) (inRound f z))))))
+        rounds (mode .limit) room base (f .direction) (roundsOf (y -ℤ x)) (startOf (f .direction) x y) (λ z. runStatements (mode .limit) room (statementsBy (readStatement (mode .levels - 1)) (drop 2 (fields (base + 3) l))) (familiesIn mode room program) (inRound f z))))))
     unfolding statementBy choose runStatement runFor runs forOf
-    one-for e = ap runs (level (m .levels) (field base tag l) h) ∙ rw e
+    one-for e = ap runs (level (mode .levels) (field base tag l) h) ∙ rw e
 
 pub turned : (b : Bool) → flipped (directionOf b) ≡ directionOf (not b)
 unfolding directionOf flipped
@@ -111,56 +111,56 @@ nameless-tag tag size h = go (eqb tag 36) refl (eqb size 0) refl h
 
 -- ---- a statement entered
 
-module _ (m : Mode) (room base tag : ℕ) (l program : List ℕ) (f : Frame) where
-  pub one-refused : (Enterable m tag (length l) → ⊥) → oneRun m room base tag l program f ≡ noMeaning
-  one-refused h = go (eqb (m .levels) 0) refl (leb 32 tag) refl (leb tag 38) refl (namelessOf tag (length l)) refl
+module _ (mode : Mode) (room base tag : ℕ) (l program : List ℕ) (f : Frame) where
+  pub one-refused : (Enterable mode tag (length l) → ⊥) → oneRun mode room base tag l program f ≡ noMeaning
+  one-refused h = go (eqb (mode .levels) 0) refl (leb 32 tag) refl (leb tag 38) refl (namelessOf tag (length l)) refl
     where
-      go : (a : Bool) → eqb (m .levels) 0 ≡ a → (b : Bool) → leb 32 tag ≡ b → (c : Bool) → leb tag 38 ≡ c → (d : Bool) → namelessOf tag (length l) ≡ d → oneRun m room base tag l program f ≡ noMeaning
-      go true e b f₁ c g d i = one-deep m room base tag l program f (eqb-true (m .levels) 0 e)
-      go false e false f₁ c g d i = one-other m room base tag l program f (eqb-false (m .levels) 0 e) (λ n x y z. omega (arith, leb-false 32 tag f₁))
-      go false e true f₁ false g d i = one-other m room base tag l program f (eqb-false (m .levels) 0 e) (λ n x y z. omega (arith, leb-false tag 38 g))
-      go false e true f₁ true g true i = let n = nameless-tag tag (length l) i in one-empty m room base tag l program f (eqb-false (m .levels) 0 e) (n .0) (n .1)
-      go false e true f₁ true g false i = absurd (h (record { deep = eqb-false (m .levels) 0 e; low = leb-true 32 tag f₁; high = leb-true tag 38 g; named = i }))
+      go : (a : Bool) → eqb (mode .levels) 0 ≡ a → (b : Bool) → leb 32 tag ≡ b → (c : Bool) → leb tag 38 ≡ c → (d : Bool) → namelessOf tag (length l) ≡ d → oneRun mode room base tag l program f ≡ noMeaning
+      go true e b f₁ c g d i = one-deep mode room base tag l program f (eqb-true (mode .levels) 0 e)
+      go false e false f₁ c g d i = one-other mode room base tag l program f (eqb-false (mode .levels) 0 e) (λ n x y z. omega (arith, leb-false 32 tag f₁))
+      go false e true f₁ false g d i = one-other mode room base tag l program f (eqb-false (mode .levels) 0 e) (λ n x y z. omega (arith, leb-false tag 38 g))
+      go false e true f₁ true g true i = let n = nameless-tag tag (length l) i in one-empty mode room base tag l program f (eqb-false (mode .levels) 0 e) (n .0) (n .1)
+      go false e true f₁ true g false i = absurd (h (record { deep = eqb-false (mode .levels) 0 e; low = leb-true 32 tag f₁; high = leb-true tag 38 g; named = i }))
 
   -- every statement that is entered takes its step first
-  pub record First : Type 0 where
+  pub record StepFirst : Type 0 where
     pub after-it : Run (Unit {0})
-    pub is : oneRun m room base tag l program f ≡ (step (m .limit) room base >> after-it)
+    pub is : oneRun mode room base tag l program f ≡ (step (mode .limit) room base >> after-it)
 
   -- a call, too
-  call-first : runStatement (m .limit) room (call base (getD l 0 0) (argumentsIn (base + 4) (drop 1 l))) (familiesIn m room program) f ≡ (step (m .limit) room base >> (found (getElem? (familiesIn m room program) (getD l 0 0)) >>= callFamily base f (argumentsIn (base + 4) (drop 1 l))))
+  call-first : runStatement (mode .limit) room (call base (getD l 0 0) (argumentsIn (base + 4) (drop 1 l))) (familiesIn mode room program) f ≡ (step (mode .limit) room base >> (found (getElem? (familiesIn mode room program) (getD l 0 0)) >>= callFamily base f (argumentsIn (base + 4) (drop 1 l))))
   unfolding runStatement runCall
   call-first = refl
 
-  pub first : Enterable m tag (length l) → First
+  pub first : Enterable mode tag (length l) → StepFirst
   first w = go (eqb tag 35) refl (eqb tag 36) refl (eqb tag 37) refl (decLt tag 35)
     where
-      go : (u : Bool) → eqb tag 35 ≡ u → (v : Bool) → eqb tag 36 ≡ v → (w : Bool) → eqb tag 37 ≡ w → Dec (tag < 35) → First
-      go u e v g x k (yes c) = record { after-it = _; is = one-gate m room base tag l program f (w .deep) (w .low) c }
-      go true e v g x k (no c) = record { after-it = _; is = one-cx m room base tag l program f (w .deep) (eqb-true tag 35 e) }
-      go false e true g x k (no c) = record { after-it = _; is = one-call m room base tag l program f (w .deep) (eqb-true tag 36 g) (nameless-not tag (length l) (w .named) (eqb-true tag 36 g)) ∙ call-first }
-      go false e false g true k (no c) = record { after-it = _; is = one-reverse m room base tag l program f (w .deep) (eqb-true tag 37 k) }
-      go false e false g false k (no c) = record { after-it = _; is = one-for m room base tag l program f (w .deep) (omega (arith, w .high, eqb-false tag 35 e, eqb-false tag 36 g, eqb-false tag 37 k)) }
+      go : (u : Bool) → eqb tag 35 ≡ u → (v : Bool) → eqb tag 36 ≡ v → (w : Bool) → eqb tag 37 ≡ w → Dec (tag < 35) → StepFirst
+      go u e v g x k (yes c) = record { after-it = _; is = one-gate mode room base tag l program f (w .deep) (w .low) c }
+      go true e v g x k (no c) = record { after-it = _; is = one-cx mode room base tag l program f (w .deep) (eqb-true tag 35 e) }
+      go false e true g x k (no c) = record { after-it = _; is = one-call mode room base tag l program f (w .deep) (eqb-true tag 36 g) (nameless-not tag (length l) (w .named) (eqb-true tag 36 g)) ∙ call-first }
+      go false e false g true k (no c) = record { after-it = _; is = one-reverse mode room base tag l program f (w .deep) (eqb-true tag 37 k) }
+      go false e false g false k (no c) = record { after-it = _; is = one-for mode room base tag l program f (w .deep) (omega (arith, w .high, eqb-false tag 35 e, eqb-false tag 36 g, eqb-false tag 37 k)) }
 
   -- a statement that is not entered
-  pub one-stops : (o : List ℕ) (st : State) (r : Answer) → Entered m tag (length l) base st r → OneOf (1 ∷ 2 ∷ []) (tagOf the-type r) → Does o st o r (oneRun m room base tag l program f)
+  pub one-stops : (o : List ℕ) (st : State) (r : Answer) → Entered mode tag (length l) base st r → OneOf (1 ∷ 2 ∷ []) (tagOf the-type r) → Does o st o r (oneRun mode room base tag l program f)
   unfolding Entered
   one-stops o st (Going s) e h = absurd (not-first h)
   one-stops o st (Ended n p s) e h =
       let q = first (e .enterable) in
-      rw (e .number, e .place, e .same) (does-as o st o (Ended 26 base st) (step (m .limit) room base >> q .after-it) (oneRun m room base tag l program f) (q .is) (step-full (m .limit) room o st base (q .after-it) (e .none)))
-  one-stops o st aStuck e h = does-as o st o aStuck noMeaning (oneRun m room base tag l program f) (one-refused e) (does-stuck o st o)
+      rw (e .number, e .place, e .same) (does-as o st o (Ended 26 base st) (step (mode .limit) room base >> q .after-it) (oneRun mode room base tag l program f) (q .is) (step-full (mode .limit) room o st base (q .after-it) (e .none)))
+  one-stops o st aStuck e h = does-as o st o aStuck noMeaning (oneRun mode room base tag l program f) (one-refused e) (does-stuck o st o)
 
   -- a gate or a cx
-  pub one-acts : (m .levels ≡ 0 → ⊥) → 32 ≤ tag → tag < 36 → oneRun m room base tag l program f ≡ (step (m .limit) room base >> actAt m room tag base l f)
+  pub one-acts : (mode .levels ≡ 0 → ⊥) → 32 ≤ tag → tag < 36 → oneRun mode room base tag l program f ≡ (step (mode .limit) room base >> actAt mode room tag base l f)
   unfolding actAt
   one-acts h a b = go (eqb tag 35) refl
     where
-      go : (u : Bool) → eqb tag 35 ≡ u → oneRun m room base tag l program f ≡ (step (m .limit) room base >> cond u (cxAt m room base l f) (gateAt m room tag base l f))
-      go true e = one-cx m room base tag l program f h (eqb-true tag 35 e)
-      go false e = one-gate m room base tag l program f h a (omega (arith, eqb-false tag 35 e))
+      go : (u : Bool) → eqb tag 35 ≡ u → oneRun mode room base tag l program f ≡ (step (mode .limit) room base >> cond u (cxAt mode room base l f) (gateAt mode room tag base l f))
+      go true e = one-cx mode room base tag l program f h (eqb-true tag 35 e)
+      go false e = one-gate mode room base tag l program f h a (omega (arith, eqb-false tag 35 e))
 
 -- the step that a statement entered has taken
-pub one-steps : (m : Mode) (tag size place : ℕ) (st s : State) (r : Answer) → Entered m tag size place st r → r ≡ Going s → Steps m tag size st s
+pub one-steps : (mode : Mode) (tag size place : ℕ) (st s : State) (r : Answer) → Entered mode tag size place st r → r ≡ Going s → StepTaken mode tag size st s
 unfolding Entered
-one-steps m tag size place st s r e h = rw h at e
+one-steps mode tag size place st s r e h = rw h at e

@@ -3,7 +3,7 @@ ghost use mathlib.Core.Path.{_≡_};
 ghost use Prim.Native.Nat.{_+_, _-_, _<_, _≤_};
 ghost use lib.ListN.{length, getD, take};
 ghost use lib.Seq.{slice};
-ghost use Rattle.emit.specs.Squares.{Does};
+ghost use Rattle.emit.specs.Outcomes.{Does};
 ghost use Rattle.gates.specs.Gates.{frameIn, Enterable};
 ghost use Rattle.calls.specs.Families.{Tabled};
 ghost use Rattle.unroller.specs.Runs.{Ready, Often, Turns, Turned, Completes, oneRun, timesRun, keptIn};
@@ -54,33 +54,33 @@ fn begin_round(
     i: usize,
     looping: bool,
     vars: &mut [i32; 20],
-    m: Mode,
+    mode: Mode,
     st: State,
 ) -> Answer
-    requires { ⌜ (place ≤ 65535) × (m .many ≤ 20) ⌝ }
-    requires { ⌜ Turns looping m start i ⌝ }
-    ensures { λ r. ⌜ Turned looping m place start i (now (vars .entry)) (now (vars .exit)) st r ⌝ }
+    requires { ⌜ (place ≤ 65535) × (mode .variables ≤ 20) ⌝ }
+    requires { ⌜ Turns looping mode start i ⌝ }
+    ensures { λ r. ⌜ Turned looping mode place start i (now (vars .entry)) (now (vars .exit)) st r ⌝ }
 {
     if !looping {
         return Answer::Going(st);
     }
     let steps = st.steps;
-    if m.limit <= steps {
+    if mode.limit <= steps {
         return Answer::Ended(26, place as u16, st);
     }
     let taken = steps + 1;
-    let last = fields::wide(m.many) - 1;
+    let last = fields::wide(mode.variables) - 1;
     tell(*vars);
-    vars[last] = gates::turn(m.back, start, i);
+    vars[last] = gates::turn(mode.reversed, start, i);
     Answer::Going(State {
-        at: st.at,
+        written: st.written,
         steps: taken,
     })
 }
 
 // Runs the statement with this tag and the content from `from` to `to`, whose tag is at `place` of the program.
 fn run_statement(
-    p: &[u8],
+    bytes: &[u8],
     base: usize,
     from: usize,
     to: usize,
@@ -91,26 +91,26 @@ fn run_statement(
     regs: &[u16; 765],
     program: &[u8],
     table: &[u16; 255],
-    m: Mode,
+    mode: Mode,
     st: State,
     out: &mut [u8],
 ) -> Answer
-    requires { ⌜ Ready m base from to (length (now p)) place ⌝ }
+    requires { ⌜ Ready mode base from to (length (now bytes)) place ⌝ }
     requires { ⌜ base + from ≡ place + 3 ⌝ }
-    requires { ⌜ Tabled (now program) (now table) (m .seen) ⌝ }
-    ensures { λ r. ⌜ Does (now (out .entry)) st (now (out .exit)) r (oneRun m (length (now (out .entry))) place tag (slice from to (now (p .entry))) (now (program .entry)) (frameIn m (take (m .many) (now (vars .entry))) scope (now (regs .entry)))) × (take (m .many) (now (vars .exit)) ≡ take (m .many) (now (vars .entry))) ⌝ }
+    requires { ⌜ Tabled (now program) (now table) (mode .«families_visible») ⌝ }
+    ensures { λ r. ⌜ Does (now (out .entry)) st (now (out .exit)) r (oneRun mode (length (now (out .entry))) place tag (slice from to (now (bytes .entry))) (now (program .entry)) (frameIn mode (take (mode .variables) (now (vars .entry))) scope (now (regs .entry)))) × (take (mode .variables) (now (vars .exit)) ≡ take (mode .variables) (now (vars .entry))) ⌝ }
 {
     let size = to - from;
-    let r = gates::step(tag, size, place, m, st);
+    let r = gates::step(tag, size, place, mode, st);
     let Answer::Going(s) = r else {
         return r;
     };
     if tag < 36 {
-        return gates::act(p, from, to, tag, place, vars, scope, regs, m, s, out);
+        return gates::act(bytes, from, to, tag, place, vars, scope, regs, mode, s, out);
     }
     if tag == 36 {
         return run_call(
-            p,
+            bytes,
             base,
             from,
             to,
@@ -120,13 +120,13 @@ fn run_statement(
             regs,
             program,
             table,
-            m,
+            mode,
             s,
             out,
         );
     }
     run_rounds(
-        p,
+        bytes,
         base,
         from,
         to,
@@ -137,7 +137,7 @@ fn run_statement(
         regs,
         program,
         table,
-        m,
+        mode,
         s,
         out,
     )
@@ -145,7 +145,7 @@ fn run_statement(
 
 // Runs the body of the reverse or the for with this content, whose step is taken.
 fn run_rounds(
-    p: &[u8],
+    bytes: &[u8],
     base: usize,
     from: usize,
     to: usize,
@@ -156,24 +156,24 @@ fn run_rounds(
     regs: &[u16; 765],
     program: &[u8],
     table: &[u16; 255],
-    m: Mode,
+    mode: Mode,
     st: State,
     out: &mut [u8],
 ) -> Answer
-    requires { ⌜ Ready m base from to (length (now p)) place ⌝ }
+    requires { ⌜ Ready mode base from to (length (now bytes)) place ⌝ }
     requires { ⌜ base + from ≡ place + 3 ⌝ }
-    requires { ⌜ Tabled (now program) (now table) (m .seen) ⌝ }
-    requires { ⌜ Enterable m tag (to - from) × (36 < tag) ⌝ }
-    ensures { λ r. ⌜ Completes m tag (to - from) (now (out .entry)) st (now (out .exit)) r (oneRun m (length (now (out .entry))) place tag (slice from to (now (p .entry))) (now (program .entry)) (frameIn m (take (m .many) (now (vars .entry))) scope (now (regs .entry)))) × (take (m .many) (now (vars .exit)) ≡ take (m .many) (now (vars .entry))) ⌝ }
+    requires { ⌜ Tabled (now program) (now table) (mode .«families_visible») ⌝ }
+    requires { ⌜ Enterable mode tag (to - from) × (36 < tag) ⌝ }
+    ensures { λ r. ⌜ Completes mode tag (to - from) (now (out .entry)) st (now (out .exit)) r (oneRun mode (length (now (out .entry))) place tag (slice from to (now (bytes .entry))) (now (program .entry)) (frameIn mode (take (mode .variables) (now (vars .entry))) scope (now (regs .entry)))) × (take (mode .variables) (now (vars .exit)) ≡ take (mode .variables) (now (vars .entry))) ⌝ }
 {
-    let many = fields::wide(m.many);
-    match gates::repeats_of(p, from, to, tag, vars, many, m.back) {
+    let many = fields::wide(mode.variables);
+    match gates::repeats_of(bytes, from, to, tag, vars, many, mode.reversed) {
         Repeats::Over => Answer::Ended(24, place as u16, st),
         Repeats::Stuck => Answer::Stuck,
         Repeats::Are(start, total, body) => {
-            let n = gates::inner(m, tag);
+            let n = gates::inner(mode, tag);
             run_list(
-                p,
+                bytes,
                 base,
                 body,
                 to,
@@ -196,7 +196,7 @@ fn run_rounds(
 
 // Runs a list so many times: once, or in rounds of the for at `place`.
 pub fn run_list(
-    p: &[u8],
+    bytes: &[u8],
     base: usize,
     from: usize,
     to: usize,
@@ -209,16 +209,16 @@ pub fn run_list(
     regs: &[u16; 765],
     program: &[u8],
     table: &[u16; 255],
-    m: Mode,
+    mode: Mode,
     st: State,
     out: &mut [u8],
 ) -> Answer
-    requires { ⌜ Ready m base from to (length (now p)) place ⌝ }
-    requires { ⌜ Tabled (now program) (now table) (m .seen) ⌝ }
-    requires { ⌜ Often looping m start total ⌝ }
-    ensures { λ r. ⌜ Does (now (out .entry)) st (now (out .exit)) r (timesRun looping m (length (now (out .entry))) base from to place start total (now (p .entry)) (now (program .entry)) (frameIn m (take (keptIn m looping) (now (vars .entry))) scope (now (regs .entry)))) × (take (keptIn m looping) (now (vars .exit)) ≡ take (keptIn m looping) (now (vars .entry))) ⌝ }
+    requires { ⌜ Ready mode base from to (length (now bytes)) place ⌝ }
+    requires { ⌜ Tabled (now program) (now table) (mode .«families_visible») ⌝ }
+    requires { ⌜ Often looping mode start total ⌝ }
+    ensures { λ r. ⌜ Does (now (out .entry)) st (now (out .exit)) r (timesRun looping mode (length (now (out .entry))) base from to place start total (now (bytes .entry)) (now (program .entry)) (frameIn mode (take (keptIn mode looping) (now (vars .entry))) scope (now (regs .entry)))) × (take (keptIn mode looping) (now (vars .exit)) ≡ take (keptIn mode looping) (now (vars .entry))) ⌝ }
 {
-    let back = m.back;
+    let reversed = mode.reversed;
     let mut cuts = [0u16; lists::KEPT];
     let mut w = lists::whole(to, to, 0, 0);
     let mut i: usize = 0;
@@ -228,11 +228,11 @@ pub fn run_list(
             if total <= i {
                 return Answer::Going(s);
             }
-            let r = begin_round(place, start, i, looping, vars, m, s);
+            let r = begin_round(place, start, i, looping, vars, mode, s);
             let Answer::Going(t) = r else {
                 return r;
             };
-            let Begun::With(depth, sure) = lists::begin(p, from, to, back, &mut cuts) else {
+            let Begun::With(depth, sure) = lists::begin(bytes, from, to, reversed, &mut cuts) else {
                 return Answer::Stuck;
             };
             s = t;
@@ -240,16 +240,16 @@ pub fn run_list(
             i += 1;
             continue;
         }
-        w = lists::seek(p, w, back, &mut cuts);
+        w = lists::seek(bytes, w, reversed, &mut cuts);
         let here = w.here;
         let upto = w.to;
-        let Header::Whole(tag, next) = fields::header_at(p, here, upto) else {
+        let Header::Whole(tag, next) = fields::header_at(bytes, here, upto) else {
             return Answer::Stuck;
         };
         let content = here + 3;
         let at = base + here;
         let r = run_statement(
-            p,
+            bytes,
             base,
             content,
             next,
@@ -260,7 +260,7 @@ pub fn run_list(
             regs,
             program,
             table,
-            m,
+            mode,
             s,
             out,
         );
@@ -268,13 +268,13 @@ pub fn run_list(
             return r;
         };
         s = t;
-        w = lists::passed(w, back, next);
+        w = lists::passed(w, reversed, next);
     }
 }
 
 // Runs the call with this content, whose step is taken: the body of the family that it names.
 fn run_call(
-    p: &[u8],
+    bytes: &[u8],
     base: usize,
     from: usize,
     to: usize,
@@ -284,28 +284,28 @@ fn run_call(
     regs: &[u16; 765],
     program: &[u8],
     table: &[u16; 255],
-    m: Mode,
+    mode: Mode,
     st: State,
     out: &mut [u8],
 ) -> Answer
-    requires { ⌜ Ready m base from to (length (now p)) place ⌝ }
+    requires { ⌜ Ready mode base from to (length (now bytes)) place ⌝ }
     requires { ⌜ base + from ≡ place + 3 ⌝ }
-    requires { ⌜ Tabled (now program) (now table) (m .seen) ⌝ }
-    requires { ⌜ Enterable m 36 (to - from) ⌝ }
-    ensures { λ r. ⌜ Completes m 36 (to - from) (now (out .entry)) st (now (out .exit)) r (oneRun m (length (now (out .entry))) place 36 (slice from to (now (p .entry))) (now (program .entry)) (frameIn m (take (m .many) (now (vars .entry))) scope (now (regs .entry)))) ⌝ }
+    requires { ⌜ Tabled (now program) (now table) (mode .«families_visible») ⌝ }
+    requires { ⌜ Enterable mode 36 (to - from) ⌝ }
+    ensures { λ r. ⌜ Completes mode 36 (to - from) (now (out .entry)) st (now (out .exit)) r (oneRun mode (length (now (out .entry))) place 36 (slice from to (now (bytes .entry))) (now (program .entry)) (frameIn mode (take (mode .variables) (now (vars .entry))) scope (now (regs .entry)))) ⌝ }
 {
-    let n = p[from];
+    let n = bytes[from];
     let number = wider(n);
-    if m.seen <= number {
+    if mode.families_visible <= number {
         return Answer::Stuck;
     }
     let at = listed(table, n);
-    let many = fields::wide(m.many);
+    let many = fields::wide(mode.variables);
     let mut sizes = [0i32; 20];
     let mut given = [0u16; 24];
     let first = from + 1;
     match calls::arguments(
-        p,
+        bytes,
         first,
         to,
         program,
@@ -322,7 +322,7 @@ fn run_call(
         Taken::All(count, start) => {
             let body = calls::body_of(program, at, start);
             let size = body.len();
-            let inner = gates::entered(m, number, program[at + 3]);
+            let inner = gates::entered(mode, number, program[at + 3]);
             run_list(
                 body,
                 start,

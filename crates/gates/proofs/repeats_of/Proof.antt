@@ -16,7 +16,7 @@ use Rattle.language.specs.Machine.{startOf, roundsOf}
 use Rattle.language.proofs.Integers.{range-back}
 use Rattle.gates.specs.declared.Bounds.the-variants.{Are}
 use Rattle.gates.specs.Gates.{directionOf, Bounded, Looped}
-use Rattle.gates.proofs.Rounding.{bounded-body, start-between}
+use Rattle.gates.proofs.RoundValues.{bounded-body, start-between}
 
 -- src/lib.rt:178:9
 returns : tie.Need-returns
@@ -54,7 +54,7 @@ tally-requires c κs =
     let a = c .before .before .before .before .before .before .before .args in
     let x = c .before .before .x .given .0 .0 in
     let y = c .before .before .x .given .0 .1 .0 in
-    let b : Bounded (now (a .p)) (a .from) (a .to) (take (a .many) (now (a .vars))) (Are x y (c .before .before .x .given .0 .1 .1 .0)) = rw (c .before .before .x .given .1) at (c .before .before .before .before .bounds-of .ensures) in
+    let b : Bounded (now (a .bytes)) (a .from) (a .to) (take (a .many) (now (a .vars))) (Are x y (c .before .before .x .given .0 .1 .1 .0)) = rw (c .before .before .x .given .1) at (c .before .before .before .before .bounds-of .ensures) in
     let d = bounded-body b in
     rw (range-back {z = x} (d .low), range-back {z = y} (d .high)) (d .low, d .high)
 
@@ -77,11 +77,11 @@ returns-4 c =
     let a = c .before .before .before .before .before .before .before .before .args in
     let x = c .before .before .before .x .given .0 .0 in
     let y = c .before .before .before .x .given .0 .1 .0 in
-    let b : Bounded (now (a .p)) (a .from) (a .to) (take (a .many) (now (a .vars))) (Are x y (c .before .before .before .x .given .0 .1 .1 .0)) = rw (c .before .before .before .x .given .1) at (c .before .before .before .before .before .bounds-of .ensures) in
+    let b : Bounded (now (a .bytes)) (a .from) (a .to) (take (a .many) (now (a .vars))) (Are x y (c .before .before .before .x .given .0 .1 .1 .0)) = rw (c .before .before .before .x .given .1) at (c .before .before .before .before .before .bounds-of .ensures) in
     let d = bounded-body b in
-    let f : c .before .first-value .result ≡ startOf (directionOf (a .back)) x y = rw (range-back {z = x} (d .low), range-back {z = y} (d .high)) at (c .before .first-value .ensures) in
+    let f : c .before .first-value .result ≡ startOf (directionOf (a .reversed)) x y = rw (range-back {z = x} (d .low), range-back {z = y} (d .high)) at (c .before .first-value .ensures) in
     let t : c .tally .result ≡ roundsOf (y -ℤ x) = rw (range-back {z = x} (d .low), range-back {z = y} (d .high)) at (c .tally .ensures .0) in
-    let s : inRange (c .before .first-value .result) ≡ true = ap inRange f ∙ start-between (a .back) x y (d .low) (d .high) in
+    let s : inRange (c .before .first-value .result) ≡ true = ap inRange f ∙ start-between (a .reversed) x y (d .low) (d .high) in
     record { once = λ e. absurd (c .before .before .before .before .before .before .if1 .left e); looped = λ n. rw (range-back {z = c .before .first-value .result} s) (record { x = x; y = y; bounded = b; first = f; often = t }) }
 
 pub repeats-of-spec : {M : Type 1} → statement M

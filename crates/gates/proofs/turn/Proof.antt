@@ -12,21 +12,21 @@ use mir.Val.{toZ, ofZ}
 use mir.ValLaws.{toZ-ofZ, toZ-pos}
 use Rattle.language.specs.Form.{inRange}
 use Rattle.language.proofs.Integers.{range-back, range-fits}
-use Rattle.gates.proofs.Rounding.{turn-small, turn-up, turn-down, narrow}
+use Rattle.gates.proofs.RoundValues.{turn-small, turn-up, turn-down, narrow}
 
 -- src/lib.rt:196:13
 cast-k : tie.Need-cast-k
 cast-k c =
     let a = c .args in
-    let s = turn-small (a .back) (a .start) (a .i) (c .pre .0) (c .pre .1) in
+    let s = turn-small (a .reversed) (a .start) (a .i) (c .pre .0) (c .pre .1) in
     record { sfits = omega arith }
 
 -- src/lib.rt:198:17
 sub-z : tie.Need-sub-z
 sub-z c =
     let a = c .before .args in
-    let s = turn-small (a .back) (a .start) (a .i) (c .before .pre .0) (c .before .pre .1) in
-    let e = turn-down (a .back) (a .start) (a .i) (c .if1 .taken) in
+    let s = turn-small (a .reversed) (a .start) (a .i) (c .before .pre .0) (c .before .pre .1) in
+    let e = turn-down (a .reversed) (a .start) (a .i) (c .if1 .taken) in
     let k : toZ w64 (a .i) ≡ pos (a .i) = toZ-pos w64 (a .i) (omega arith) in
     let h : inRange (a .start -ℤ pos (a .i)) ≡ true = sym (ap inRange e) ∙ c .before .pre .1 in
     rw (range-back {z = a .start} (c .before .pre .0), k) (range-fits (a .start -ℤ pos (a .i)) h)
@@ -35,8 +35,8 @@ sub-z c =
 cast-result : tie.Need-cast-result
 cast-result c =
     let a = c .before .args in
-    let s = turn-small (a .back) (a .start) (a .i) (c .before .pre .0) (c .before .pre .1) in
-    let e = turn-down (a .back) (a .start) (a .i) (c .if1 .taken) in
+    let s = turn-small (a .reversed) (a .start) (a .i) (c .before .pre .0) (c .before .pre .1) in
+    let e = turn-down (a .reversed) (a .start) (a .i) (c .if1 .taken) in
     let k : toZ w64 (a .i) ≡ pos (a .i) = toZ-pos w64 (a .i) (omega arith) in
     let h : inRange (a .start -ℤ pos (a .i)) ≡ true = sym (ap inRange e) ∙ c .before .pre .1 in
     rw (range-back {z = a .start} (c .before .pre .0), k, range-back {z = (a .start -ℤ pos (a .i))} h) (narrow (a .start -ℤ pos (a .i)) h)
@@ -45,8 +45,8 @@ cast-result c =
 returns : tie.Need-returns
 returns c =
     let a = c .before .args in
-    let s = turn-small (a .back) (a .start) (a .i) (c .before .pre .0) (c .before .pre .1) in
-    let e = turn-down (a .back) (a .start) (a .i) (c .if1 .taken) in
+    let s = turn-small (a .reversed) (a .start) (a .i) (c .before .pre .0) (c .before .pre .1) in
+    let e = turn-down (a .reversed) (a .start) (a .i) (c .if1 .taken) in
     let k : toZ w64 (a .i) ≡ pos (a .i) = toZ-pos w64 (a .i) (omega arith) in
     let h : inRange (a .start -ℤ pos (a .i)) ≡ true = sym (ap inRange e) ∙ c .before .pre .1 in
     rw (range-back {z = a .start} (c .before .pre .0), k, range-back {z = (a .start -ℤ pos (a .i))} h, toZ-ofZ w32 (a .start -ℤ pos (a .i)) (narrow (a .start -ℤ pos (a .i)) h)) (sym e)
@@ -55,8 +55,8 @@ returns c =
 add-z : tie.Need-add-z
 add-z c =
     let a = c .before .args in
-    let s = turn-small (a .back) (a .start) (a .i) (c .before .pre .0) (c .before .pre .1) in
-    let e = turn-up (a .back) (a .start) (a .i) (c .if1 .left) in
+    let s = turn-small (a .reversed) (a .start) (a .i) (c .before .pre .0) (c .before .pre .1) in
+    let e = turn-up (a .reversed) (a .start) (a .i) (c .if1 .left) in
     let k : toZ w64 (a .i) ≡ pos (a .i) = toZ-pos w64 (a .i) (omega arith) in
     let h : inRange (a .start +ℤ pos (a .i)) ≡ true = sym (ap inRange e) ∙ c .before .pre .1 in
     rw (range-back {z = a .start} (c .before .pre .0), k) (range-fits (a .start +ℤ pos (a .i)) h)
@@ -65,8 +65,8 @@ add-z c =
 cast-result-2 : tie.Need-cast-result-2
 cast-result-2 c =
     let a = c .before .args in
-    let s = turn-small (a .back) (a .start) (a .i) (c .before .pre .0) (c .before .pre .1) in
-    let e = turn-up (a .back) (a .start) (a .i) (c .if1 .left) in
+    let s = turn-small (a .reversed) (a .start) (a .i) (c .before .pre .0) (c .before .pre .1) in
+    let e = turn-up (a .reversed) (a .start) (a .i) (c .if1 .left) in
     let k : toZ w64 (a .i) ≡ pos (a .i) = toZ-pos w64 (a .i) (omega arith) in
     let h : inRange (a .start +ℤ pos (a .i)) ≡ true = sym (ap inRange e) ∙ c .before .pre .1 in
     rw (range-back {z = a .start} (c .before .pre .0), k, range-back {z = (a .start +ℤ pos (a .i))} h) (narrow (a .start +ℤ pos (a .i)) h)
@@ -75,8 +75,8 @@ cast-result-2 c =
 returns-2 : tie.Need-returns-2
 returns-2 c =
     let a = c .before .args in
-    let s = turn-small (a .back) (a .start) (a .i) (c .before .pre .0) (c .before .pre .1) in
-    let e = turn-up (a .back) (a .start) (a .i) (c .if1 .left) in
+    let s = turn-small (a .reversed) (a .start) (a .i) (c .before .pre .0) (c .before .pre .1) in
+    let e = turn-up (a .reversed) (a .start) (a .i) (c .if1 .left) in
     let k : toZ w64 (a .i) ≡ pos (a .i) = toZ-pos w64 (a .i) (omega arith) in
     let h : inRange (a .start +ℤ pos (a .i)) ≡ true = sym (ap inRange e) ∙ c .before .pre .1 in
     rw (range-back {z = a .start} (c .before .pre .0), k, range-back {z = (a .start +ℤ pos (a .i))} h, toZ-ofZ w32 (a .start +ℤ pos (a .i)) (narrow (a .start +ℤ pos (a .i)) h)) (sym e)

@@ -19,12 +19,12 @@ use mathlib.Core.Bool.{Bool, true, false}
 use Rattle.language.proofs.Integers.{clash}
 use Rattle.fields.specs.declared.Header.the-variants.{Whole, End, Cut}
 use Rattle.fields.specs.Header.{fieldsAt, headerOf}
-use Rattle.lists.specs.Walks.{mostKept, Begins, Kept, Linked, Lasts}
-use Rattle.lists.proofs.Walking.{when-in, begins-next, stops-broken, kept-set, kept-up, kept-push, kept-swap, kept-below, kept-some, top-is, linked-none, linked-push, lasts-none, lasts-one, lasts-all}
+use Rattle.lists.specs.Walks.{mostKept, FieldBegins, PositionsKept, Linked, Lasts}
+use Rattle.lists.proofs.Positions.{when-in, begins-next, stops-broken, kept-set, kept-up, kept-push, kept-swap, kept-below, kept-some, top-is, linked-none, linked-push, lasts-none, lasts-one, lasts-all}
 
 abbrev Inv-loop : tie.InvT-loop
 Inv-loop p from to cuts₀ depth first at₀ d₀ due₀ all₀ cuts at d due all =
-    Begins p from at × (at < to) × Kept p from cuts d (suc at) × Kept p from cuts depth (suc at) × ((1 ≤ depth) × (depth ≤ d) × (d ≤ mostKept) × (length cuts ≡ mostKept)) × (all ≡ true → (getD cuts (d - 1) 0 ≡ at) × Linked p cuts (depth - 1) (d - 1) at)
+    FieldBegins p from at × (at < to) × PositionsKept p from cuts d (suc at) × PositionsKept p from cuts depth (suc at) × ((1 ≤ depth) × (depth ≤ d) × (d ≤ mostKept) × (length cuts ≡ mostKept)) × (all ≡ true → (getD cuts (d - 1) 0 ≡ at) × Linked p cuts (depth - 1) (d - 1) at)
 
 abbrev μ-loop : tie.MeasureT-loop
 μ-loop p from to cuts₀ depth first at₀ d₀ due₀ all₀ cuts at d due all =
@@ -39,19 +39,19 @@ tell-requires c κs =
 sub-first : tie.Need-sub-first Inv-loop μ-loop
 sub-first c =
     let a = c .before .before .before .args in
-    omega (arith, kept-some (now (a .p)) (a .from) (now (a .cuts)) (a .depth) (a .to) (c .before .before .before .pre .2) (c .before .before .before .pre .4))
+    omega (arith, kept-some (now (a .bytes)) (a .from) (now (a .cuts)) (a .depth) (a .to) (c .before .before .before .pre .2) (c .before .before .before .pre .4))
 
 -- src/lib.rt:85:23
 mul-long : tie.Need-mul-long Inv-loop μ-loop
 mul-long c =
     let a = c .before .before .before .args in
-    omega (arith, kept-some (now (a .p)) (a .from) (now (a .cuts)) (a .depth) (a .to) (c .before .before .before .pre .2) (c .before .before .before .pre .4), c .before .before .before .pre .3, c .tell .ensures)
+    omega (arith, kept-some (now (a .bytes)) (a .from) (now (a .cuts)) (a .depth) (a .to) (c .before .before .before .pre .2) (c .before .before .before .pre .4), c .before .before .before .pre .3, c .tell .ensures)
 
 -- src/lib.rt:85:23
 element-copy-out-long : tie.Need-element-copy-out-long Inv-loop μ-loop
 element-copy-out-long c =
     let a = c .before .before .before .args in
-    omega (arith, kept-some (now (a .p)) (a .from) (now (a .cuts)) (a .depth) (a .to) (c .before .before .before .pre .2) (c .before .before .before .pre .4), c .before .before .before .pre .3, c .tell .ensures)
+    omega (arith, kept-some (now (a .bytes)) (a .from) (now (a .cuts)) (a .depth) (a .to) (c .before .before .before .pre .2) (c .before .before .before .pre .4), c .before .before .before .pre .3, c .tell .ensures)
 
 -- src/lib.rt:85:9
 long-requires : tie.Need-long-requires Inv-loop μ-loop
@@ -62,9 +62,9 @@ long-requires c κs =
 loop-holds : tie.Need-loop-holds Inv-loop μ-loop
 loop-holds c =
     let a = c .before .before .before .before .before .args in
-    let s = kept-some (now (a .p)) (a .from) (now (a .cuts)) (a .depth) (a .to) (c .before .before .before .before .before .pre .2) (c .before .before .before .before .before .pre .4) in
-    let t = top-is (now (a .p)) (a .from) (now (a .cuts)) (a .depth) (a .to) s (c .before .before .before .before .before .pre .4) in
-    rw (c .long .ensures .0) (t .begins, t .below, t .again, t .again, (s, omega arith, c .before .before .before .before .before .pre .3, c .before .before .tell .ensures), (λ z. (refl, linked-none (now (a .p)) (now (a .cuts)) (a .depth - 1) (a .depth - 1) _ (omega arith))))
+    let s = kept-some (now (a .bytes)) (a .from) (now (a .cuts)) (a .depth) (a .to) (c .before .before .before .before .before .pre .2) (c .before .before .before .before .before .pre .4) in
+    let t = top-is (now (a .bytes)) (a .from) (now (a .cuts)) (a .depth) (a .to) s (c .before .before .before .before .before .pre .4) in
+    rw (c .long .ensures .0) (t .begins, t .below, t .again, t .again, (s, omega arith, c .before .before .before .before .before .pre .3, c .before .before .tell .ensures), (λ z. (refl, linked-none (now (a .bytes)) (now (a .cuts)) (a .depth - 1) (a .depth - 1) _ (omega arith))))
 
 -- src/lib.rt:90:38
 header-at-requires : tie.Need-header-at-requires Inv-loop μ-loop
@@ -80,7 +80,7 @@ enum-known-next c =
 returns : tie.Need-returns Inv-loop μ-loop
 returns c =
     let a = c .before .before .before .before .before .before .before .before .args in
-    let p = now (a .p) in
+    let p = now (a .bytes) in
     let i = c .before .before .loop in
     let v = i .inv in
     lasts-none p (a .from) (i .cuts) (a .to) (stops-broken p (a .from) (i .at) (a .to) (v .0) (v .1) (c .before .before .before .before .before .before .before .before .pre .0) (rw (c .before .header-at .ensures) at (c .match .keys2)))
@@ -89,7 +89,7 @@ returns c =
 sub-top : tie.Need-sub-top Inv-loop μ-loop
 sub-top c =
     let a = c .before .before .before .before .before .before .before .before .before .before .args in
-    let p = now (a .p) in
+    let p = now (a .bytes) in
     let i = c .before .before .before .before .loop in
     let v = i .inv in
     omega (arith, v .4 .0, v .4 .1)
@@ -98,7 +98,7 @@ sub-top c =
 returns-2 : tie.Need-returns-2 Inv-loop μ-loop
 returns-2 c =
     let a = c .before .before .before .before .before .before .before .before .before .before .before .before .args in
-    let p = now (a .p) in
+    let p = now (a .bytes) in
     let i = c .before .before .before .before .before .before .loop in
     let v = i .inv in
     let n = c .before .before .before .next .given .0 .1 .0 in
@@ -112,7 +112,7 @@ returns-2 c =
 mul-long-2 : tie.Need-mul-long-2 Inv-loop μ-loop
 mul-long-2 c =
     let a = c .before .before .before .before .before .before .before .before .before .before .before .before .args in
-    let p = now (a .p) in
+    let p = now (a .bytes) in
     let i = c .before .before .before .before .before .before .loop in
     let v = i .inv in
     omega (arith, v .4 .0, v .4 .1, v .4 .2, v .4 .3)
@@ -121,7 +121,7 @@ mul-long-2 c =
 element-copy-out-long-2 : tie.Need-element-copy-out-long-2 Inv-loop μ-loop
 element-copy-out-long-2 c =
     let a = c .before .before .before .before .before .before .before .before .before .before .before .before .args in
-    let p = now (a .p) in
+    let p = now (a .bytes) in
     let i = c .before .before .before .before .before .before .loop in
     let v = i .inv in
     omega (arith, v .4 .0, v .4 .1, v .4 .2, v .4 .3)
@@ -135,7 +135,7 @@ long-requires-2 c κs =
 returns-3 : tie.Need-returns-3 Inv-loop μ-loop
 returns-3 c =
     let a = c .before .before .before .before .before .before .before .before .before .before .before .before .before .before .before .args in
-    let p = now (a .p) in
+    let p = now (a .bytes) in
     let i = c .before .before .before .before .before .before .before .before .before .loop in
     let v = i .inv in
     let n = c .before .before .before .before .before .before .next .given .0 .1 .0 in
@@ -149,7 +149,7 @@ returns-3 c =
 cast-cuts : tie.Need-cast-cuts Inv-loop μ-loop
 cast-cuts c =
     let a = c .before .before .before .before .before .before .before .before .before .before .before .before .before .before .before .before .args in
-    let p = now (a .p) in
+    let p = now (a .bytes) in
     let i = c .before .before .before .before .before .before .before .before .before .before .loop in
     let v = i .inv in
     omega (arith, v .1, c .before .before .before .before .before .before .before .before .before .before .before .before .before .before .before .before .pre .1)
@@ -158,7 +158,7 @@ cast-cuts c =
 mul-cuts : tie.Need-mul-cuts Inv-loop μ-loop
 mul-cuts c =
     let a = c .before .before .before .before .before .before .before .before .before .before .before .before .before .before .before .before .args in
-    let p = now (a .p) in
+    let p = now (a .bytes) in
     let i = c .before .before .before .before .before .before .before .before .before .before .loop in
     let v = i .inv in
     omega (arith, v .4 .3)
@@ -167,7 +167,7 @@ mul-cuts c =
 element-write-cuts : tie.Need-element-write-cuts Inv-loop μ-loop
 element-write-cuts c =
     let a = c .before .before .before .before .before .before .before .before .before .before .before .before .before .before .before .before .args in
-    let p = now (a .p) in
+    let p = now (a .bytes) in
     let i = c .before .before .before .before .before .before .before .before .before .before .loop in
     let v = i .inv in
     omega (arith, v .4 .3)
@@ -176,7 +176,7 @@ element-write-cuts c =
 add-more : tie.Need-add-more Inv-loop μ-loop
 add-more c =
     let a = c .before .before .before .before .before .before .before .before .before .before .before .before .before .before .before .before .args in
-    let p = now (a .p) in
+    let p = now (a .bytes) in
     let i = c .before .before .before .before .before .before .before .before .before .before .loop in
     let v = i .inv in
     omega (arith, v .4 .3)
@@ -185,7 +185,7 @@ add-more c =
 returns-4 : tie.Need-returns-4 Inv-loop μ-loop
 returns-4 c =
     let a = c .before .before .before .before .before .before .before .before .before .before .before .before .before .before .before .before .args in
-    let p = now (a .p) in
+    let p = now (a .bytes) in
     let i = c .before .before .before .before .before .before .before .before .before .before .loop in
     let v = i .inv in
     let n = c .before .before .before .before .before .before .before .next .given .0 .1 .0 in
@@ -202,7 +202,7 @@ returns-4 c =
 cast-cuts-2 : tie.Need-cast-cuts-2 Inv-loop μ-loop
 cast-cuts-2 c =
     let a = c .before .before .before .before .before .before .before .before .before .before .before .before .before .before .before .before .args in
-    let p = now (a .p) in
+    let p = now (a .bytes) in
     let i = c .before .before .before .before .before .before .before .before .before .before .loop in
     let v = i .inv in
     omega (arith, v .1, c .before .before .before .before .before .before .before .before .before .before .before .before .before .before .before .before .pre .1)
@@ -211,7 +211,7 @@ cast-cuts-2 c =
 mul-cuts-2 : tie.Need-mul-cuts-2 Inv-loop μ-loop
 mul-cuts-2 c =
     let a = c .before .before .before .before .before .before .before .before .before .before .before .before .before .before .before .before .args in
-    let p = now (a .p) in
+    let p = now (a .bytes) in
     let i = c .before .before .before .before .before .before .before .before .before .before .loop in
     let v = i .inv in
     omega (arith, v .4 .0, v .4 .1, v .4 .2, v .4 .3)
@@ -220,7 +220,7 @@ mul-cuts-2 c =
 element-write-cuts-2 : tie.Need-element-write-cuts-2 Inv-loop μ-loop
 element-write-cuts-2 c =
     let a = c .before .before .before .before .before .before .before .before .before .before .before .before .before .before .before .before .args in
-    let p = now (a .p) in
+    let p = now (a .bytes) in
     let i = c .before .before .before .before .before .before .before .before .before .before .loop in
     let v = i .inv in
     omega (arith, v .4 .0, v .4 .1, v .4 .2, v .4 .3)
@@ -229,7 +229,7 @@ element-write-cuts-2 c =
 returns-5 : tie.Need-returns-5 Inv-loop μ-loop
 returns-5 c =
     let a = c .before .before .before .before .before .before .before .before .before .before .before .before .before .before .before .before .args in
-    let p = now (a .p) in
+    let p = now (a .bytes) in
     let i = c .before .before .before .before .before .before .before .before .before .before .loop in
     let v = i .inv in
     let n = c .before .before .before .before .before .before .before .next .given .0 .1 .0 in
@@ -250,7 +250,7 @@ skipped-requires c κs =
 loop-less : tie.Need-loop-less Inv-loop μ-loop
 loop-less c =
     let a = c .before .before .before .before .before .before .before .before .before .before .before .before .before .args in
-    let p = now (a .p) in
+    let p = now (a .bytes) in
     let i = c .before .before .before .before .before .before .before .loop in
     let v = i .inv in
     let n = c .before .before .before .before .next .given .0 .1 .0 in
@@ -264,7 +264,7 @@ loop-less c =
 loop-again : tie.Need-loop-again Inv-loop μ-loop
 loop-again c =
     let a = c .before .before .before .before .before .before .before .before .before .before .before .before .before .args in
-    let p = now (a .p) in
+    let p = now (a .bytes) in
     let i = c .before .before .before .before .before .before .before .loop in
     let v = i .inv in
     let n = c .before .before .before .before .next .given .0 .1 .0 in
@@ -279,7 +279,7 @@ loop-again c =
 cast-cuts-3 : tie.Need-cast-cuts-3 Inv-loop μ-loop
 cast-cuts-3 c =
     let a = c .before .before .before .before .before .before .before .before .before .before .before .before .before .before .args in
-    let p = now (a .p) in
+    let p = now (a .bytes) in
     let i = c .before .before .before .before .before .before .before .before .loop in
     let v = i .inv in
     let n = c .before .before .before .before .before .next .given .0 .1 .0 in
@@ -293,7 +293,7 @@ cast-cuts-3 c =
 mul-cuts-3 : tie.Need-mul-cuts-3 Inv-loop μ-loop
 mul-cuts-3 c =
     let a = c .before .before .before .before .before .before .before .before .before .before .before .before .before .before .args in
-    let p = now (a .p) in
+    let p = now (a .bytes) in
     let i = c .before .before .before .before .before .before .before .before .loop in
     let v = i .inv in
     omega (arith, v .4 .3)
@@ -302,7 +302,7 @@ mul-cuts-3 c =
 element-write-cuts-3 : tie.Need-element-write-cuts-3 Inv-loop μ-loop
 element-write-cuts-3 c =
     let a = c .before .before .before .before .before .before .before .before .before .before .before .before .before .before .args in
-    let p = now (a .p) in
+    let p = now (a .bytes) in
     let i = c .before .before .before .before .before .before .before .before .loop in
     let v = i .inv in
     omega (arith, v .4 .3)
@@ -311,7 +311,7 @@ element-write-cuts-3 c =
 add-d : tie.Need-add-d Inv-loop μ-loop
 add-d c =
     let a = c .before .before .before .before .before .before .before .before .before .before .before .before .before .before .args in
-    let p = now (a .p) in
+    let p = now (a .bytes) in
     let i = c .before .before .before .before .before .before .before .before .loop in
     let v = i .inv in
     omega (arith, v .4 .3)
@@ -320,7 +320,7 @@ add-d c =
 later-requires : tie.Need-later-requires Inv-loop μ-loop
 later-requires c κs =
     let a = c .before .before .before .before .before .before .before .before .before .before .before .before .before .before .args in
-    let p = now (a .p) in
+    let p = now (a .bytes) in
     let i = c .before .before .before .before .before .before .before .before .loop in
     let v = i .inv in
     let n = c .before .before .before .before .before .next .given .0 .1 .0 in
@@ -334,7 +334,7 @@ later-requires c κs =
 loop-less-2 : tie.Need-loop-less-2 Inv-loop μ-loop
 loop-less-2 c =
     let a = c .before .before .before .before .before .before .before .before .before .before .before .before .before .before .before .args in
-    let p = now (a .p) in
+    let p = now (a .bytes) in
     let i = c .before .before .before .before .before .before .before .before .before .loop in
     let v = i .inv in
     let n = c .before .before .before .before .before .before .next .given .0 .1 .0 in
@@ -348,7 +348,7 @@ loop-less-2 c =
 loop-again-2 : tie.Need-loop-again-2 Inv-loop μ-loop
 loop-again-2 c =
     let a = c .before .before .before .before .before .before .before .before .before .before .before .before .before .before .before .args in
-    let p = now (a .p) in
+    let p = now (a .bytes) in
     let i = c .before .before .before .before .before .before .before .before .before .loop in
     let v = i .inv in
     let n = c .before .before .before .before .before .before .next .given .0 .1 .0 in
@@ -371,7 +371,7 @@ loop-again-2 c =
 cast-cuts-4 : tie.Need-cast-cuts-4 Inv-loop μ-loop
 cast-cuts-4 c =
     let a = c .before .before .before .before .before .before .before .before .before .before .before .before .before .before .before .args in
-    let p = now (a .p) in
+    let p = now (a .bytes) in
     let i = c .before .before .before .before .before .before .before .before .before .loop in
     let v = i .inv in
     let n = c .before .before .before .before .before .before .next .given .0 .1 .0 in
@@ -385,7 +385,7 @@ cast-cuts-4 c =
 mul-cuts-4 : tie.Need-mul-cuts-4 Inv-loop μ-loop
 mul-cuts-4 c =
     let a = c .before .before .before .before .before .before .before .before .before .before .before .before .before .before .before .args in
-    let p = now (a .p) in
+    let p = now (a .bytes) in
     let i = c .before .before .before .before .before .before .before .before .before .loop in
     let v = i .inv in
     omega (arith, v .4 .3)
@@ -394,7 +394,7 @@ mul-cuts-4 c =
 element-write-cuts-4 : tie.Need-element-write-cuts-4 Inv-loop μ-loop
 element-write-cuts-4 c =
     let a = c .before .before .before .before .before .before .before .before .before .before .before .before .before .before .before .args in
-    let p = now (a .p) in
+    let p = now (a .bytes) in
     let i = c .before .before .before .before .before .before .before .before .before .loop in
     let v = i .inv in
     omega (arith, v .4 .3)
@@ -403,7 +403,7 @@ element-write-cuts-4 c =
 add-d-2 : tie.Need-add-d-2 Inv-loop μ-loop
 add-d-2 c =
     let a = c .before .before .before .before .before .before .before .before .before .before .before .before .before .before .before .args in
-    let p = now (a .p) in
+    let p = now (a .bytes) in
     let i = c .before .before .before .before .before .before .before .before .before .loop in
     let v = i .inv in
     omega (arith, v .4 .3)
@@ -412,7 +412,7 @@ add-d-2 c =
 spaced-requires : tie.Need-spaced-requires Inv-loop μ-loop
 spaced-requires c κs =
     let a = c .before .before .before .before .before .before .before .before .before .before .before .before .before .before .before .args in
-    let p = now (a .p) in
+    let p = now (a .bytes) in
     let i = c .before .before .before .before .before .before .before .before .before .loop in
     let v = i .inv in
     let n = c .before .before .before .before .before .before .next .given .0 .1 .0 in
@@ -426,7 +426,7 @@ spaced-requires c κs =
 loop-less-3 : tie.Need-loop-less-3 Inv-loop μ-loop
 loop-less-3 c =
     let a = c .before .before .before .before .before .before .before .before .before .before .before .before .before .before .before .before .args in
-    let p = now (a .p) in
+    let p = now (a .bytes) in
     let i = c .before .before .before .before .before .before .before .before .before .before .loop in
     let v = i .inv in
     let n = c .before .before .before .before .before .before .before .next .given .0 .1 .0 in
@@ -440,7 +440,7 @@ loop-less-3 c =
 loop-again-3 : tie.Need-loop-again-3 Inv-loop μ-loop
 loop-again-3 c =
     let a = c .before .before .before .before .before .before .before .before .before .before .before .before .before .before .before .before .args in
-    let p = now (a .p) in
+    let p = now (a .bytes) in
     let i = c .before .before .before .before .before .before .before .before .before .before .loop in
     let v = i .inv in
     let n = c .before .before .before .before .before .before .before .next .given .0 .1 .0 in
@@ -462,7 +462,7 @@ loop-again-3 c =
 loop-less-4 : tie.Need-loop-less-4 Inv-loop μ-loop
 loop-less-4 c =
     let a = c .before .before .before .before .before .before .before .before .before .before .before .before .before .before .before .args in
-    let p = now (a .p) in
+    let p = now (a .bytes) in
     let i = c .before .before .before .before .before .before .before .before .before .loop in
     let v = i .inv in
     let n = c .before .before .before .before .before .before .next .given .0 .1 .0 in
@@ -476,7 +476,7 @@ loop-less-4 c =
 loop-again-4 : tie.Need-loop-again-4 Inv-loop μ-loop
 loop-again-4 c =
     let a = c .before .before .before .before .before .before .before .before .before .before .before .before .before .before .before .args in
-    let p = now (a .p) in
+    let p = now (a .bytes) in
     let i = c .before .before .before .before .before .before .before .before .before .loop in
     let v = i .inv in
     let n = c .before .before .before .before .before .before .next .given .0 .1 .0 in

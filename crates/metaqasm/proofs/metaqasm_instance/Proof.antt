@@ -4,7 +4,7 @@ use Rattle.metaqasm.proofs.metaqasm_instance.Tie as tie
 use Rattle.metaqasm.proofs.metaqasm_instance.Reads as reads
 use Rattle.metaqasm.proofs.metaqasm_instance.Lts as lts
 use Rattle.metaqasm.proofs.checked.Reads as checked-reads
-use Rattle.metaqasm.proofs.told.Reads as told-reads
+use Rattle.metaqasm.proofs.result_of_answer.Reads as told-reads
 use Rattle.metaqasm.proofs.wide.Reads as wide-reads
 use Rattle.runs.proofs.instance.Reads as instance-reads
 use Prim.Native.Nat.{ℕ, _*_}
@@ -14,7 +14,7 @@ use denote.Ref.{now}
 use lib.ListN.{length}
 use Rattle.language.specs.Result.{Result}
 use Rattle.metaqasm.specs.Answers.{answered}
-use Rattle.metaqasm.proofs.Telling.{acceptable, instance-told, instance-answers, refused-instance, refused-counts, refused-sound}
+use Rattle.metaqasm.proofs.AcceptedRuns.{acceptable, instance-told, instance-answers, refused-instance, refused-counts, refused-sound}
 
 -- src/lib.rt:114:9
 checked-requires : tie.Need-checked-requires
@@ -46,8 +46,8 @@ instance-requires c κs =
     acceptable l e
 
 -- src/lib.rt:118:5
-told-requires : tie.Need-told-requires
-told-requires c κs =
+result-of-answer-requires : tie.Need-result-of-answer-requires
+result-of-answer-requires c κs =
     let a = c .before .before .before .before .before .before .before .before .before .before .before .args in
     let l = now (a .program) in
     let lent = now (a .output) in
@@ -67,7 +67,7 @@ returns-2 c =
     let lent = now (a .output) in
     let e = sym (ap (λ (r : Result). r .number) (c .before .before .before .before .before .before .before .before .checked .ensures)) ∙ c .before .before .before .before .before .before .if1 .left in
     let out = c .before .before .before .instance .last .1 .1 .1 .1 .0 in
-    let t = instance-answers l (a .family) (now (a .sizes)) (a .limit) lent e out (c .before .before .before .instance .result) (answered (c .told .result)) (rw (c .before .before .before .before .before .wide .ensures) at (c .before .before .before .instance .ensures)) (c .told .ensures out) in
+    let t = instance-answers l (a .family) (now (a .sizes)) (a .limit) lent e out (c .before .before .before .instance .result) (answered (c .answerTold .result)) (rw (c .before .before .before .before .before .wide .ensures) at (c .before .before .before .instance .ensures)) (c .answerTold .ensures out) in
     (t .0, (t .1, (t .2, t .3)))
 
 pub metaqasm-instance-spec : {M : Type 1} → statement M
@@ -78,6 +78,6 @@ metaqasm-instance-spec =
     returns
     wide-requires
     instance-requires
-    told-requires
+    result-of-answer-requires
     same-length
     returns-2)

@@ -4,7 +4,7 @@ use Rattle.metaqasm.proofs.metaqasm_run.Tie as tie
 use Rattle.metaqasm.proofs.metaqasm_run.Reads as reads
 use Rattle.metaqasm.proofs.metaqasm_run.Lts as lts
 use Rattle.metaqasm.proofs.checked.Reads as checked-reads
-use Rattle.metaqasm.proofs.told.Reads as told-reads
+use Rattle.metaqasm.proofs.result_of_answer.Reads as told-reads
 use Rattle.runs.proofs.run.Reads as run-reads
 use Prim.Native.Nat.{ℕ, _*_}
 use mathlib.Core.Path.{_≡_, refl, sym, ap, _∙_}
@@ -13,7 +13,7 @@ use denote.Ref.{now}
 use lib.ListN.{length}
 use Rattle.language.specs.Result.{Result}
 use Rattle.metaqasm.specs.Answers.{answered}
-use Rattle.metaqasm.proofs.Telling.{acceptable, run-told, run-answers, refused-run, refused-counts, refused-sound}
+use Rattle.metaqasm.proofs.AcceptedRuns.{acceptable, run-told, run-answers, refused-run, refused-counts, refused-sound}
 
 -- src/lib.rt:88:9
 checked-requires : tie.Need-checked-requires
@@ -40,8 +40,8 @@ run-requires c κs =
     acceptable l e
 
 -- src/lib.rt:92:5
-told-requires : tie.Need-told-requires
-told-requires c κs =
+result-of-answer-requires : tie.Need-result-of-answer-requires
+result-of-answer-requires c κs =
     let a = c .before .before .before .before .before .before .before .before .before .args in
     let l = now (a .program) in
     let lent = now (a .output) in
@@ -61,9 +61,9 @@ returns-2 c =
     let lent = now (a .output) in
     let e = sym (ap (λ (r : Result). r .number) (c .before .before .before .before .before .before .before .checked .ensures)) ∙ c .before .before .before .before .before .if1 .left in
     let out = c .before .before .before .run .last .1 .1 .0 in
-    let t = run-answers l (a .limit) lent e out (c .before .before .before .run .result) (answered (c .told .result)) (c .before .before .before .run .ensures) (c .told .ensures out) in
+    let t = run-answers l (a .limit) lent e out (c .before .before .before .run .result) (answered (c .answerTold .result)) (c .before .before .before .run .ensures) (c .answerTold .ensures out) in
     (t .0, (t .1, (t .2, t .3)))
 
 pub metaqasm-run-spec : {M : Type 1} → statement M
 metaqasm-run-spec =
-    tie.close (tie.spec checked-requires returns run-requires told-requires same-length returns-2)
+    tie.close (tie.spec checked-requires returns run-requires result-of-answer-requires same-length returns-2)

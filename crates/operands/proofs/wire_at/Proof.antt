@@ -16,8 +16,8 @@ use lib.ListN.{length, getD, take, drop}
 use lib.Seq.{slice}
 use mathlib.Core.Path.{_≡_, refl, _∙_, ap, sym}
 use Rattle.fields.proofs.Between.{in-whole, not-empty, first-byte}
-use Rattle.operands.specs.Stand.{operandsOf, Operands}
-use Rattle.operands.proofs.Naming.{wire-none, wire-some, whole-operand}
+use Rattle.operands.specs.Meanings.{operandsOf, FieldMeans}
+use Rattle.operands.proofs.OperandFields.{wire-none, wire-some, whole-operand}
 
 -- src/lib.rt:255:35
 header-at-requires : tie.Need-header-at-requires
@@ -33,13 +33,13 @@ enum-known-tag c =
 returns : tie.Need-returns
 returns c =
     let a = c .before .before .before .args in
-    wire-none (now (a .p)) (a .at) (a .to) (take (a .many) (now (a .vars))) (operandsOf (a .scope) (now (a .regs))) (rw (c .before .header-at .ensures) at (c .match .keys2))
+    wire-none (now (a .bytes)) (a .at) (a .to) (take (a .many) (now (a .vars))) (operandsOf (a .scope) (now (a .regs))) (rw (c .before .header-at .ensures) at (c .match .keys2))
 
 -- src/lib.rt:258:16
 add-from : tie.Need-add-from
 add-from c =
     let a = c .before .before .before .before .before .args in
-    let f = in-whole (now (a .p)) (a .at) (a .to) _ _ (sym (c .before .before .before .header-at .ensures) ∙ c .before .tag .given .1) in
+    let f = in-whole (now (a .bytes)) (a .at) (a .to) _ _ (sym (c .before .before .before .header-at .ensures) ∙ c .before .tag .given .1) in
     omega (arith, f .low, f .high)
 
 -- src/lib.rt:261:56
@@ -47,7 +47,7 @@ shared-slice-read-wide : tie.Need-shared-slice-read-wide
 shared-slice-read-wide c =
     let a = c .before .before .before .before .before .before .before .before .args in
     let end = c .before .before .before .before .tag .given .0 .1 .0 in
-    let f = in-whole (now (a .p)) (a .at) (a .to) _ _ (sym (c .before .before .before .before .before .before .header-at .ensures) ∙ c .before .before .before .before .tag .given .1) in
+    let f = in-whole (now (a .bytes)) (a .at) (a .to) _ _ (sym (c .before .before .before .before .before .before .header-at .ensures) ∙ c .before .before .before .before .tag .given .1) in
     let low = ltb-true (a .at + 3) end (c .before .if2 .taken) in
     omega (arith, f .low, f .high)
 
@@ -70,7 +70,7 @@ as-wire-requires c κs =
 returns-2 : tie.Need-returns-2
 returns-2 c =
     let a = c .before .before .before .before .before .before .before .before .before .before .before .args in
-    let l = now (a .p) in
+    let l = now (a .bytes) in
     let v = take (a .many) (now (a .vars)) in
     let ms = operandsOf (a .scope) (now (a .regs)) in
     let e = sym (c .before .before .before .before .before .before .before .before .before .header-at .ensures) ∙ c .before .before .before .before .before .before .before .tag .given .1 in
@@ -86,7 +86,7 @@ returns-2 c =
 meaning-requires : tie.Need-meaning-requires
 meaning-requires c κs =
     let a = c .before .before .before .before .before .before .args in
-    let f = in-whole (now (a .p)) (a .at) (a .to) _ _ (sym (c .before .before .before .before .header-at .ensures) ∙ c .before .before .tag .given .1) in
+    let f = in-whole (now (a .bytes)) (a .at) (a .to) _ _ (sym (c .before .before .before .before .header-at .ensures) ∙ c .before .before .tag .given .1) in
     search needs
 
 -- src/lib.rt:263:5
@@ -98,7 +98,7 @@ as-wire-requires-2 c κs =
 returns-3 : tie.Need-returns-3
 returns-3 c =
     let a = c .before .before .before .before .before .before .before .before .args in
-    wire-some (now (a .p)) (a .at) (a .to) (take (a .many) (now (a .vars))) (operandsOf (a .scope) (now (a .regs))) _ _ (c .before .meaning .result) (c .as-wire2 .result) (sym (c .before .before .before .before .before .before .header-at .ensures) ∙ c .before .before .before .before .tag .given .1) (c .before .meaning .ensures) (c .as-wire2 .ensures)
+    wire-some (now (a .bytes)) (a .at) (a .to) (take (a .many) (now (a .vars))) (operandsOf (a .scope) (now (a .regs))) _ _ (c .before .meaning .result) (c .as-wire2 .result) (sym (c .before .before .before .before .before .before .header-at .ensures) ∙ c .before .before .before .before .tag .given .1) (c .before .meaning .ensures) (c .as-wire2 .ensures)
 
 pub wire-at-spec : {M : Type 1} → statement M
 wire-at-spec =

@@ -19,11 +19,11 @@ use denote.Ref.{now}
 use lib.ListN.{length, take}
 use lib.Seq.{slice}
 use Rattle.language.specs.Read.{readTop, field}
-use Rattle.emit.proofs.Doing.{step-full, step-taken}
-use Rattle.gates.proofs.Acting.{does-as}
+use Rattle.emit.proofs.Sequences.{step-full, step-taken}
+use Rattle.gates.proofs.GateRuns.{does-as}
 use Rattle.language.specs.Machine.{actTop}
-use Rattle.runs.specs.Acting.{globalsIn}
-use Rattle.runs.proofs.Topping.{list-acts, timed, measure-acts, reset-acts, if-acts}
+use Rattle.runs.specs.TopFields.{globalsIn}
+use Rattle.runs.proofs.TopTags.{list-acts, timed, measure-acts, reset-acts, if-acts}
 
 -- src/lib.rt:234:16
 cast-seen : tie.Need-cast-seen

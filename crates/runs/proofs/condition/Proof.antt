@@ -6,8 +6,8 @@ use Prim.Native.Nat.{ℕ}
 use mathlib.Core.Path.{_≡_, sym, ap}
 use native.Mathlib.Omega.{arith}
 use Rattle.language.specs.Machine.{whenBit}
-use Rattle.operands.specs.Stand.{theBit}
-use Rattle.emit.specs.Squares.{conditionOf}
+use Rattle.operands.specs.Meanings.{theBit}
+use Rattle.emit.specs.Outcomes.{conditionOf}
 
 -- src/lib.rt:96:9
 returns : tie.Need-returns

@@ -18,12 +18,12 @@ use lib.Seq.{slice, length-slice}
 use lib.ListN.{length, take}
 use Rattle.language.specs.Read.{read}
 use Rattle.language.specs.Machine.{allDeclared}
-use Rattle.emit.proofs.Doing.{does-end, does-stuck}
-use Rattle.gates.proofs.Acting.{does-as}
+use Rattle.emit.proofs.Sequences.{does-end, does-stuck}
+use Rattle.gates.proofs.GateRuns.{does-as}
 use Rattle.gates.specs.Gates.{frameIn}
 use Rattle.fields.proofs.Between.{in-whole, first-byte}
-use Rattle.runs.specs.Acting.{topMode, ifAt}
-use Rattle.runs.proofs.Topping.{if-over, if-stuck, if-bit, if-none}
+use Rattle.runs.specs.TopFields.{topMode, ifAt}
+use Rattle.runs.proofs.TopTags.{if-over, if-stuck, if-bit, if-none}
 
 -- src/lib.rt:186:16
 add-from : tie.Need-add-from

@@ -14,9 +14,9 @@ use native.Mathlib.Omega.{arith}
 use denote.Ref.{now}
 use lib.ListN.{length, getD}
 use Rattle.language.specs.Result.{instanceOf}
-use Rattle.calls.proofs.Tabling.{tabled, tabled-fewer}
-use Rattle.runs.proofs.Concluding.{concluded-early}
-use Rattle.runs.proofs.Instancing.{no-family, instance-none, family-is}
+use Rattle.calls.proofs.FamilyTable.{tabled, tabled-fewer}
+use Rattle.runs.proofs.Conclusions.{concluded-early}
+use Rattle.runs.proofs.InstanceRuns.{no-family, instance-none, family-is}
 
 -- src/lib.rt:464:39
 slice-aggregate-families : tie.Need-slice-aggregate-families

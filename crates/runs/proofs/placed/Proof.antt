@@ -16,15 +16,15 @@ use denote.Ref.{now}
 use lib.ListN.{length, take, getD}
 use lib.Seq.{slice}
 use Rattle.language.specs.Machine.{instanceRun}
-use Rattle.emit.specs.Squares.{conditionOf}
-use Rattle.emit.proofs.Doing.{does-end, does-stuck}
+use Rattle.emit.specs.Outcomes.{conditionOf}
+use Rattle.emit.proofs.Sequences.{does-end, does-stuck}
 use Rattle.fields.specs.Table.{pastOf}
-use Rattle.gates.proofs.Acting.{does-as}
+use Rattle.gates.proofs.GateRuns.{does-as}
 use Rattle.gates.specs.Gates.{directionOf}
 use Rattle.layout.specs.Layout.{LaysOut}
 use Rattle.layout.proofs.Instances.{laid-done, laid-past, laid-over, laid-stuck}
 use Rattle.runs.specs.Whole.{started, familyWith}
-use Rattle.runs.proofs.Instancing.{instance-runs, instance-ends, instance-stuck, ends-near}
+use Rattle.runs.proofs.InstanceRuns.{instance-runs, instance-ends, instance-stuck, ends-near}
 
 -- src/lib.rt:391:9
 past-requires : tie.Need-past-requires

@@ -13,8 +13,8 @@ use native.Mathlib.Omega.{arith}
 use denote.Ref.{now}
 use lib.ListN.{take}
 use Rattle.language.specs.Machine.{Meaning}
-use Rattle.operands.specs.Stand.{registersOf}
-use Rattle.runs.proofs.Declaring.{quantum-fits, classical-fits, quantum-more, classical-more, quantum-row, classical-row}
+use Rattle.operands.specs.Meanings.{registersOf}
+use Rattle.runs.proofs.Declarations.{quantum-fits, classical-fits, quantum-more, classical-more, quantum-row, classical-row}
 
 -- src/lib.rt:48:9
 two-bytes-requires : tie.Need-two-bytes-requires

@@ -10,7 +10,7 @@ use denote.Ref.{now}
 use lib.ListN.{length}
 use Rattle.language.specs.Read.{read}
 use Rattle.language.specs.Machine.{runTops, runProgram, nothingYet}
-use Rattle.runs.proofs.Concluding.{does-all}
+use Rattle.runs.proofs.Conclusions.{does-all}
 
 -- src/lib.rt:370:31
 slice-aggregate-families : tie.Need-slice-aggregate-families

@@ -15,7 +15,7 @@ use Rattle.language.specs.Machine.{instanceRun, runInstance}
 use Rattle.language.specs.Lookup.{meaning}
 use Rattle.layout.proofs.Instances.{sizes-fit, sizes-wrong, sizes-large}
 use Rattle.runs.specs.Whole.{familyWith}
-use Rattle.runs.proofs.Concluding.{does-all, concluded-early}
+use Rattle.runs.proofs.Conclusions.{does-all, concluded-early}
 
 -- src/lib.rt:442:24
 add-many : tie.Need-add-many

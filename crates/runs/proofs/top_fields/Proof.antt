@@ -15,7 +15,7 @@ use denote.Ref.{now}
 use lib.ListN.{length}
 use Rattle.fields.proofs.Reading.{when-whole, part-slice}
 use Rattle.runs.specs.Whole.{DeclareReady}
-use Rattle.runs.proofs.Running.{field-alone, field-within, At, at-start, ends-here, cut-here, declare-ready, declared-on, acts-ready, acted-on, acted-last, tabled-here, few-families}
+use Rattle.runs.proofs.TopFields.{field-alone, field-within, At, at-start, ends-here, cut-here, declare-ready, declared-on, acts-ready, acted-on, acted-last, tabled-here, few-families}
 
 abbrev Inv-loop : tie.InvT-loop
 Inv-loop program table regs₀ limit out₀ to at₀ t₀ s₀ regs out at t s =

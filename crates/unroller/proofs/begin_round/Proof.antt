@@ -14,14 +14,14 @@ use mir.Val.{SFits}
 use mir.ValLaws.{toZ-ofZ}
 use Rattle.language.proofs.Integers.{range-back}
 use Rattle.gates.specs.Gates.{turnOf}
-use Rattle.gates.proofs.Rounding.{narrow}
+use Rattle.gates.proofs.RoundValues.{narrow}
 use Rattle.unroller.proofs.Rounds.{not-true, not-false, turned-once, turned-none, turns-are, turned-goes}
 
 -- src/lib.rt:53:9
 returns : tie.Need-returns
 returns c =
     let a = c .before .args in
-    turned-once (a .looping) (a .m) (a .place) (a .start) (a .i) (now (a .vars)) (a .st) (not-true (a .looping) (c .if1 .taken))
+    turned-once (a .looping) (a .mode) (a .place) (a .start) (a .i) (now (a .vars)) (a .st) (not-true (a .looping) (c .if1 .taken))
 
 -- src/lib.rt:57:34
 cast-t12 : tie.Need-cast-t12
@@ -32,7 +32,7 @@ cast-t12 c =
 returns-2 : tie.Need-returns-2
 returns-2 c =
     let a = c .before .before .before .args in
-    turned-none (a .looping) (a .m) (a .place) (a .start) (a .i) (now (a .vars)) (a .st) (not-false (a .looping) (c .before .before .if1 .left)) (c .if2 .taken)
+    turned-none (a .looping) (a .mode) (a .place) (a .start) (a .i) (now (a .vars)) (a .st) (not-false (a .looping) (c .before .before .if1 .left)) (c .if2 .taken)
 
 -- src/lib.rt:59:17
 add-taken : tie.Need-add-taken
@@ -48,7 +48,7 @@ wide-requires c κs =
 sub-last : tie.Need-sub-last
 sub-last c =
     let a = c .before .before .before .before .args in
-    let w = turns-are (a .looping) (a .m) (a .place) (a .start) (a .i) (now (a .vars)) (a .st) (not-false (a .looping) (c .before .before .before .if1 .left)) (c .before .before .before .before .pre .1) in
+    let w = turns-are (a .looping) (a .mode) (a .place) (a .start) (a .i) (now (a .vars)) (a .st) (not-false (a .looping) (c .before .before .before .if1 .left)) (c .before .before .before .before .pre .1) in
     omega (arith, w .0, c .wide .ensures)
 
 -- src/lib.rt:61:5
@@ -60,7 +60,7 @@ tell-requires c κs =
 turn-requires : tie.Need-turn-requires
 turn-requires c κs =
     let a = c .before .before .before .before .before .before .args in
-    let w = turns-are (a .looping) (a .m) (a .place) (a .start) (a .i) (now (a .vars)) (a .st) (not-false (a .looping) (c .before .before .before .before .before .if1 .left)) (c .before .before .before .before .before .before .pre .1) in
+    let w = turns-are (a .looping) (a .mode) (a .place) (a .start) (a .i) (now (a .vars)) (a .st) (not-false (a .looping) (c .before .before .before .before .before .if1 .left)) (c .before .before .before .before .before .before .pre .1) in
     rw (range-back {z = a .start} (w .1)) (w .1, w .2)
 
 -- src/lib.rt:62:5
@@ -78,11 +78,11 @@ returns-3 : tie.Need-returns-3
 returns-3 c =
     let a = c .before .before .before .before .before .before .before .args in
     let on = not-false (a .looping) (c .before .before .before .before .before .before .if1 .left) in
-    let w = turns-are (a .looping) (a .m) (a .place) (a .start) (a .i) (now (a .vars)) (a .st) on (c .before .before .before .before .before .before .before .pre .1) in
-    let z = turnOf (a .m .back) (a .start) (a .i) in
+    let w = turns-are (a .looping) (a .mode) (a .place) (a .start) (a .i) (now (a .vars)) (a .st) on (c .before .before .before .before .before .before .before .pre .1) in
+    let z = turnOf (a .mode .reversed) (a .start) (a .i) in
     let e : c .turn .result ≡ z = rw (range-back {z = a .start} (w .1)) at (c .turn .ensures) in
     let f : SFits w32 (c .turn .result) = rw e (narrow z (w .2)) in
-    turned-goes (a .looping) (a .m) (a .place) (a .start) (a .i) (now (a .vars)) (a .st) on (c .before .before .before .before .before .before .before .pre .1) (omega (arith, c .before .tell .ensures, c .before .before .before .before .before .before .before .pre .0 .1)) (c .before .before .before .before .if2 .left) _ refl refl _ (omega (arith, c .before .before .before .wide .ensures)) _ (toZ-ofZ w32 (c .turn .result) f ∙ e)
+    turned-goes (a .looping) (a .mode) (a .place) (a .start) (a .i) (now (a .vars)) (a .st) on (c .before .before .before .before .before .before .before .pre .1) (omega (arith, c .before .tell .ensures, c .before .before .before .before .before .before .before .pre .0 .1)) (c .before .before .before .before .if2 .left) _ refl refl _ (omega (arith, c .before .before .before .wide .ensures)) _ (toZ-ofZ w32 (c .turn .result) f ∙ e)
 
 pub begin-round-spec : {M : Type 1} → statement M
 begin-round-spec =

@@ -7,7 +7,7 @@ use native.Mathlib.Omega.{arith}
 use borrow.Author.Needs.{needs}
 use lib.ListN.{length}
 use Rattle.io.proofs.Counting.{counts}
-use Rattle.list.proofs.Lending.{filled, filled-length, part-count}
+use Rattle.list.proofs.LentBuffers.{filled, filled-length, part-count}
 
 abbrev Inv-loop : tie.InvT-loop
 Inv-loop bytes₀ size₀ bytes size =

@@ -7,7 +7,7 @@ use native.Mathlib.Omega.{arith}
 use borrow.Author.Needs.{needs}
 use lib.ListN.{length, length-set}
 use Rattle.io.proofs.Counting.{counts}
-use Rattle.list.proofs.Lending.{filled, filled-length, within}
+use Rattle.list.proofs.LentBuffers.{filled, filled-length, within}
 
 abbrev Inv-loop : tie.InvT-loop
 Inv-loop text₀ many size₀ i₀ text size i =

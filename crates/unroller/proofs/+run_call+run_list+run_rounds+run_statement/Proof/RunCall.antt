@@ -12,14 +12,14 @@ use denote.Ref.{now}
 use lib.ListN.{length, getD, take}
 use lib.Seq.{slice, length-slice}
 use Rattle.fields.specs.Table.{pastOf}
-use Rattle.operands.specs.Stand.{operandsOf}
-use Rattle.emit.proofs.Doing.{does-end, does-stuck, step-taken}
+use Rattle.operands.specs.Meanings.{operandsOf}
+use Rattle.emit.proofs.Sequences.{does-end, does-stuck, step-taken}
 use Rattle.gates.specs.Gates.{frameIn}
-use Rattle.gates.proofs.Acting.{does-as}
+use Rattle.gates.proofs.GateRuns.{does-as}
 use Rattle.calls.specs.Families.{Entry}
 use Rattle.calls.specs.Arguments.{Arguments}
-use Rattle.calls.proofs.Calling.{head-of}
-use Rattle.calls.proofs.Tabling.{tabled-fewer}
+use Rattle.calls.proofs.CallByNumber.{head-of}
+use Rattle.calls.proofs.FamilyTable.{tabled-fewer}
 use Rattle.unroller.specs.Runs.{Often, oneRun}
 use Rattle.unroller.proofs.Statements.{nameless-not}
 use Rattle.unroller.proofs.Bodies.{call-none, call-over, call-stuck, call-begins, call-all}
@@ -29,9 +29,9 @@ module _ (t : ℕ) where
   pub shared-slice-read-n : lts.Need-shared-slice-read-n (calls t) (at t) Post
   shared-slice-read-n c =
       let a = c .before .before .before .before .args in
-      let l = now (a .p) in
+      let l = now (a .bytes) in
       let g = now (a .program) in
-      let vs = take (a .m .many) (now (a .vars)) in
+      let vs = take (a .mode .variables) (now (a .vars)) in
       let room = length (now (a .out)) in
       let ready = c .before .before .before .before .pre .1 .0 in
       let tb = c .before .before .before .before .pre .1 .1 .1 .0 in
@@ -50,9 +50,9 @@ module _ (t : ℕ) where
   pub returns : lts.Need-returns (calls t) (at t) Post
   returns c =
       let a = c .before .before .before .before .before .before .before .args in
-      let l = now (a .p) in
+      let l = now (a .bytes) in
       let g = now (a .program) in
-      let vs = take (a .m .many) (now (a .vars)) in
+      let vs = take (a .mode .variables) (now (a .vars)) in
       let room = length (now (a .out)) in
       let ready = c .before .before .before .before .before .before .before .pre .1 .0 in
       let tb = c .before .before .before .before .before .before .before .pre .1 .1 .1 .0 in
@@ -60,15 +60,15 @@ module _ (t : ℕ) where
       let gap = nameless-not 36 (a .to - a .from) (en .named) refl in
       let low : a .from < a .to = omega (arith, gap) in
       let k = getD l (a .from) 0 in
-      (λ s q. does-as _ _ _ _ _ (oneRun (a .m) room (a .place) 36 (slice (a .from) (a .to) l) g (frameIn (a .m) vs (a .scope) (now (a .regs)))) (call-none (a .m) room (a .from) (a .to) (a .place) l g vs (a .scope) (now (a .regs)) (en .deep) low (ready .within) (omega (arith, c .if1 .taken, c .before .before .wider .ensures))) (step-taken (a .m .limit) room (now (a .out)) s (a .st) (a .place) _ _ _ (q .left) (q .same) (q .more) (does-stuck (now (a .out)) (a .st) _)))
+      (λ s q. does-as _ _ _ _ _ (oneRun (a .mode) room (a .place) 36 (slice (a .from) (a .to) l) g (frameIn (a .mode) vs (a .scope) (now (a .regs)))) (call-none (a .mode) room (a .from) (a .to) (a .place) l g vs (a .scope) (now (a .regs)) (en .deep) low (ready .within) (omega (arith, c .if1 .taken, c .before .before .wider .ensures))) (step-taken (a .mode .limit) room (now (a .out)) s (a .st) (a .place) _ _ _ (q .left) (q .same) (q .more) (does-stuck (now (a .out)) (a .st) _)))
 
   -- src/lib.rt:302:9
   pub listed-requires : lts.Need-listed-requires (calls t) (at t) Post
   listed-requires c κs =
       let a = c .before .before .before .before .before .before .before .args in
-      let l = now (a .p) in
+      let l = now (a .bytes) in
       let g = now (a .program) in
-      let vs = take (a .m .many) (now (a .vars)) in
+      let vs = take (a .mode .variables) (now (a .vars)) in
       let room = length (now (a .out)) in
       let ready = c .before .before .before .before .before .before .before .pre .1 .0 in
       let tb = c .before .before .before .before .before .before .before .pre .1 .1 .1 .0 in
@@ -76,7 +76,7 @@ module _ (t : ℕ) where
       let gap = nameless-not 36 (a .to - a .from) (en .named) refl in
       let low : a .from < a .to = omega (arith, gap) in
       let k = getD l (a .from) 0 in
-      let below : k < a .m .seen = omega (arith, c .if1 .left, c .before .before .wider .ensures) in
+      let below : k < a .mode .«families_visible» = omega (arith, c .if1 .left, c .before .before .wider .ensures) in
       omega (arith, tb .many)
 
   -- src/lib.rt:303:9
@@ -88,9 +88,9 @@ module _ (t : ℕ) where
   pub add-first : lts.Need-add-first (calls t) (at t) Post
   add-first c =
       let a = c .before .before .before .before .before .before .before .before .before .args in
-      let l = now (a .p) in
+      let l = now (a .bytes) in
       let g = now (a .program) in
-      let vs = take (a .m .many) (now (a .vars)) in
+      let vs = take (a .mode .variables) (now (a .vars)) in
       let room = length (now (a .out)) in
       let ready = c .before .before .before .before .before .before .before .before .before .pre .1 .0 in
       let tb = c .before .before .before .before .before .before .before .before .before .pre .1 .1 .1 .0 in
@@ -104,9 +104,9 @@ module _ (t : ℕ) where
   pub arguments-requires : lts.Need-arguments-requires (calls t) (at t) Post
   arguments-requires c κs =
       let a = c .before .before .before .before .before .before .before .before .before .before .before .args in
-      let l = now (a .p) in
+      let l = now (a .bytes) in
       let g = now (a .program) in
-      let vs = take (a .m .many) (now (a .vars)) in
+      let vs = take (a .mode .variables) (now (a .vars)) in
       let room = length (now (a .out)) in
       let ready = c .before .before .before .before .before .before .before .before .before .before .before .pre .1 .0 in
       let tb = c .before .before .before .before .before .before .before .before .before .before .before .pre .1 .1 .1 .0 in
@@ -114,7 +114,7 @@ module _ (t : ℕ) where
       let gap = nameless-not 36 (a .to - a .from) (en .named) refl in
       let low : a .from < a .to = omega (arith, gap) in
       let k = getD l (a .from) 0 in
-      let below : k < a .m .seen = omega (arith, c .before .before .before .before .if1 .left, c .before .before .before .before .before .before .wider .ensures) in
+      let below : k < a .mode .«families_visible» = omega (arith, c .before .before .before .before .if1 .left, c .before .before .before .before .before .before .wider .ensures) in
       let at = c .before .before .before .listed .result in
       let e : Entry g k at = rw (c .before .before .before .listed .ensures) (tb .each k below) in
       (ready .within, (omega (arith, ready .few, c .before .before .wide .ensures .0), head-of e))
@@ -143,9 +143,9 @@ module _ (t : ℕ) where
   pub body-of-requires : lts.Need-body-of-requires (calls t) (at t) Post
   body-of-requires c κs =
       let a = c .before .before .before .before .before .before .before .before .before .before .before .before .before .before .before .args in
-      let l = now (a .p) in
+      let l = now (a .bytes) in
       let g = now (a .program) in
-      let vs = take (a .m .many) (now (a .vars)) in
+      let vs = take (a .mode .variables) (now (a .vars)) in
       let room = length (now (a .out)) in
       let ready = c .before .before .before .before .before .before .before .before .before .before .before .before .before .before .before .pre .1 .0 in
       let tb = c .before .before .before .before .before .before .before .before .before .before .before .before .before .before .before .pre .1 .1 .1 .0 in
@@ -153,22 +153,22 @@ module _ (t : ℕ) where
       let gap = nameless-not 36 (a .to - a .from) (en .named) refl in
       let low : a .from < a .to = omega (arith, gap) in
       let k = getD l (a .from) 0 in
-      let below : k < a .m .seen = omega (arith, c .before .before .before .before .before .before .before .before .if1 .left, c .before .before .before .before .before .before .before .before .before .before .wider .ensures) in
+      let below : k < a .mode .«families_visible» = omega (arith, c .before .before .before .before .before .before .before .before .if1 .left, c .before .before .before .before .before .before .before .before .before .before .wider .ensures) in
       let at = c .before .before .before .before .before .before .before .listed .result in
       let e : Entry g k at = rw (c .before .before .before .before .before .before .before .listed .ensures) (tb .each k below) in
       let ar : Arguments (slice (a .from + 1) (a .to) l) g at vs (operandsOf (a .scope) (now (a .regs))) _ _ (c .before .before .before .arguments .result) = rw (c .before .before .before .before .before .before .wide .ensures .0) at (c .before .before .before .arguments .ensures) in
       let n = c .before .count .given .0 .0 in
       let start = c .before .count .given .0 .1 .0 in
-      let bf = call-begins (a .m) room (a .from) (a .to) (a .place) l g vs (a .scope) (now (a .regs)) (en .deep) low (ready .within) at below e _ _ (c .before .before .before .arguments .result) ar n start (c .before .count .given .1) in
+      let bf = call-begins (a .mode) room (a .from) (a .to) (a .place) l g vs (a .scope) (now (a .regs)) (en .deep) low (ready .within) at below e _ _ (c .before .before .before .arguments .result) ar n start (c .before .count .given .1) in
       (head-of e, bf)
 
   -- src/lib.rt:325:59
   pub add-entered : lts.Need-add-entered (calls t) (at t) Post
   add-entered c =
       let a = c .before .before .before .before .before .before .before .before .before .before .before .before .before .before .before .before .args in
-      let l = now (a .p) in
+      let l = now (a .bytes) in
       let g = now (a .program) in
-      let vs = take (a .m .many) (now (a .vars)) in
+      let vs = take (a .mode .variables) (now (a .vars)) in
       let room = length (now (a .out)) in
       let ready = c .before .before .before .before .before .before .before .before .before .before .before .before .before .before .before .before .pre .1 .0 in
       let tb = c .before .before .before .before .before .before .before .before .before .before .before .before .before .before .before .before .pre .1 .1 .1 .0 in
@@ -176,7 +176,7 @@ module _ (t : ℕ) where
       let gap = nameless-not 36 (a .to - a .from) (en .named) refl in
       let low : a .from < a .to = omega (arith, gap) in
       let k = getD l (a .from) 0 in
-      let below : k < a .m .seen = omega (arith, c .before .before .before .before .before .before .before .before .before .if1 .left, c .before .before .before .before .before .before .before .before .before .before .before .wider .ensures) in
+      let below : k < a .mode .«families_visible» = omega (arith, c .before .before .before .before .before .before .before .before .before .if1 .left, c .before .before .before .before .before .before .before .before .before .before .before .wider .ensures) in
       let at = c .before .before .before .before .before .before .before .before .listed .result in
       let e : Entry g k at = rw (c .before .before .before .before .before .before .before .before .listed .ensures) (tb .each k below) in
       omega (arith, e .long, e .within)
@@ -185,9 +185,9 @@ module _ (t : ℕ) where
   pub shared-slice-read-entered : lts.Need-shared-slice-read-entered (calls t) (at t) Post
   shared-slice-read-entered c =
       let a = c .before .before .before .before .before .before .before .before .before .before .before .before .before .before .before .before .before .args in
-      let l = now (a .p) in
+      let l = now (a .bytes) in
       let g = now (a .program) in
-      let vs = take (a .m .many) (now (a .vars)) in
+      let vs = take (a .mode .variables) (now (a .vars)) in
       let room = length (now (a .out)) in
       let ready = c .before .before .before .before .before .before .before .before .before .before .before .before .before .before .before .before .before .pre .1 .0 in
       let tb = c .before .before .before .before .before .before .before .before .before .before .before .before .before .before .before .before .before .pre .1 .1 .1 .0 in
@@ -195,7 +195,7 @@ module _ (t : ℕ) where
       let gap = nameless-not 36 (a .to - a .from) (en .named) refl in
       let low : a .from < a .to = omega (arith, gap) in
       let k = getD l (a .from) 0 in
-      let below : k < a .m .seen = omega (arith, c .before .before .before .before .before .before .before .before .before .before .if1 .left, c .before .before .before .before .before .before .before .before .before .before .before .before .wider .ensures) in
+      let below : k < a .mode .«families_visible» = omega (arith, c .before .before .before .before .before .before .before .before .before .before .if1 .left, c .before .before .before .before .before .before .before .before .before .before .before .before .wider .ensures) in
       let at = c .before .before .before .before .before .before .before .before .before .listed .result in
       let e : Entry g k at = rw (c .before .before .before .before .before .before .before .before .before .listed .ensures) (tb .each k below) in
       omega (arith, e .long, e .within)
@@ -215,9 +215,9 @@ module _ (t : ℕ) where
   unfolding Often
   run-list-requires c κs =
       let a = c .before .before .before .before .before .before .before .before .before .before .before .before .before .before .before .before .before .before .before .before .before .before .args in
-      let l = now (a .p) in
+      let l = now (a .bytes) in
       let g = now (a .program) in
-      let vs = take (a .m .many) (now (a .vars)) in
+      let vs = take (a .mode .variables) (now (a .vars)) in
       let room = length (now (a .out)) in
       let ready = c .before .before .before .before .before .before .before .before .before .before .before .before .before .before .before .before .before .before .before .before .before .before .pre .1 .0 in
       let tb = c .before .before .before .before .before .before .before .before .before .before .before .before .before .before .before .before .before .before .before .before .before .before .pre .1 .1 .1 .0 in
@@ -225,24 +225,24 @@ module _ (t : ℕ) where
       let gap = nameless-not 36 (a .to - a .from) (en .named) refl in
       let low : a .from < a .to = omega (arith, gap) in
       let k = getD l (a .from) 0 in
-      let below : k < a .m .seen = omega (arith, c .before .before .before .before .before .before .before .before .before .before .before .before .before .before .before .if1 .left, c .before .before .before .before .before .before .before .before .before .before .before .before .before .before .before .before .before .wider .ensures) in
+      let below : k < a .mode .«families_visible» = omega (arith, c .before .before .before .before .before .before .before .before .before .before .before .before .before .before .before .if1 .left, c .before .before .before .before .before .before .before .before .before .before .before .before .before .before .before .before .before .wider .ensures) in
       let at = c .before .before .before .before .before .before .before .before .before .before .before .before .before .before .listed .result in
       let e : Entry g k at = rw (c .before .before .before .before .before .before .before .before .before .before .before .before .before .before .listed .ensures) (tb .each k below) in
       let ar : Arguments (slice (a .from + 1) (a .to) l) g at vs (operandsOf (a .scope) (now (a .regs))) _ _ (c .before .before .before .before .before .before .before .before .before .before .arguments .result) = rw (c .before .before .before .before .before .before .before .before .before .before .before .before .before .wide .ensures .0) at (c .before .before .before .before .before .before .before .before .before .before .arguments .ensures) in
       let n = c .before .before .before .before .before .before .before .before .count .given .0 .0 in
       let start = c .before .before .before .before .before .before .before .before .count .given .0 .1 .0 in
-      let bf = call-begins (a .m) room (a .from) (a .to) (a .place) l g vs (a .scope) (now (a .regs)) (en .deep) low (ready .within) at below e _ _ (c .before .before .before .before .before .before .before .before .before .before .arguments .result) ar n start (c .before .before .before .before .before .before .before .before .count .given .1) in
+      let bf = call-begins (a .mode) room (a .from) (a .to) (a .place) l g vs (a .scope) (now (a .regs)) (en .deep) low (ready .within) at below e _ _ (c .before .before .before .before .before .before .before .before .before .before .arguments .result) ar n start (c .before .before .before .before .before .before .before .before .count .given .1) in
       let part-is : now (c .before .before .before .before .before .before .body-of .result) ≡ slice start (pastOf g at) g = c .before .before .before .before .before .before .body-of .ensures in
       let long : length (now (c .before .before .before .before .before .before .body-of .result)) ≡ pastOf g at - start = ap (λ (x : List ℕ). length x) part-is ∙ length-slice start (pastOf g at) g (e .within) in
-      rw (c .before .before .before .before .entered .ensures, c .before .before .before .before .before .before .before .before .before .before .before .before .before .before .before .before .before .wider .ensures) (omega (arith, c .before .before .before .before .before .before .before .before .before .before .before .before .before .before .before .before .before .before .before .before .before .before .pre .0, below, long, tb .short, e .within), (record { few = omega (arith, e .variables); order = omega arith; within = omega arith; near = omega (arith, long, bf .high, e .within, tb .short); here = ready .here }, (tabled-fewer g (now (a .table)) (a .m .seen) k (omega (arith, below)) tb, refl)))
+      rw (c .before .before .before .before .entered .ensures, c .before .before .before .before .before .before .before .before .before .before .before .before .before .before .before .before .before .wider .ensures) (omega (arith, c .before .before .before .before .before .before .before .before .before .before .before .before .before .before .before .before .before .before .before .before .before .before .pre .0, below, long, tb .short, e .within), (record { few = omega (arith, e .variables); order = omega arith; within = omega arith; near = omega (arith, long, bf .high, e .within, tb .short); here = ready .here }, (tabled-fewer g (now (a .table)) (a .mode .«families_visible») k (omega (arith, below)) tb, refl)))
 
   -- src/lib.rt:276:1
   pub returns-2 : lts.Need-returns-2 (calls t) (at t) Post
   returns-2 c =
       let a = c .before .before .before .before .before .before .before .before .before .before .before .before .before .before .args in
-      let l = now (a .p) in
+      let l = now (a .bytes) in
       let g = now (a .program) in
-      let vs = take (a .m .many) (now (a .vars)) in
+      let vs = take (a .mode .variables) (now (a .vars)) in
       let room = length (now (a .out)) in
       let ready = c .before .before .before .before .before .before .before .before .before .before .before .before .before .before .pre .1 .0 in
       let tb = c .before .before .before .before .before .before .before .before .before .before .before .before .before .before .pre .1 .1 .1 .0 in
@@ -250,19 +250,19 @@ module _ (t : ℕ) where
       let gap = nameless-not 36 (a .to - a .from) (en .named) refl in
       let low : a .from < a .to = omega (arith, gap) in
       let k = getD l (a .from) 0 in
-      let below : k < a .m .seen = omega (arith, c .before .before .before .before .before .before .before .if1 .left, c .before .before .before .before .before .before .before .before .before .wider .ensures) in
+      let below : k < a .mode .«families_visible» = omega (arith, c .before .before .before .before .before .before .before .if1 .left, c .before .before .before .before .before .before .before .before .before .wider .ensures) in
       let at = c .before .before .before .before .before .before .listed .result in
       let e : Entry g k at = rw (c .before .before .before .before .before .before .listed .ensures) (tb .each k below) in
       let ar : Arguments (slice (a .from + 1) (a .to) l) g at vs (operandsOf (a .scope) (now (a .regs))) _ _ (c .before .before .arguments .result) = rw (c .before .before .before .before .before .wide .ensures .0) at (c .before .before .arguments .ensures) in
-      (λ s q. does-as _ _ _ _ _ (oneRun (a .m) room (a .place) 36 (slice (a .from) (a .to) l) g (frameIn (a .m) vs (a .scope) (now (a .regs)))) (call-over (a .m) room (a .from) (a .to) (a .place) l g vs (a .scope) (now (a .regs)) (en .deep) low (ready .within) at below e _ _ (c .before .before .arguments .result) ar (c .enum-told .given .1)) (step-taken (a .m .limit) room (now (a .out)) s (a .st) (a .place) _ _ _ (q .left) (q .same) (q .more) (does-end (now (a .out)) (a .st) 24 (a .place))))
+      (λ s q. does-as _ _ _ _ _ (oneRun (a .mode) room (a .place) 36 (slice (a .from) (a .to) l) g (frameIn (a .mode) vs (a .scope) (now (a .regs)))) (call-over (a .mode) room (a .from) (a .to) (a .place) l g vs (a .scope) (now (a .regs)) (en .deep) low (ready .within) at below e _ _ (c .before .before .arguments .result) ar (c .enum-told .given .1)) (step-taken (a .mode .limit) room (now (a .out)) s (a .st) (a .place) _ _ _ (q .left) (q .same) (q .more) (does-end (now (a .out)) (a .st) 24 (a .place))))
 
   -- src/lib.rt:276:1
   pub returns-3 : lts.Need-returns-3 (calls t) (at t) Post
   returns-3 c =
       let a = c .before .before .before .before .before .before .before .before .before .before .before .before .before .before .args in
-      let l = now (a .p) in
+      let l = now (a .bytes) in
       let g = now (a .program) in
-      let vs = take (a .m .many) (now (a .vars)) in
+      let vs = take (a .mode .variables) (now (a .vars)) in
       let room = length (now (a .out)) in
       let ready = c .before .before .before .before .before .before .before .before .before .before .before .before .before .before .pre .1 .0 in
       let tb = c .before .before .before .before .before .before .before .before .before .before .before .before .before .before .pre .1 .1 .1 .0 in
@@ -270,11 +270,11 @@ module _ (t : ℕ) where
       let gap = nameless-not 36 (a .to - a .from) (en .named) refl in
       let low : a .from < a .to = omega (arith, gap) in
       let k = getD l (a .from) 0 in
-      let below : k < a .m .seen = omega (arith, c .before .before .before .before .before .before .before .if1 .left, c .before .before .before .before .before .before .before .before .before .wider .ensures) in
+      let below : k < a .mode .«families_visible» = omega (arith, c .before .before .before .before .before .before .before .if1 .left, c .before .before .before .before .before .before .before .before .before .wider .ensures) in
       let at = c .before .before .before .before .before .before .listed .result in
       let e : Entry g k at = rw (c .before .before .before .before .before .before .listed .ensures) (tb .each k below) in
       let ar : Arguments (slice (a .from + 1) (a .to) l) g at vs (operandsOf (a .scope) (now (a .regs))) _ _ (c .before .before .arguments .result) = rw (c .before .before .before .before .before .wide .ensures .0) at (c .before .before .arguments .ensures) in
-      (λ s q. does-as _ _ _ _ _ (oneRun (a .m) room (a .place) 36 (slice (a .from) (a .to) l) g (frameIn (a .m) vs (a .scope) (now (a .regs)))) (call-stuck (a .m) room (a .from) (a .to) (a .place) l g vs (a .scope) (now (a .regs)) (en .deep) low (ready .within) at below e _ _ (c .before .before .arguments .result) ar (c .enum-told2 .given .1)) (step-taken (a .m .limit) room (now (a .out)) s (a .st) (a .place) _ _ _ (q .left) (q .same) (q .more) (does-stuck (now (a .out)) (a .st) _)))
+      (λ s q. does-as _ _ _ _ _ (oneRun (a .mode) room (a .place) 36 (slice (a .from) (a .to) l) g (frameIn (a .mode) vs (a .scope) (now (a .regs)))) (call-stuck (a .mode) room (a .from) (a .to) (a .place) l g vs (a .scope) (now (a .regs)) (en .deep) low (ready .within) at below e _ _ (c .before .before .arguments .result) ar (c .enum-told2 .given .1)) (step-taken (a .mode .limit) room (now (a .out)) s (a .st) (a .place) _ _ _ (q .left) (q .same) (q .more) (does-stuck (now (a .out)) (a .st) _)))
 
   -- src/lib.rt:276:1
   pub same-length : lts.Need-same-length (calls t) (at t) Post
@@ -285,9 +285,9 @@ module _ (t : ℕ) where
   pub returns-4 : lts.Need-returns-4 (calls t) (at t) Post
   returns-4 c =
       let a = c .before .before .before .before .before .before .before .before .before .before .before .before .before .before .before .before .before .before .before .before .before .before .before .before .before .args in
-      let l = now (a .p) in
+      let l = now (a .bytes) in
       let g = now (a .program) in
-      let vs = take (a .m .many) (now (a .vars)) in
+      let vs = take (a .mode .variables) (now (a .vars)) in
       let room = length (now (a .out)) in
       let ready = c .before .before .before .before .before .before .before .before .before .before .before .before .before .before .before .before .before .before .before .before .before .before .before .before .before .pre .1 .0 in
       let tb = c .before .before .before .before .before .before .before .before .before .before .before .before .before .before .before .before .before .before .before .before .before .before .before .before .before .pre .1 .1 .1 .0 in
@@ -295,14 +295,14 @@ module _ (t : ℕ) where
       let gap = nameless-not 36 (a .to - a .from) (en .named) refl in
       let low : a .from < a .to = omega (arith, gap) in
       let k = getD l (a .from) 0 in
-      let below : k < a .m .seen = omega (arith, c .before .before .before .before .before .before .before .before .before .before .before .before .before .before .before .before .before .before .if1 .left, c .before .before .before .before .before .before .before .before .before .before .before .before .before .before .before .before .before .before .before .before .wider .ensures) in
+      let below : k < a .mode .«families_visible» = omega (arith, c .before .before .before .before .before .before .before .before .before .before .before .before .before .before .before .before .before .before .if1 .left, c .before .before .before .before .before .before .before .before .before .before .before .before .before .before .before .before .before .before .before .before .wider .ensures) in
       let at = c .before .before .before .before .before .before .before .before .before .before .before .before .before .before .before .before .before .listed .result in
       let e : Entry g k at = rw (c .before .before .before .before .before .before .before .before .before .before .before .before .before .before .before .before .before .listed .ensures) (tb .each k below) in
       let ar : Arguments (slice (a .from + 1) (a .to) l) g at vs (operandsOf (a .scope) (now (a .regs))) _ _ (c .before .before .before .before .before .before .before .before .before .before .before .before .before .arguments .result) = rw (c .before .before .before .before .before .before .before .before .before .before .before .before .before .before .before .before .wide .ensures .0) at (c .before .before .before .before .before .before .before .before .before .before .before .before .before .arguments .ensures) in
       let n = c .before .before .before .before .before .before .before .before .before .before .before .count .given .0 .0 in
       let start = c .before .before .before .before .before .before .before .before .before .before .before .count .given .0 .1 .0 in
-      let bf = call-begins (a .m) room (a .from) (a .to) (a .place) l g vs (a .scope) (now (a .regs)) (en .deep) low (ready .within) at below e _ _ (c .before .before .before .before .before .before .before .before .before .before .before .before .before .arguments .result) ar n start (c .before .before .before .before .before .before .before .before .before .before .before .count .given .1) in
+      let bf = call-begins (a .mode) room (a .from) (a .to) (a .place) l g vs (a .scope) (now (a .regs)) (en .deep) low (ready .within) at below e _ _ (c .before .before .before .before .before .before .before .before .before .before .before .before .before .arguments .result) ar n start (c .before .before .before .before .before .before .before .before .before .before .before .count .given .1) in
       let part-is : now (c .before .before .before .before .before .before .before .before .before .body-of .result) ≡ slice start (pastOf g at) g = c .before .before .before .before .before .before .before .before .before .body-of .ensures in
       let long : length (now (c .before .before .before .before .before .before .before .before .before .body-of .result)) ≡ pastOf g at - start = ap (λ (x : List ℕ). length x) part-is ∙ length-slice start (pastOf g at) g (e .within) in
       let d = rw (c .before .before .before .before .before .before .before .entered .ensures, c .before .before .before .before .before .before .before .before .before .before .before .before .before .before .before .before .before .before .before .before .wider .ensures) at (c .before .before .run-list .ensures) in
-      (λ s q. does-as _ _ _ _ _ (oneRun (a .m) room (a .place) 36 (slice (a .from) (a .to) l) g (frameIn (a .m) vs (a .scope) (now (a .regs)))) (call-all (a .m) room (a .from) (a .to) (a .place) l g vs (a .scope) (now (a .regs)) (en .deep) low (ready .within) at below e _ _ (c .before .before .before .before .before .before .before .before .before .before .before .before .before .arguments .result) ar n start (c .before .before .before .before .before .before .before .before .before .before .before .count .given .1) (c .before .before .before .before .scope-of .result) (c .before .before .before .before .scope-of .ensures) (now (c .before .before .before .before .before .before .before .before .before .body-of .result)) part-is) (step-taken (a .m .limit) room (now (a .out)) s (a .st) (a .place) _ _ _ (q .left) (q .same) (q .more) (d .0)))
+      (λ s q. does-as _ _ _ _ _ (oneRun (a .mode) room (a .place) 36 (slice (a .from) (a .to) l) g (frameIn (a .mode) vs (a .scope) (now (a .regs)))) (call-all (a .mode) room (a .from) (a .to) (a .place) l g vs (a .scope) (now (a .regs)) (en .deep) low (ready .within) at below e _ _ (c .before .before .before .before .before .before .before .before .before .before .before .before .before .arguments .result) ar n start (c .before .before .before .before .before .before .before .before .before .before .before .count .given .1) (c .before .before .before .before .scope-of .result) (c .before .before .before .before .scope-of .ensures) (now (c .before .before .before .before .before .before .before .before .before .body-of .result)) part-is) (step-taken (a .mode .limit) room (now (a .out)) s (a .st) (a .place) _ _ _ (q .left) (q .same) (q .more) (d .0)))

@@ -17,18 +17,18 @@ use Rattle.fields.specs.declared.Header.the-variants.{Whole}
 use Rattle.fields.specs.Header.{fieldsAt, headerOf}
 use Rattle.lists.specs.Walks.{wholeOf}
 use Rattle.gates.specs.Gates.{frameIn}
-use Rattle.gates.proofs.Acting.{does-as}
+use Rattle.gates.proofs.GateRuns.{does-as}
 use Rattle.unroller.specs.Runs.{Often, timesRun, keptIn}
 use Rattle.unroller.proofs.Walks.{next-within}
 use Rattle.unroller.proofs.Rounds.{round-turns, kept-still}
-use Rattle.unroller.proofs.Midway as M
+use Rattle.unroller.proofs.ListLoop as M
 
 abbrev pub Inv-loop : lts.InvT-loop
-Inv-loop p base from to place start total looping vars₀ scope regs program table m out₀ back cuts₀ w₀ i₀ s₀ vars out cuts w i s =
-    M.Midway looping m base from to place (toZ w64 start) total p program vars₀ scope regs out₀ s₀ vars out cuts w i s
+Inv-loop p base from to place start total looping vars₀ scope regs program table mode out₀ reversed cuts₀ w₀ i₀ s₀ vars out cuts w i s =
+    M.Midway looping mode base from to place (toZ w64 start) total p program vars₀ scope regs out₀ s₀ vars out cuts w i s
 
 abbrev pub μ-loop : lts.MeasureT-loop
-μ-loop p base from to place start total looping vars₀ scope regs program table m out₀ back cuts₀ w₀ i₀ s₀ vars out cuts w i s =
+μ-loop p base from to place start total looping vars₀ scope regs program table mode out₀ reversed cuts₀ w₀ i₀ s₀ vars out cuts w i s =
     (total - i) * 65536 + (w .to - w .at)
 
 module _ (t : ℕ) where
@@ -41,13 +41,13 @@ module _ (t : ℕ) where
   pub loop-holds : lts.Need-loop-holds (calls t) (at t) Post Inv-loop μ-loop
   loop-holds c =
       let a = c .before .before .before .before .args in
-      let l = now (a .p) in
+      let l = now (a .bytes) in
       let g = now (a .program) in
       let X : ℤ = toZ w64 (ofZ w64 (a .start)) in
       let ready = c .before .before .before .before .pre .1 .0 in
-      let back = sym (toZ-ofZ w64 (a .start) (c .before .before .before .before .fits .start)) in
-      let often = subst (λ (z : ℤ). Often (a .looping) (a .m) z (a .total)) back (c .before .before .before .before .pre .1 .1 .1) in
-      rw (c .whole .ensures) (M.starts (a .looping) (a .m) (a .base) (a .from) (a .to) (a .place) X (a .total) l g (now (a .vars)) (a .scope) (now (a .regs)) (now (a .out)) (a .st) often (ready .order) (ready .within) _)
+      let reversed = sym (toZ-ofZ w64 (a .start) (c .before .before .before .before .fits .start)) in
+      let often = subst (λ (z : ℤ). Often (a .looping) (a .mode) z (a .total)) reversed (c .before .before .before .before .pre .1 .1 .1) in
+      rw (c .whole .ensures) (M.starts (a .looping) (a .mode) (a .base) (a .from) (a .to) (a .place) X (a .total) l g (now (a .vars)) (a .scope) (now (a .regs)) (now (a .out)) (a .st) often (ready .order) (ready .within) _)
 
   -- src/lib.rt:191:17
   pub same-length : lts.Need-same-length (calls t) (at t) Post Inv-loop μ-loop
@@ -58,27 +58,27 @@ module _ (t : ℕ) where
   pub returns : lts.Need-returns (calls t) (at t) Post Inv-loop μ-loop
   returns c =
       let a = c .before .before .before .before .before .before .before .before .args in
-      let l = now (a .p) in
+      let l = now (a .bytes) in
       let g = now (a .program) in
       let X : ℤ = toZ w64 (ofZ w64 (a .start)) in
       let ready = c .before .before .before .before .before .before .before .before .pre .1 .0 in
-      let back = sym (toZ-ofZ w64 (a .start) (c .before .before .before .before .before .before .before .before .fits .start)) in
-      let often = subst (λ (z : ℤ). Often (a .looping) (a .m) z (a .total)) back (c .before .before .before .before .before .before .before .before .pre .1 .1 .1) in
+      let reversed = sym (toZ-ofZ w64 (a .start) (c .before .before .before .before .before .before .before .before .fits .start)) in
+      let often = subst (λ (z : ℤ). Often (a .looping) (a .mode) z (a .total)) reversed (c .before .before .before .before .before .before .before .before .pre .1 .1 .1) in
       let i = c .before .before .before .loop in
-      (does-as _ _ _ _ _ (timesRun (a .looping) (a .m) (length (now (a .out))) (a .base) (a .from) (a .to) (a .place) (a .start) (a .total) l g (frameIn (a .m) (take (keptIn (a .m) (a .looping)) (now (a .vars))) (a .scope) (now (a .regs)))) (ap (λ (z : ℤ). (timesRun (a .looping) (a .m) (length (now (a .out))) (a .base) (a .from) (a .to) (a .place) z (a .total) l g (frameIn (a .m) (take (keptIn (a .m) (a .looping)) (now (a .vars))) (a .scope) (now (a .regs))))) back) (M.ends (a .looping) (a .m) (a .base) (a .from) (a .to) (a .place) X (a .total) l g (now (a .vars)) (a .scope) (now (a .regs)) (now (a .out)) (a .st) (i .vars) (i .out) (i .cuts) (i .w) (i .i) (i .s) (i .inv) (c .before .if1 .taken) (c .if2 .taken)), i .inv .kept)
+      (does-as _ _ _ _ _ (timesRun (a .looping) (a .mode) (length (now (a .out))) (a .base) (a .from) (a .to) (a .place) (a .start) (a .total) l g (frameIn (a .mode) (take (keptIn (a .mode) (a .looping)) (now (a .vars))) (a .scope) (now (a .regs)))) (ap (λ (z : ℤ). (timesRun (a .looping) (a .mode) (length (now (a .out))) (a .base) (a .from) (a .to) (a .place) z (a .total) l g (frameIn (a .mode) (take (keptIn (a .mode) (a .looping)) (now (a .vars))) (a .scope) (now (a .regs))))) reversed) (M.ends (a .looping) (a .mode) (a .base) (a .from) (a .to) (a .place) X (a .total) l g (now (a .vars)) (a .scope) (now (a .regs)) (now (a .out)) (a .st) (i .vars) (i .out) (i .cuts) (i .w) (i .i) (i .s) (i .inv) (c .before .if1 .taken) (c .if2 .taken)), i .inv .kept)
 
   -- src/lib.rt:193:17
   pub begin-round-requires : lts.Need-begin-round-requires (calls t) (at t) Post Inv-loop μ-loop
   begin-round-requires c κs =
       let a = c .before .before .before .before .before .before .before .before .before .args in
-      let l = now (a .p) in
+      let l = now (a .bytes) in
       let g = now (a .program) in
       let X : ℤ = toZ w64 (ofZ w64 (a .start)) in
       let ready = c .before .before .before .before .before .before .before .before .before .pre .1 .0 in
-      let back = sym (toZ-ofZ w64 (a .start) (c .before .before .before .before .before .before .before .before .before .fits .start)) in
-      let often = subst (λ (z : ℤ). Often (a .looping) (a .m) z (a .total)) back (c .before .before .before .before .before .before .before .before .before .pre .1 .1 .1) in
+      let reversed = sym (toZ-ofZ w64 (a .start) (c .before .before .before .before .before .before .before .before .before .fits .start)) in
+      let often = subst (λ (z : ℤ). Often (a .looping) (a .mode) z (a .total)) reversed (c .before .before .before .before .before .before .before .before .before .pre .1 .1 .1) in
       let i = c .before .before .before .before .loop in
-      ((omega (arith, ready .here, ready .near), omega (arith, ready .few)), round-turns (a .looping) (a .m) X (a .total) (i .i) often (c .before .if2 .left))
+      ((omega (arith, ready .here, ready .near), omega (arith, ready .few)), round-turns (a .looping) (a .mode) X (a .total) (i .i) often (c .before .if2 .left))
 
   -- src/lib.rt:194:31
   pub enum-known-r : lts.Need-enum-known-r (calls t) (at t) Post Inv-loop μ-loop
@@ -94,25 +94,25 @@ module _ (t : ℕ) where
   pub returns-2 : lts.Need-returns-2 (calls t) (at t) Post Inv-loop μ-loop
   returns-2 c =
       let a = c .before .before .before .before .before .before .before .before .before .before .before .args in
-      let l = now (a .p) in
+      let l = now (a .bytes) in
       let g = now (a .program) in
       let X : ℤ = toZ w64 (ofZ w64 (a .start)) in
       let ready = c .before .before .before .before .before .before .before .before .before .before .before .pre .1 .0 in
-      let back = sym (toZ-ofZ w64 (a .start) (c .before .before .before .before .before .before .before .before .before .before .before .fits .start)) in
-      let often = subst (λ (z : ℤ). Often (a .looping) (a .m) z (a .total)) back (c .before .before .before .before .before .before .before .before .before .before .before .pre .1 .1 .1) in
+      let reversed = sym (toZ-ofZ w64 (a .start) (c .before .before .before .before .before .before .before .before .before .before .before .fits .start)) in
+      let often = subst (λ (z : ℤ). Often (a .looping) (a .mode) z (a .total)) reversed (c .before .before .before .before .before .before .before .before .before .before .before .pre .1 .1 .1) in
       let i = c .before .before .before .before .before .before .loop in
-      (does-as _ _ _ _ _ (timesRun (a .looping) (a .m) (length (now (a .out))) (a .base) (a .from) (a .to) (a .place) (a .start) (a .total) l g (frameIn (a .m) (take (keptIn (a .m) (a .looping)) (now (a .vars))) (a .scope) (now (a .regs)))) (ap (λ (z : ℤ). (timesRun (a .looping) (a .m) (length (now (a .out))) (a .base) (a .from) (a .to) (a .place) z (a .total) l g (frameIn (a .m) (take (keptIn (a .m) (a .looping)) (now (a .vars))) (a .scope) (now (a .regs))))) back) (M.refuses (a .looping) (a .m) (a .base) (a .from) (a .to) (a .place) X (a .total) l g (now (a .vars)) (a .scope) (now (a .regs)) (now (a .out)) (a .st) (i .vars) (i .out) (i .cuts) (i .w) (i .i) (i .s) (i .inv) (c .before .before .before .before .if1 .taken) (c .before .before .before .if2 .left) _ (c .before .begin-round .result) (c .before .begin-round .ensures) (c .match .keys2)), M.stays (a .looping) (a .m) (a .base) (a .from) (a .to) (a .place) X (a .total) l g (now (a .vars)) (a .scope) (now (a .regs)) (now (a .out)) (a .st) (i .vars) (i .out) (i .cuts) (i .w) (i .i) (i .s) (i .inv) (c .before .before .before .before .if1 .taken) (c .before .before .before .if2 .left) _ (c .before .begin-round .result) (c .before .begin-round .ensures))
+      (does-as _ _ _ _ _ (timesRun (a .looping) (a .mode) (length (now (a .out))) (a .base) (a .from) (a .to) (a .place) (a .start) (a .total) l g (frameIn (a .mode) (take (keptIn (a .mode) (a .looping)) (now (a .vars))) (a .scope) (now (a .regs)))) (ap (λ (z : ℤ). (timesRun (a .looping) (a .mode) (length (now (a .out))) (a .base) (a .from) (a .to) (a .place) z (a .total) l g (frameIn (a .mode) (take (keptIn (a .mode) (a .looping)) (now (a .vars))) (a .scope) (now (a .regs))))) reversed) (M.refuses (a .looping) (a .mode) (a .base) (a .from) (a .to) (a .place) X (a .total) l g (now (a .vars)) (a .scope) (now (a .regs)) (now (a .out)) (a .st) (i .vars) (i .out) (i .cuts) (i .w) (i .i) (i .s) (i .inv) (c .before .before .before .before .if1 .taken) (c .before .before .before .if2 .left) _ (c .before .begin-round .result) (c .before .begin-round .ensures) (c .match .keys2)), M.stays (a .looping) (a .mode) (a .base) (a .from) (a .to) (a .place) X (a .total) l g (now (a .vars)) (a .scope) (now (a .regs)) (now (a .out)) (a .st) (i .vars) (i .out) (i .cuts) (i .w) (i .i) (i .s) (i .inv) (c .before .before .before .before .if1 .taken) (c .before .before .before .if2 .left) _ (c .before .begin-round .result) (c .before .begin-round .ensures))
 
   -- src/lib.rt:197:44
   pub begin-requires : lts.Need-begin-requires (calls t) (at t) Post Inv-loop μ-loop
   begin-requires c κs =
       let a = c .before .before .before .before .before .before .before .before .before .before .before .before .before .before .args in
-      let l = now (a .p) in
+      let l = now (a .bytes) in
       let g = now (a .program) in
       let X : ℤ = toZ w64 (ofZ w64 (a .start)) in
       let ready = c .before .before .before .before .before .before .before .before .before .before .before .before .before .before .pre .1 .0 in
-      let back = sym (toZ-ofZ w64 (a .start) (c .before .before .before .before .before .before .before .before .before .before .before .before .before .before .fits .start)) in
-      let often = subst (λ (z : ℤ). Often (a .looping) (a .m) z (a .total)) back (c .before .before .before .before .before .before .before .before .before .before .before .before .before .before .pre .1 .1 .1) in
+      let reversed = sym (toZ-ofZ w64 (a .start) (c .before .before .before .before .before .before .before .before .before .before .before .before .before .before .fits .start)) in
+      let often = subst (λ (z : ℤ). Often (a .looping) (a .mode) z (a .total)) reversed (c .before .before .before .before .before .before .before .before .before .before .before .before .before .before .pre .1 .1 .1) in
       (ready .order, ready .within, omega (arith, ready .within, ready .near))
 
   -- src/lib.rt:197:29
@@ -134,14 +134,14 @@ module _ (t : ℕ) where
   pub returns-3 : lts.Need-returns-3 (calls t) (at t) Post Inv-loop μ-loop
   returns-3 c =
       let a = c .before .before .before .before .before .before .before .before .before .before .before .before .before .before .before .before .before .args in
-      let l = now (a .p) in
+      let l = now (a .bytes) in
       let g = now (a .program) in
       let X : ℤ = toZ w64 (ofZ w64 (a .start)) in
       let ready = c .before .before .before .before .before .before .before .before .before .before .before .before .before .before .before .before .before .pre .1 .0 in
-      let back = sym (toZ-ofZ w64 (a .start) (c .before .before .before .before .before .before .before .before .before .before .before .before .before .before .before .before .before .fits .start)) in
-      let often = subst (λ (z : ℤ). Often (a .looping) (a .m) z (a .total)) back (c .before .before .before .before .before .before .before .before .before .before .before .before .before .before .before .before .before .pre .1 .1 .1) in
+      let reversed = sym (toZ-ofZ w64 (a .start) (c .before .before .before .before .before .before .before .before .before .before .before .before .before .before .before .before .before .fits .start)) in
+      let often = subst (λ (z : ℤ). Often (a .looping) (a .mode) z (a .total)) reversed (c .before .before .before .before .before .before .before .before .before .before .before .before .before .before .before .before .before .pre .1 .1 .1) in
       let i = c .before .before .before .before .before .before .before .before .before .before .before .before .loop in
-      (does-as _ _ _ _ _ (timesRun (a .looping) (a .m) (length (now (a .out))) (a .base) (a .from) (a .to) (a .place) (a .start) (a .total) l g (frameIn (a .m) (take (keptIn (a .m) (a .looping)) (now (a .vars))) (a .scope) (now (a .regs)))) (ap (λ (z : ℤ). (timesRun (a .looping) (a .m) (length (now (a .out))) (a .base) (a .from) (a .to) (a .place) z (a .total) l g (frameIn (a .m) (take (keptIn (a .m) (a .looping)) (now (a .vars))) (a .scope) (now (a .regs))))) back) (M.breaks (a .looping) (a .m) (a .base) (a .from) (a .to) (a .place) X (a .total) l g (now (a .vars)) (a .scope) (now (a .regs)) (now (a .out)) (a .st) (i .vars) (i .out) (i .cuts) (i .w) (i .i) (i .s) (i .inv) (c .before .before .before .before .before .before .before .before .before .before .if1 .taken) (c .before .before .before .before .before .before .before .before .before .if2 .left) _ (c .before .before .before .before .before .before .before .begin-round .result) (c .before .before .before .before .before .before .before .begin-round .ensures) often (c .before .before .before .before .before .r .given .0 .0) (c .before .before .before .before .before .r .given .1) _ (c .before .before .begin .result) (c .before .before .begin .ensures) (c .enum-told .given .1) _), M.stays (a .looping) (a .m) (a .base) (a .from) (a .to) (a .place) X (a .total) l g (now (a .vars)) (a .scope) (now (a .regs)) (now (a .out)) (a .st) (i .vars) (i .out) (i .cuts) (i .w) (i .i) (i .s) (i .inv) (c .before .before .before .before .before .before .before .before .before .before .if1 .taken) (c .before .before .before .before .before .before .before .before .before .if2 .left) _ (c .before .before .before .before .before .before .before .begin-round .result) (c .before .before .before .before .before .before .before .begin-round .ensures))
+      (does-as _ _ _ _ _ (timesRun (a .looping) (a .mode) (length (now (a .out))) (a .base) (a .from) (a .to) (a .place) (a .start) (a .total) l g (frameIn (a .mode) (take (keptIn (a .mode) (a .looping)) (now (a .vars))) (a .scope) (now (a .regs)))) (ap (λ (z : ℤ). (timesRun (a .looping) (a .mode) (length (now (a .out))) (a .base) (a .from) (a .to) (a .place) z (a .total) l g (frameIn (a .mode) (take (keptIn (a .mode) (a .looping)) (now (a .vars))) (a .scope) (now (a .regs))))) reversed) (M.breaks (a .looping) (a .mode) (a .base) (a .from) (a .to) (a .place) X (a .total) l g (now (a .vars)) (a .scope) (now (a .regs)) (now (a .out)) (a .st) (i .vars) (i .out) (i .cuts) (i .w) (i .i) (i .s) (i .inv) (c .before .before .before .before .before .before .before .before .before .before .if1 .taken) (c .before .before .before .before .before .before .before .before .before .if2 .left) _ (c .before .before .before .before .before .before .before .begin-round .result) (c .before .before .before .before .before .before .before .begin-round .ensures) often (c .before .before .before .before .before .r .given .0 .0) (c .before .before .before .before .before .r .given .1) _ (c .before .before .begin .result) (c .before .before .begin .ensures) (c .enum-told .given .1) _), M.stays (a .looping) (a .mode) (a .base) (a .from) (a .to) (a .place) X (a .total) l g (now (a .vars)) (a .scope) (now (a .regs)) (now (a .out)) (a .st) (i .vars) (i .out) (i .cuts) (i .w) (i .i) (i .s) (i .inv) (c .before .before .before .before .before .before .before .before .before .before .if1 .taken) (c .before .before .before .before .before .before .before .before .before .if2 .left) _ (c .before .before .before .before .before .before .before .begin-round .result) (c .before .before .before .before .before .before .before .begin-round .ensures))
 
   -- src/lib.rt:201:13
   pub whole-requires-2 : lts.Need-whole-requires-2 (calls t) (at t) Post Inv-loop μ-loop
@@ -158,12 +158,12 @@ module _ (t : ℕ) where
   unfolding wholeOf
   loop-less c =
       let a = c .before .before .before .before .before .before .before .before .before .before .before .before .before .before .before .before .before .before .before .args in
-      let l = now (a .p) in
+      let l = now (a .bytes) in
       let g = now (a .program) in
       let X : ℤ = toZ w64 (ofZ w64 (a .start)) in
       let ready = c .before .before .before .before .before .before .before .before .before .before .before .before .before .before .before .before .before .before .before .pre .1 .0 in
-      let back = sym (toZ-ofZ w64 (a .start) (c .before .before .before .before .before .before .before .before .before .before .before .before .before .before .before .before .before .before .before .fits .start)) in
-      let often = subst (λ (z : ℤ). Often (a .looping) (a .m) z (a .total)) back (c .before .before .before .before .before .before .before .before .before .before .before .before .before .before .before .before .before .before .before .pre .1 .1 .1) in
+      let reversed = sym (toZ-ofZ w64 (a .start) (c .before .before .before .before .before .before .before .before .before .before .before .before .before .before .before .before .before .before .before .fits .start)) in
+      let often = subst (λ (z : ℤ). Often (a .looping) (a .mode) z (a .total)) reversed (c .before .before .before .before .before .before .before .before .before .before .before .before .before .before .before .before .before .before .before .pre .1 .1 .1) in
       let i = c .before .before .before .before .before .before .before .before .before .before .before .before .before .before .loop in
       rw (c .whole2 .ensures) (omega (arith, c .before .before .before .before .before .before .before .before .before .before .before .before .if1 .taken, c .before .before .before .before .before .before .before .before .before .before .before .if2 .left, ready .near, ready .within))
 
@@ -171,25 +171,25 @@ module _ (t : ℕ) where
   pub loop-again : lts.Need-loop-again (calls t) (at t) Post Inv-loop μ-loop
   loop-again c =
       let a = c .before .before .before .before .before .before .before .before .before .before .before .before .before .before .before .before .before .before .before .args in
-      let l = now (a .p) in
+      let l = now (a .bytes) in
       let g = now (a .program) in
       let X : ℤ = toZ w64 (ofZ w64 (a .start)) in
       let ready = c .before .before .before .before .before .before .before .before .before .before .before .before .before .before .before .before .before .before .before .pre .1 .0 in
-      let back = sym (toZ-ofZ w64 (a .start) (c .before .before .before .before .before .before .before .before .before .before .before .before .before .before .before .before .before .before .before .fits .start)) in
-      let often = subst (λ (z : ℤ). Often (a .looping) (a .m) z (a .total)) back (c .before .before .before .before .before .before .before .before .before .before .before .before .before .before .before .before .before .before .before .pre .1 .1 .1) in
+      let reversed = sym (toZ-ofZ w64 (a .start) (c .before .before .before .before .before .before .before .before .before .before .before .before .before .before .before .before .before .before .before .fits .start)) in
+      let often = subst (λ (z : ℤ). Often (a .looping) (a .mode) z (a .total)) reversed (c .before .before .before .before .before .before .before .before .before .before .before .before .before .before .before .before .before .before .before .pre .1 .1 .1) in
       let i = c .before .before .before .before .before .before .before .before .before .before .before .before .before .before .loop in
-      rw (c .whole2 .ensures) (M.begins (a .looping) (a .m) (a .base) (a .from) (a .to) (a .place) X (a .total) l g (now (a .vars)) (a .scope) (now (a .regs)) (now (a .out)) (a .st) (i .vars) (i .out) (i .cuts) (i .w) (i .i) (i .s) (i .inv) (c .before .before .before .before .before .before .before .before .before .before .before .before .if1 .taken) (c .before .before .before .before .before .before .before .before .before .before .before .if2 .left) _ (c .before .before .before .before .before .before .before .before .before .begin-round .result) (c .before .before .before .before .before .before .before .before .before .begin-round .ensures) often (c .before .before .before .before .before .before .before .r .given .0 .0) (c .before .before .before .before .before .before .before .r .given .1) _ (c .before .before .before .before .begin .result) (c .before .before .before .before .begin .ensures) (ready .order) _ _ (c .before .before .depth .given .1))
+      rw (c .whole2 .ensures) (M.begins (a .looping) (a .mode) (a .base) (a .from) (a .to) (a .place) X (a .total) l g (now (a .vars)) (a .scope) (now (a .regs)) (now (a .out)) (a .st) (i .vars) (i .out) (i .cuts) (i .w) (i .i) (i .s) (i .inv) (c .before .before .before .before .before .before .before .before .before .before .before .before .if1 .taken) (c .before .before .before .before .before .before .before .before .before .before .before .if2 .left) _ (c .before .before .before .before .before .before .before .before .before .begin-round .result) (c .before .before .before .before .before .before .before .before .before .begin-round .ensures) often (c .before .before .before .before .before .before .before .r .given .0 .0) (c .before .before .before .before .before .before .before .r .given .1) _ (c .before .before .before .before .begin .result) (c .before .before .before .before .begin .ensures) (ready .order) _ _ (c .before .before .depth .given .1))
 
   -- src/lib.rt:205:9
   pub seek-requires : lts.Need-seek-requires (calls t) (at t) Post Inv-loop μ-loop
   seek-requires c κs =
       let a = c .before .before .before .before .before .before .before .before .args in
-      let l = now (a .p) in
+      let l = now (a .bytes) in
       let g = now (a .program) in
       let X : ℤ = toZ w64 (ofZ w64 (a .start)) in
       let ready = c .before .before .before .before .before .before .before .before .pre .1 .0 in
-      let back = sym (toZ-ofZ w64 (a .start) (c .before .before .before .before .before .before .before .before .fits .start)) in
-      let often = subst (λ (z : ℤ). Often (a .looping) (a .m) z (a .total)) back (c .before .before .before .before .before .before .before .before .pre .1 .1 .1) in
+      let reversed = sym (toZ-ofZ w64 (a .start) (c .before .before .before .before .before .before .before .before .fits .start)) in
+      let often = subst (λ (z : ℤ). Often (a .looping) (a .mode) z (a .total)) reversed (c .before .before .before .before .before .before .before .before .pre .1 .1 .1) in
       let i = c .before .before .before .loop in
       (i .inv .walking, c .before .if1 .left, omega (arith, i .inv .high, ready .within, ready .near))
 
@@ -197,13 +197,13 @@ module _ (t : ℕ) where
   pub header-at-requires : lts.Need-header-at-requires (calls t) (at t) Post Inv-loop μ-loop
   header-at-requires c κs =
       let a = c .before .before .before .before .before .before .before .before .before .args in
-      let l = now (a .p) in
+      let l = now (a .bytes) in
       let g = now (a .program) in
       let X : ℤ = toZ w64 (ofZ w64 (a .start)) in
       let ready = c .before .before .before .before .before .before .before .before .before .pre .1 .0 in
-      let back = sym (toZ-ofZ w64 (a .start) (c .before .before .before .before .before .before .before .before .before .fits .start)) in
-      let often = subst (λ (z : ℤ). Often (a .looping) (a .m) z (a .total)) back (c .before .before .before .before .before .before .before .before .before .pre .1 .1 .1) in
-      next-within l (a .m .back) (c .seek .result) _ (c .seek .ensures .next)
+      let reversed = sym (toZ-ofZ w64 (a .start) (c .before .before .before .before .before .before .before .before .before .fits .start)) in
+      let often = subst (λ (z : ℤ). Often (a .looping) (a .mode) z (a .total)) reversed (c .before .before .before .before .before .before .before .before .before .pre .1 .1 .1) in
+      next-within l (a .mode .reversed) (c .seek .result) _ (c .seek .ensures .next)
 
   -- src/lib.rt:208:27
   pub enum-known-tag : lts.Need-enum-known-tag (calls t) (at t) Post Inv-loop μ-loop
@@ -219,67 +219,67 @@ module _ (t : ℕ) where
   pub returns-4 : lts.Need-returns-4 (calls t) (at t) Post Inv-loop μ-loop
   returns-4 c =
       let a = c .before .before .before .before .before .before .before .before .before .before .before .args in
-      let l = now (a .p) in
+      let l = now (a .bytes) in
       let g = now (a .program) in
       let X : ℤ = toZ w64 (ofZ w64 (a .start)) in
       let ready = c .before .before .before .before .before .before .before .before .before .before .before .pre .1 .0 in
-      let back = sym (toZ-ofZ w64 (a .start) (c .before .before .before .before .before .before .before .before .before .before .before .fits .start)) in
-      let often = subst (λ (z : ℤ). Often (a .looping) (a .m) z (a .total)) back (c .before .before .before .before .before .before .before .before .before .before .before .pre .1 .1 .1) in
+      let reversed = sym (toZ-ofZ w64 (a .start) (c .before .before .before .before .before .before .before .before .before .before .before .fits .start)) in
+      let often = subst (λ (z : ℤ). Often (a .looping) (a .mode) z (a .total)) reversed (c .before .before .before .before .before .before .before .before .before .before .before .pre .1 .1 .1) in
       let i = c .before .before .before .before .before .before .loop in
-      (does-as _ _ _ _ _ (timesRun (a .looping) (a .m) (length (now (a .out))) (a .base) (a .from) (a .to) (a .place) (a .start) (a .total) l g (frameIn (a .m) (take (keptIn (a .m) (a .looping)) (now (a .vars))) (a .scope) (now (a .regs)))) (ap (λ (z : ℤ). (timesRun (a .looping) (a .m) (length (now (a .out))) (a .base) (a .from) (a .to) (a .place) z (a .total) l g (frameIn (a .m) (take (keptIn (a .m) (a .looping)) (now (a .vars))) (a .scope) (now (a .regs))))) back) (M.cut (a .looping) (a .m) (a .base) (a .from) (a .to) (a .place) X (a .total) l g (now (a .vars)) (a .scope) (now (a .regs)) (now (a .out)) (a .st) (i .vars) (i .out) (i .cuts) (i .w) (i .i) (i .s) (i .inv) (c .before .before .before .before .if1 .left) (c .before .before .seek .result) _ (c .before .before .seek .ensures) (rw (c .before .header-at .ensures) at (c .match3 .keys2)) _), i .inv .kept)
+      (does-as _ _ _ _ _ (timesRun (a .looping) (a .mode) (length (now (a .out))) (a .base) (a .from) (a .to) (a .place) (a .start) (a .total) l g (frameIn (a .mode) (take (keptIn (a .mode) (a .looping)) (now (a .vars))) (a .scope) (now (a .regs)))) (ap (λ (z : ℤ). (timesRun (a .looping) (a .mode) (length (now (a .out))) (a .base) (a .from) (a .to) (a .place) z (a .total) l g (frameIn (a .mode) (take (keptIn (a .mode) (a .looping)) (now (a .vars))) (a .scope) (now (a .regs))))) reversed) (M.cut (a .looping) (a .mode) (a .base) (a .from) (a .to) (a .place) X (a .total) l g (now (a .vars)) (a .scope) (now (a .regs)) (now (a .out)) (a .st) (i .vars) (i .out) (i .cuts) (i .w) (i .i) (i .s) (i .inv) (c .before .before .before .before .if1 .left) (c .before .before .seek .result) _ (c .before .before .seek .ensures) (rw (c .before .header-at .ensures) at (c .match3 .keys2)) _), i .inv .kept)
 
   -- src/lib.rt:211:23
   pub add-content : lts.Need-add-content (calls t) (at t) Post Inv-loop μ-loop
   add-content c =
       let a = c .before .before .before .before .before .before .before .before .before .before .before .before .before .args in
-      let l = now (a .p) in
+      let l = now (a .bytes) in
       let g = now (a .program) in
       let X : ℤ = toZ w64 (ofZ w64 (a .start)) in
       let ready = c .before .before .before .before .before .before .before .before .before .before .before .before .before .pre .1 .0 in
-      let back = sym (toZ-ofZ w64 (a .start) (c .before .before .before .before .before .before .before .before .before .before .before .before .before .fits .start)) in
-      let often = subst (λ (z : ℤ). Often (a .looping) (a .m) z (a .total)) back (c .before .before .before .before .before .before .before .before .before .before .before .before .before .pre .1 .1 .1) in
+      let reversed = sym (toZ-ofZ w64 (a .start) (c .before .before .before .before .before .before .before .before .before .before .before .before .before .fits .start)) in
+      let often = subst (λ (z : ℤ). Often (a .looping) (a .mode) z (a .total)) reversed (c .before .before .before .before .before .before .before .before .before .before .before .before .before .pre .1 .1 .1) in
       let i = c .before .before .before .before .before .before .before .before .loop in
       let v = c .before .before .before .before .seek .result in
       let tag = c .before .tag .given .0 .0 in
       let end = c .before .tag .given .0 .1 .0 in
       let is : headerOf (v .here) (fieldsAt l (v .here) (v .to)) ≡ Whole tag end = sym (c .before .before .before .header-at .ensures) ∙ c .before .tag .given .1 in
-      let spot = M.spot (a .looping) (a .m) (a .base) (a .from) (a .to) (a .place) X (a .total) l g (now (a .vars)) (a .scope) (now (a .regs)) (now (a .out)) (a .st) (i .vars) (i .out) (i .cuts) (i .w) (i .i) (i .s) (i .inv) (c .before .before .before .before .before .before .if1 .left) (c .before .before .before .before .seek .result) _ (c .before .before .before .before .seek .ensures) tag end is in
+      let spot = M.spot (a .looping) (a .mode) (a .base) (a .from) (a .to) (a .place) X (a .total) l g (now (a .vars)) (a .scope) (now (a .regs)) (now (a .out)) (a .st) (i .vars) (i .out) (i .cuts) (i .w) (i .i) (i .s) (i .inv) (c .before .before .before .before .before .before .if1 .left) (c .before .before .before .before .seek .result) _ (c .before .before .before .before .seek .ensures) tag end is in
       omega (arith, spot .inside, spot .within, ready .near)
 
   -- src/lib.rt:212:18
   pub add-at : lts.Need-add-at (calls t) (at t) Post Inv-loop μ-loop
   add-at c =
       let a = c .before .before .before .before .before .before .before .before .before .before .before .before .before .args in
-      let l = now (a .p) in
+      let l = now (a .bytes) in
       let g = now (a .program) in
       let X : ℤ = toZ w64 (ofZ w64 (a .start)) in
       let ready = c .before .before .before .before .before .before .before .before .before .before .before .before .before .pre .1 .0 in
-      let back = sym (toZ-ofZ w64 (a .start) (c .before .before .before .before .before .before .before .before .before .before .before .before .before .fits .start)) in
-      let often = subst (λ (z : ℤ). Often (a .looping) (a .m) z (a .total)) back (c .before .before .before .before .before .before .before .before .before .before .before .before .before .pre .1 .1 .1) in
+      let reversed = sym (toZ-ofZ w64 (a .start) (c .before .before .before .before .before .before .before .before .before .before .before .before .before .fits .start)) in
+      let often = subst (λ (z : ℤ). Often (a .looping) (a .mode) z (a .total)) reversed (c .before .before .before .before .before .before .before .before .before .before .before .before .before .pre .1 .1 .1) in
       let i = c .before .before .before .before .before .before .before .before .loop in
       let v = c .before .before .before .before .seek .result in
       let tag = c .before .tag .given .0 .0 in
       let end = c .before .tag .given .0 .1 .0 in
       let is : headerOf (v .here) (fieldsAt l (v .here) (v .to)) ≡ Whole tag end = sym (c .before .before .before .header-at .ensures) ∙ c .before .tag .given .1 in
-      let spot = M.spot (a .looping) (a .m) (a .base) (a .from) (a .to) (a .place) X (a .total) l g (now (a .vars)) (a .scope) (now (a .regs)) (now (a .out)) (a .st) (i .vars) (i .out) (i .cuts) (i .w) (i .i) (i .s) (i .inv) (c .before .before .before .before .before .before .if1 .left) (c .before .before .before .before .seek .result) _ (c .before .before .before .before .seek .ensures) tag end is in
+      let spot = M.spot (a .looping) (a .mode) (a .base) (a .from) (a .to) (a .place) X (a .total) l g (now (a .vars)) (a .scope) (now (a .regs)) (now (a .out)) (a .st) (i .vars) (i .out) (i .cuts) (i .w) (i .i) (i .s) (i .inv) (c .before .before .before .before .before .before .if1 .left) (c .before .before .before .before .seek .result) _ (c .before .before .before .before .seek .ensures) tag end is in
       omega (arith, spot .inside, spot .within, ready .near)
 
   -- src/lib.rt:213:13
   pub run-statement-requires : lts.Need-run-statement-requires (calls t) (at t) Post Inv-loop μ-loop
   run-statement-requires c κs =
       let a = c .before .before .before .before .before .before .before .before .before .before .before .before .before .before .before .args in
-      let l = now (a .p) in
+      let l = now (a .bytes) in
       let g = now (a .program) in
       let X : ℤ = toZ w64 (ofZ w64 (a .start)) in
       let ready = c .before .before .before .before .before .before .before .before .before .before .before .before .before .before .before .pre .1 .0 in
-      let back = sym (toZ-ofZ w64 (a .start) (c .before .before .before .before .before .before .before .before .before .before .before .before .before .before .before .fits .start)) in
-      let often = subst (λ (z : ℤ). Often (a .looping) (a .m) z (a .total)) back (c .before .before .before .before .before .before .before .before .before .before .before .before .before .before .before .pre .1 .1 .1) in
+      let reversed = sym (toZ-ofZ w64 (a .start) (c .before .before .before .before .before .before .before .before .before .before .before .before .before .before .before .fits .start)) in
+      let often = subst (λ (z : ℤ). Often (a .looping) (a .mode) z (a .total)) reversed (c .before .before .before .before .before .before .before .before .before .before .before .before .before .before .before .pre .1 .1 .1) in
       let i = c .before .before .before .before .before .before .before .before .before .before .loop in
       let v = c .before .before .before .before .before .before .seek .result in
       let tag = c .before .before .before .tag .given .0 .0 in
       let end = c .before .before .before .tag .given .0 .1 .0 in
       let is : headerOf (v .here) (fieldsAt l (v .here) (v .to)) ≡ Whole tag end = sym (c .before .before .before .before .before .header-at .ensures) ∙ c .before .before .before .tag .given .1 in
-      let spot = M.spot (a .looping) (a .m) (a .base) (a .from) (a .to) (a .place) X (a .total) l g (now (a .vars)) (a .scope) (now (a .regs)) (now (a .out)) (a .st) (i .vars) (i .out) (i .cuts) (i .w) (i .i) (i .s) (i .inv) (c .before .before .before .before .before .before .before .before .if1 .left) (c .before .before .before .before .before .before .seek .result) _ (c .before .before .before .before .before .before .seek .ensures) tag end is in
+      let spot = M.spot (a .looping) (a .mode) (a .base) (a .from) (a .to) (a .place) X (a .total) l g (now (a .vars)) (a .scope) (now (a .regs)) (now (a .out)) (a .st) (i .vars) (i .out) (i .cuts) (i .w) (i .i) (i .s) (i .inv) (c .before .before .before .before .before .before .before .before .if1 .left) (c .before .before .before .before .before .before .seek .result) _ (c .before .before .before .before .before .before .seek .ensures) tag end is in
       (omega (arith, c .before .before .before .before .before .before .before .before .before .before .before .before .before .before .before .pre .0, spot .inside, spot .past, spot .sooner), (record { few = ready .few; order = spot .inside; within = spot .within; near = ready .near; here = omega (arith, spot .inside, spot .within, ready .near) }, (omega arith, c .before .before .before .before .before .before .before .before .before .before .before .before .before .before .before .pre .1 .1 .0)))
 
   -- src/lib.rt:214:27
@@ -296,18 +296,18 @@ module _ (t : ℕ) where
   pub returns-5 : lts.Need-returns-5 (calls t) (at t) Post Inv-loop μ-loop
   returns-5 c =
       let a = c .before .before .before .before .before .before .before .before .before .before .before .before .before .before .before .before .before .before .before .args in
-      let l = now (a .p) in
+      let l = now (a .bytes) in
       let g = now (a .program) in
       let X : ℤ = toZ w64 (ofZ w64 (a .start)) in
       let ready = c .before .before .before .before .before .before .before .before .before .before .before .before .before .before .before .before .before .before .before .pre .1 .0 in
-      let back = sym (toZ-ofZ w64 (a .start) (c .before .before .before .before .before .before .before .before .before .before .before .before .before .before .before .before .before .before .before .fits .start)) in
-      let often = subst (λ (z : ℤ). Often (a .looping) (a .m) z (a .total)) back (c .before .before .before .before .before .before .before .before .before .before .before .before .before .before .before .before .before .before .before .pre .1 .1 .1) in
+      let reversed = sym (toZ-ofZ w64 (a .start) (c .before .before .before .before .before .before .before .before .before .before .before .before .before .before .before .before .before .before .before .fits .start)) in
+      let often = subst (λ (z : ℤ). Often (a .looping) (a .mode) z (a .total)) reversed (c .before .before .before .before .before .before .before .before .before .before .before .before .before .before .before .before .before .before .before .pre .1 .1 .1) in
       let i = c .before .before .before .before .before .before .before .before .before .before .before .before .before .before .loop in
       let v = c .before .before .before .before .before .before .before .before .before .before .seek .result in
       let tag = c .before .before .before .before .before .before .before .tag .given .0 .0 in
       let end = c .before .before .before .before .before .before .before .tag .given .0 .1 .0 in
       let is : headerOf (v .here) (fieldsAt l (v .here) (v .to)) ≡ Whole tag end = sym (c .before .before .before .before .before .before .before .before .before .header-at .ensures) ∙ c .before .before .before .before .before .before .before .tag .given .1 in
-      (does-as _ _ _ _ _ (timesRun (a .looping) (a .m) (length (now (a .out))) (a .base) (a .from) (a .to) (a .place) (a .start) (a .total) l g (frameIn (a .m) (take (keptIn (a .m) (a .looping)) (now (a .vars))) (a .scope) (now (a .regs)))) (ap (λ (z : ℤ). (timesRun (a .looping) (a .m) (length (now (a .out))) (a .base) (a .from) (a .to) (a .place) z (a .total) l g (frameIn (a .m) (take (keptIn (a .m) (a .looping)) (now (a .vars))) (a .scope) (now (a .regs))))) back) (M.other (a .looping) (a .m) (a .base) (a .from) (a .to) (a .place) X (a .total) l g (now (a .vars)) (a .scope) (now (a .regs)) (now (a .out)) (a .st) (i .vars) (i .out) (i .cuts) (i .w) (i .i) (i .s) (i .inv) (c .before .before .before .before .before .before .before .before .before .before .before .before .if1 .left) (c .before .before .before .before .before .before .before .before .before .before .seek .result) _ (c .before .before .before .before .before .before .before .before .before .before .seek .ensures) tag end is _ (c .before .before .before .run-statement .result) (c .before .before .before .run-statement .ensures .0) (c .match4 .keys2)), kept-still (a .looping) (a .m) _ _ (c .before .before .before .run-statement .ensures .1) ∙ i .inv .kept)
+      (does-as _ _ _ _ _ (timesRun (a .looping) (a .mode) (length (now (a .out))) (a .base) (a .from) (a .to) (a .place) (a .start) (a .total) l g (frameIn (a .mode) (take (keptIn (a .mode) (a .looping)) (now (a .vars))) (a .scope) (now (a .regs)))) (ap (λ (z : ℤ). (timesRun (a .looping) (a .mode) (length (now (a .out))) (a .base) (a .from) (a .to) (a .place) z (a .total) l g (frameIn (a .mode) (take (keptIn (a .mode) (a .looping)) (now (a .vars))) (a .scope) (now (a .regs))))) reversed) (M.other (a .looping) (a .mode) (a .base) (a .from) (a .to) (a .place) X (a .total) l g (now (a .vars)) (a .scope) (now (a .regs)) (now (a .out)) (a .st) (i .vars) (i .out) (i .cuts) (i .w) (i .i) (i .s) (i .inv) (c .before .before .before .before .before .before .before .before .before .before .before .before .if1 .left) (c .before .before .before .before .before .before .before .before .before .before .seek .result) _ (c .before .before .before .before .before .before .before .before .before .before .seek .ensures) tag end is _ (c .before .before .before .run-statement .result) (c .before .before .before .run-statement .ensures .0) (c .match4 .keys2)), kept-still (a .looping) (a .mode) _ _ (c .before .before .before .run-statement .ensures .1) ∙ i .inv .kept)
 
   -- src/lib.rt:218:9
   pub passed-requires : lts.Need-passed-requires (calls t) (at t) Post Inv-loop μ-loop
@@ -318,33 +318,33 @@ module _ (t : ℕ) where
   pub loop-less-2 : lts.Need-loop-less-2 (calls t) (at t) Post Inv-loop μ-loop
   loop-less-2 c =
       let a = c .before .before .before .before .before .before .before .before .before .before .before .before .before .before .before .before .before .before .before .before .before .before .args in
-      let l = now (a .p) in
+      let l = now (a .bytes) in
       let g = now (a .program) in
       let X : ℤ = toZ w64 (ofZ w64 (a .start)) in
       let ready = c .before .before .before .before .before .before .before .before .before .before .before .before .before .before .before .before .before .before .before .before .before .before .pre .1 .0 in
-      let back = sym (toZ-ofZ w64 (a .start) (c .before .before .before .before .before .before .before .before .before .before .before .before .before .before .before .before .before .before .before .before .before .before .fits .start)) in
-      let often = subst (λ (z : ℤ). Often (a .looping) (a .m) z (a .total)) back (c .before .before .before .before .before .before .before .before .before .before .before .before .before .before .before .before .before .before .before .before .before .before .pre .1 .1 .1) in
+      let reversed = sym (toZ-ofZ w64 (a .start) (c .before .before .before .before .before .before .before .before .before .before .before .before .before .before .before .before .before .before .before .before .before .before .fits .start)) in
+      let often = subst (λ (z : ℤ). Often (a .looping) (a .mode) z (a .total)) reversed (c .before .before .before .before .before .before .before .before .before .before .before .before .before .before .before .before .before .before .before .before .before .before .pre .1 .1 .1) in
       let i = c .before .before .before .before .before .before .before .before .before .before .before .before .before .before .before .before .before .loop in
       let v = c .before .before .before .before .before .before .before .before .before .before .before .before .before .seek .result in
       let tag = c .before .before .before .before .before .before .before .before .before .before .tag .given .0 .0 in
       let end = c .before .before .before .before .before .before .before .before .before .before .tag .given .0 .1 .0 in
       let is : headerOf (v .here) (fieldsAt l (v .here) (v .to)) ≡ Whole tag end = sym (c .before .before .before .before .before .before .before .before .before .before .before .before .header-at .ensures) ∙ c .before .before .before .before .before .before .before .before .before .before .tag .given .1 in
-      let spot = M.spot (a .looping) (a .m) (a .base) (a .from) (a .to) (a .place) X (a .total) l g (now (a .vars)) (a .scope) (now (a .regs)) (now (a .out)) (a .st) (i .vars) (i .out) (i .cuts) (i .w) (i .i) (i .s) (i .inv) (c .before .before .before .before .before .before .before .before .before .before .before .before .before .before .before .if1 .left) (c .before .before .before .before .before .before .before .before .before .before .before .before .before .seek .result) _ (c .before .before .before .before .before .before .before .before .before .before .before .before .before .seek .ensures) tag end is in
+      let spot = M.spot (a .looping) (a .mode) (a .base) (a .from) (a .to) (a .place) X (a .total) l g (now (a .vars)) (a .scope) (now (a .regs)) (now (a .out)) (a .st) (i .vars) (i .out) (i .cuts) (i .w) (i .i) (i .s) (i .inv) (c .before .before .before .before .before .before .before .before .before .before .before .before .before .before .before .if1 .left) (c .before .before .before .before .before .before .before .before .before .before .before .before .before .seek .result) _ (c .before .before .before .before .before .before .before .before .before .before .before .before .before .seek .ensures) tag end is in
       rw (c .passed .ensures) (omega (arith, spot .less))
 
   -- src/lib.rt:188:5
   pub loop-again-2 : lts.Need-loop-again-2 (calls t) (at t) Post Inv-loop μ-loop
   loop-again-2 c =
       let a = c .before .before .before .before .before .before .before .before .before .before .before .before .before .before .before .before .before .before .before .before .before .before .args in
-      let l = now (a .p) in
+      let l = now (a .bytes) in
       let g = now (a .program) in
       let X : ℤ = toZ w64 (ofZ w64 (a .start)) in
       let ready = c .before .before .before .before .before .before .before .before .before .before .before .before .before .before .before .before .before .before .before .before .before .before .pre .1 .0 in
-      let back = sym (toZ-ofZ w64 (a .start) (c .before .before .before .before .before .before .before .before .before .before .before .before .before .before .before .before .before .before .before .before .before .before .fits .start)) in
-      let often = subst (λ (z : ℤ). Often (a .looping) (a .m) z (a .total)) back (c .before .before .before .before .before .before .before .before .before .before .before .before .before .before .before .before .before .before .before .before .before .before .pre .1 .1 .1) in
+      let reversed = sym (toZ-ofZ w64 (a .start) (c .before .before .before .before .before .before .before .before .before .before .before .before .before .before .before .before .before .before .before .before .before .before .fits .start)) in
+      let often = subst (λ (z : ℤ). Often (a .looping) (a .mode) z (a .total)) reversed (c .before .before .before .before .before .before .before .before .before .before .before .before .before .before .before .before .before .before .before .before .before .before .pre .1 .1 .1) in
       let i = c .before .before .before .before .before .before .before .before .before .before .before .before .before .before .before .before .before .loop in
       let v = c .before .before .before .before .before .before .before .before .before .before .before .before .before .seek .result in
       let tag = c .before .before .before .before .before .before .before .before .before .before .tag .given .0 .0 in
       let end = c .before .before .before .before .before .before .before .before .before .before .tag .given .0 .1 .0 in
       let is : headerOf (v .here) (fieldsAt l (v .here) (v .to)) ≡ Whole tag end = sym (c .before .before .before .before .before .before .before .before .before .before .before .before .header-at .ensures) ∙ c .before .before .before .before .before .before .before .before .before .before .tag .given .1 in
-      rw (c .passed .ensures) (M.passes (a .looping) (a .m) (a .base) (a .from) (a .to) (a .place) X (a .total) l g (now (a .vars)) (a .scope) (now (a .regs)) (now (a .out)) (a .st) (i .vars) (i .out) (i .cuts) (i .w) (i .i) (i .s) (i .inv) (c .before .before .before .before .before .before .before .before .before .before .before .before .before .before .before .if1 .left) (c .before .before .before .before .before .before .before .before .before .before .before .before .before .seek .result) _ (c .before .before .before .before .before .before .before .before .before .before .before .before .before .seek .ensures) tag end is _ (c .before .before .before .before .before .before .run-statement .result) (c .before .before .before .before .before .before .run-statement .ensures .0) (c .before .before .r2 .given .0 .0) (c .before .before .r2 .given .1) (omega arith) _ (c .before .before .before .before .before .before .run-statement .ensures .1))
+      rw (c .passed .ensures) (M.passes (a .looping) (a .mode) (a .base) (a .from) (a .to) (a .place) X (a .total) l g (now (a .vars)) (a .scope) (now (a .regs)) (now (a .out)) (a .st) (i .vars) (i .out) (i .cuts) (i .w) (i .i) (i .s) (i .inv) (c .before .before .before .before .before .before .before .before .before .before .before .before .before .before .before .if1 .left) (c .before .before .before .before .before .before .before .before .before .before .before .before .before .seek .result) _ (c .before .before .before .before .before .before .before .before .before .before .before .before .before .seek .ensures) tag end is _ (c .before .before .before .before .before .before .run-statement .result) (c .before .before .before .before .before .before .run-statement .ensures .0) (c .before .before .r2 .given .0 .0) (c .before .before .r2 .given .1) (omega arith) _ (c .before .before .before .before .before .before .run-statement .ensures .1))

@@ -10,9 +10,9 @@ use borrow.Author.Needs.{needs}
 use denote.Ref.{now}
 use lib.ListN.{length, take}
 use lib.Seq.{slice, length-slice}
-use Rattle.emit.proofs.Doing.{step-taken}
-use Rattle.gates.specs.Gates.{frameIn, Entered, Steps}
-use Rattle.gates.proofs.Acting.{does-as}
+use Rattle.emit.proofs.Sequences.{step-taken}
+use Rattle.gates.specs.Gates.{frameIn, Entered, StepTaken}
+use Rattle.gates.proofs.GateRuns.{does-as}
 use Rattle.unroller.specs.Runs.{oneRun}
 use Rattle.unroller.proofs.Statements.{one-stops, one-steps, one-acts}
 
@@ -36,21 +36,21 @@ module _ (t : ℕ) where
   pub returns : lts.Need-returns (calls t) (at t) Post
   returns c =
       let a = c .before .before .before .before .before .args in
-      let l = slice (a .from) (a .to) (now (a .p)) in
+      let l = slice (a .from) (a .to) (now (a .bytes)) in
       let g = now (a .program) in
-      let f = frameIn (a .m) (take (a .m .many) (now (a .vars))) (a .scope) (now (a .regs)) in
+      let f = frameIn (a .mode) (take (a .mode .variables) (now (a .vars))) (a .scope) (now (a .regs)) in
       let room = length (now (a .out)) in
       let ready = c .before .before .before .before .before .pre .1 .0 in
-      let en : Entered (a .m) (a .tag) (length l) (a .place) (a .st) (c .before .step .result) = subst (λ (n : ℕ). Entered (a .m) (a .tag) n (a .place) (a .st) (c .before .step .result)) (sym (length-slice (a .from) (a .to) (now (a .p)) (ready .within))) (c .before .step .ensures) in
-      (one-stops (a .m) room (a .place) (a .tag) l g f (now (a .out)) (a .st) (c .before .step .result) en (c .match .keys2), refl)
+      let en : Entered (a .mode) (a .tag) (length l) (a .place) (a .st) (c .before .step .result) = subst (λ (n : ℕ). Entered (a .mode) (a .tag) n (a .place) (a .st) (c .before .step .result)) (sym (length-slice (a .from) (a .to) (now (a .bytes)) (ready .within))) (c .before .step .ensures) in
+      (one-stops (a .mode) room (a .place) (a .tag) l g f (now (a .out)) (a .st) (c .before .step .result) en (c .match .keys2), refl)
 
   -- src/lib.rt:117:9
   pub act-requires : lts.Need-act-requires (calls t) (at t) Post
   act-requires c κs =
       let a = c .before .before .before .before .before .before .before .before .before .before .args in
-      let l = slice (a .from) (a .to) (now (a .p)) in
+      let l = slice (a .from) (a .to) (now (a .bytes)) in
       let g = now (a .program) in
-      let f = frameIn (a .m) (take (a .m .many) (now (a .vars))) (a .scope) (now (a .regs)) in
+      let f = frameIn (a .mode) (take (a .mode .variables) (now (a .vars))) (a .scope) (now (a .regs)) in
       let room = length (now (a .out)) in
       let ready = c .before .before .before .before .before .before .before .before .before .before .pre .1 .0 in
       (ready .within, (omega (arith, ready .few), ready .here))
@@ -64,16 +64,16 @@ module _ (t : ℕ) where
   pub returns-2 : lts.Need-returns-2 (calls t) (at t) Post
   returns-2 c =
       let a = c .before .before .before .before .before .before .before .before .before .before .before .before .before .args in
-      let l = slice (a .from) (a .to) (now (a .p)) in
+      let l = slice (a .from) (a .to) (now (a .bytes)) in
       let g = now (a .program) in
-      let f = frameIn (a .m) (take (a .m .many) (now (a .vars))) (a .scope) (now (a .regs)) in
+      let f = frameIn (a .mode) (take (a .mode .variables) (now (a .vars))) (a .scope) (now (a .regs)) in
       let room = length (now (a .out)) in
       let ready = c .before .before .before .before .before .before .before .before .before .before .before .before .before .pre .1 .0 in
       let s = c .before .before .before .before .before .before .before .r .given .0 .0 in
-      let q : Steps (a .m) (a .tag) (a .to - a .from) (a .st) s = one-steps (a .m) (a .tag) (a .to - a .from) (a .place) (a .st) s (c .before .before .before .before .before .before .before .before .before .step .result) (c .before .before .before .before .before .before .before .before .before .step .ensures) (c .before .before .before .before .before .before .before .r .given .1) in
+      let q : StepTaken (a .mode) (a .tag) (a .to - a .from) (a .st) s = one-steps (a .mode) (a .tag) (a .to - a .from) (a .place) (a .st) s (c .before .before .before .before .before .before .before .before .before .step .result) (c .before .before .before .before .before .before .before .before .before .step .ensures) (c .before .before .before .before .before .before .before .r .given .1) in
       let w = q .enterable in (
-        does-as _ _ _ _ _ (oneRun (a .m) room (a .place) (a .tag) l g f) (one-acts (a .m) room (a .place) (a .tag) l g f (w .deep) (w .low) (c .before .before .before .before .before .if1 .taken))
-            (step-taken (a .m .limit) room (now (a .out)) (a .st) s (a .place) _ _ _ (q .left) (q .same) (q .more) (c .before .before .act .ensures)),
+        does-as _ _ _ _ _ (oneRun (a .mode) room (a .place) (a .tag) l g f) (one-acts (a .mode) room (a .place) (a .tag) l g f (w .deep) (w .low) (c .before .before .before .before .before .if1 .taken))
+            (step-taken (a .mode .limit) room (now (a .out)) (a .st) s (a .place) _ _ _ (q .left) (q .same) (q .more) (c .before .before .act .ensures)),
         refl,
       )
 
@@ -81,13 +81,13 @@ module _ (t : ℕ) where
   pub run-call-requires : lts.Need-run-call-requires (calls t) (at t) Post
   run-call-requires c κs =
       let a = c .before .before .before .before .before .before .before .before .before .before .before .args in
-      let l = slice (a .from) (a .to) (now (a .p)) in
+      let l = slice (a .from) (a .to) (now (a .bytes)) in
       let g = now (a .program) in
-      let f = frameIn (a .m) (take (a .m .many) (now (a .vars))) (a .scope) (now (a .regs)) in
+      let f = frameIn (a .mode) (take (a .mode .variables) (now (a .vars))) (a .scope) (now (a .regs)) in
       let room = length (now (a .out)) in
       let ready = c .before .before .before .before .before .before .before .before .before .before .before .pre .1 .0 in
       let s = c .before .before .before .before .before .r .given .0 .0 in
-      let q : Steps (a .m) (a .tag) (a .to - a .from) (a .st) s = one-steps (a .m) (a .tag) (a .to - a .from) (a .place) (a .st) s (c .before .before .before .before .before .before .before .step .result) (c .before .before .before .before .before .before .before .step .ensures) (c .before .before .before .before .before .r .given .1) in
+      let q : StepTaken (a .mode) (a .tag) (a .to - a .from) (a .st) s = one-steps (a .mode) (a .tag) (a .to - a .from) (a .place) (a .st) s (c .before .before .before .before .before .before .before .step .result) (c .before .before .before .before .before .before .before .step .ensures) (c .before .before .before .before .before .r .given .1) in
       let w = q .enterable in
       (omega (arith, c .before .before .before .before .before .before .before .before .before .before .before .pre .0), (ready, (c .before .before .before .before .before .before .before .before .before .before .before .pre .1 .1 .0, (c .before .before .before .before .before .before .before .before .before .before .before .pre .1 .1 .1, rw (c .before .before .if2 .taken) at w))))
 
@@ -100,13 +100,13 @@ module _ (t : ℕ) where
   pub returns-3 : lts.Need-returns-3 (calls t) (at t) Post
   returns-3 c =
       let a = c .before .before .before .before .before .before .before .before .before .before .before .before .before .before .args in
-      let l = slice (a .from) (a .to) (now (a .p)) in
+      let l = slice (a .from) (a .to) (now (a .bytes)) in
       let g = now (a .program) in
-      let f = frameIn (a .m) (take (a .m .many) (now (a .vars))) (a .scope) (now (a .regs)) in
+      let f = frameIn (a .mode) (take (a .mode .variables) (now (a .vars))) (a .scope) (now (a .regs)) in
       let room = length (now (a .out)) in
       let ready = c .before .before .before .before .before .before .before .before .before .before .before .before .before .before .pre .1 .0 in
       let s = c .before .before .before .before .before .before .before .before .r .given .0 .0 in
-      let q : Steps (a .m) (a .tag) (a .to - a .from) (a .st) s = one-steps (a .m) (a .tag) (a .to - a .from) (a .place) (a .st) s (c .before .before .before .before .before .before .before .before .before .before .step .result) (c .before .before .before .before .before .before .before .before .before .before .step .ensures) (c .before .before .before .before .before .before .before .before .r .given .1) in
+      let q : StepTaken (a .mode) (a .tag) (a .to - a .from) (a .st) s = one-steps (a .mode) (a .tag) (a .to - a .from) (a .place) (a .st) s (c .before .before .before .before .before .before .before .before .before .before .step .result) (c .before .before .before .before .before .before .before .before .before .before .step .ensures) (c .before .before .before .before .before .before .before .before .r .given .1) in
       let w = q .enterable in
       (rw (c .before .before .before .before .before .if2 .taken) (c .before .before .run-call .ensures (a .st) (rw (c .before .before .before .before .before .if2 .taken) at q)), refl)
 
@@ -114,13 +114,13 @@ module _ (t : ℕ) where
   pub run-rounds-requires : lts.Need-run-rounds-requires (calls t) (at t) Post
   run-rounds-requires c κs =
       let a = c .before .before .before .before .before .before .before .before .before .before .before .args in
-      let l = slice (a .from) (a .to) (now (a .p)) in
+      let l = slice (a .from) (a .to) (now (a .bytes)) in
       let g = now (a .program) in
-      let f = frameIn (a .m) (take (a .m .many) (now (a .vars))) (a .scope) (now (a .regs)) in
+      let f = frameIn (a .mode) (take (a .mode .variables) (now (a .vars))) (a .scope) (now (a .regs)) in
       let room = length (now (a .out)) in
       let ready = c .before .before .before .before .before .before .before .before .before .before .before .pre .1 .0 in
       let s = c .before .before .before .before .before .r .given .0 .0 in
-      let q : Steps (a .m) (a .tag) (a .to - a .from) (a .st) s = one-steps (a .m) (a .tag) (a .to - a .from) (a .place) (a .st) s (c .before .before .before .before .before .before .before .step .result) (c .before .before .before .before .before .before .before .step .ensures) (c .before .before .before .before .before .r .given .1) in
+      let q : StepTaken (a .mode) (a .tag) (a .to - a .from) (a .st) s = one-steps (a .mode) (a .tag) (a .to - a .from) (a .place) (a .st) s (c .before .before .before .before .before .before .before .step .result) (c .before .before .before .before .before .before .before .step .ensures) (c .before .before .before .before .before .r .given .1) in
       let w = q .enterable in
       (omega (arith, c .before .before .before .before .before .before .before .before .before .before .before .pre .0), (ready, (c .before .before .before .before .before .before .before .before .before .before .before .pre .1 .1 .0, (c .before .before .before .before .before .before .before .before .before .before .before .pre .1 .1 .1, (w, omega (arith, c .before .before .before .if1 .left, c .before .before .if2 .left))))))
 
@@ -133,12 +133,12 @@ module _ (t : ℕ) where
   pub returns-4 : lts.Need-returns-4 (calls t) (at t) Post
   returns-4 c =
       let a = c .before .before .before .before .before .before .before .before .before .before .before .before .before .before .args in
-      let l = slice (a .from) (a .to) (now (a .p)) in
+      let l = slice (a .from) (a .to) (now (a .bytes)) in
       let g = now (a .program) in
-      let f = frameIn (a .m) (take (a .m .many) (now (a .vars))) (a .scope) (now (a .regs)) in
+      let f = frameIn (a .mode) (take (a .mode .variables) (now (a .vars))) (a .scope) (now (a .regs)) in
       let room = length (now (a .out)) in
       let ready = c .before .before .before .before .before .before .before .before .before .before .before .before .before .before .pre .1 .0 in
       let s = c .before .before .before .before .before .before .before .before .r .given .0 .0 in
-      let q : Steps (a .m) (a .tag) (a .to - a .from) (a .st) s = one-steps (a .m) (a .tag) (a .to - a .from) (a .place) (a .st) s (c .before .before .before .before .before .before .before .before .before .before .step .result) (c .before .before .before .before .before .before .before .before .before .before .step .ensures) (c .before .before .before .before .before .before .before .before .r .given .1) in
+      let q : StepTaken (a .mode) (a .tag) (a .to - a .from) (a .st) s = one-steps (a .mode) (a .tag) (a .to - a .from) (a .place) (a .st) s (c .before .before .before .before .before .before .before .before .before .before .step .result) (c .before .before .before .before .before .before .before .before .before .before .step .ensures) (c .before .before .before .before .before .before .before .before .r .given .1) in
       let w = q .enterable in
       (c .before .before .run-rounds .ensures .0 (a .st) q, c .before .before .run-rounds .ensures .1)

@@ -35,19 +35,19 @@ use Prim.Native.Nat.{_+_, _-_, _*_, _<_}
 
 abbrev pub μ-run-call : Measures 6 run-call-kinds.ps ℕ
 μ-run-call κs a =
-    a .1 .1 .1 .1 .1 .1 .1 .1 .1 .1 .0 .seen * 1048576 + 4 * (a .1 .1 .1 .0 - a .1 .1 .0) + 2
+    a .1 .1 .1 .1 .1 .1 .1 .1 .1 .1 .0 .«families_visible» * 1048576 + 4 * (a .1 .1 .1 .0 - a .1 .1 .0) + 2
 
 abbrev pub μ-run-list : Measures 6 run-list-kinds.ps ℕ
 μ-run-list κs a =
-    a .1 .1 .1 .1 .1 .1 .1 .1 .1 .1 .1 .1 .1 .0 .seen * 1048576 + 4 * (a .1 .1 .1 .0 - a .1 .1 .0) + 1
+    a .1 .1 .1 .1 .1 .1 .1 .1 .1 .1 .1 .1 .1 .0 .«families_visible» * 1048576 + 4 * (a .1 .1 .1 .0 - a .1 .1 .0) + 1
 
 abbrev pub μ-run-rounds : Measures 6 run-rounds-kinds.ps ℕ
 μ-run-rounds κs a =
-    a .1 .1 .1 .1 .1 .1 .1 .1 .1 .1 .1 .0 .seen * 1048576 + 4 * (a .1 .1 .1 .0 - a .1 .1 .0) + 2
+    a .1 .1 .1 .1 .1 .1 .1 .1 .1 .1 .1 .0 .«families_visible» * 1048576 + 4 * (a .1 .1 .1 .0 - a .1 .1 .0) + 2
 
 abbrev pub μ-run-statement : Measures 6 run-statement-kinds.ps ℕ
 μ-run-statement κs a =
-    a .1 .1 .1 .1 .1 .1 .1 .1 .1 .1 .1 .0 .seen * 1048576 + 4 * (a .1 .1 .1 .0 - a .1 .1 .0) + 3
+    a .1 .1 .1 .1 .1 .1 .1 .1 .1 .1 .1 .0 .«families_visible» * 1048576 + 4 * (a .1 .1 .1 .0 - a .1 .1 .0) + 3
 
 abbrev pub run-call-at : ℕ → In 6 run-call-kinds.ps
 run-call-at t = and 6 run-call-kinds.ps (is 6 run-call-kinds.ps μ-run-call t) run-call.Pre

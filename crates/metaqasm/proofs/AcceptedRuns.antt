@@ -1,0 +1,130 @@
+-- Accepted programs run to an answer that a result can tell. Assumes nothing.
+use Prim.Native.Nat.{ℕ, _*_, _≤_}
+use native.Mathlib.Omega.{arith}
+use mathlib.Core.Path.{_≡_, refl, sym, ap, _∙_, subst}
+use mathlib.Core.List.{List, []}
+use borrow.Author.Tests.{leb-true}
+use lib.Dec.{leb}
+use lib.ListN.{length, getElem?}
+use Rattle.language.specs.Limits.{longestProgram}
+use Rattle.language.specs.Read.{read}
+use Rattle.language.specs.Check.{Checked, Declared, good, refused, require, check}
+use Rattle.language.specs.Machine.{allDeclared, runProgram}
+use Rattle.language.specs.Result.{Result, Answer as Reply, Conclusion, finished, gotStuck, conclusionOf, checkProgram, verdict, checkResult, ifAccepted, runOutcome, instanceOf, instanceOutcome}
+use Rattle.language.specs.Sound.{qubitsDeclared, bitsDeclared, wiresLaidOut, Sound, Finishes}
+use Rattle.language.proofs.Safe.{then-both, required}
+use Rattle.language.proofs.Refusals.{accepted}
+use Rattle.language.proofs.Soundness.{run-sound, instance-sound, run-refused, instance-refused}
+use Rattle.emit.specs.declared.Answer.{Answer}
+use Rattle.emit.specs.declared.Answer.the-variants.{Going, Ended, Stuck}
+use Rattle.runs.specs.Whole.{Acceptable}
+use Rattle.runs.specs.Conclusions.{concluded}
+use Rattle.metaqasm.specs.Answers.{NotStuck, SoundRun, SoundInstance}
+
+-- a program whose check answers 0
+module _ (l : List ℕ) (e : checkResult l .number ≡ 0) where
+  good-program : checkProgram l ≡ good (accepted l e .0)
+  good-program = accepted l e .1
+
+  pub acceptable : Acceptable l
+  unfolding checkProgram
+  acceptable =
+      let b = then-both (require 1 0 (leb (length l) longestProgram)) (check (read l)) (accepted l e .0) good-program in
+      record { declares = accepted l e .0; accepted = b .1; short = leb-true (length l) longestProgram (required 1 0 _ (b .0)) }
+
+-- the check writes nothing and takes no step
+check-counts : (l : List ℕ) → (checkResult l .records ≡ 0) × (checkResult l .steps ≡ 0)
+unfolding checkResult verdict
+check-counts l = go (checkProgram l)
+  where
+    go : (c : Checked Declared) → (verdict c .records ≡ 0) × (verdict c .steps ≡ 0)
+    go (good d) = (refl, refl)
+    go (refused n p) = (refl, refl)
+
+-- ---- the answer of the code
+
+abbrev isStuck : Conclusion → ℕ
+isStuck (finished a) = 0
+isStuck gotStuck = 1
+
+-- an answer that concludes soundly can be told
+told-by : (least limit q b : ℕ) (lent out : List ℕ) (r : Answer) (c : Conclusion) → Finishes least limit q b lent c → concluded out r ≡ c → NotStuck r
+unfolding concluded
+told-by least limit q b lent out (Going s) c f e = tt
+told-by least limit q b lent out (Ended n p s) c f e = tt
+told-by least limit q b lent out Stuck c f e = absurd (let z = ap isStuck (e ∙ f .is) in omega arith)
+
+-- a conclusion that is an answer is that answer, soundly
+sound-of : (least limit q b : ℕ) (lent : List ℕ) (a : Reply) (c : Conclusion) → c ≡ finished a → Finishes least limit q b lent c → Sound least limit q b lent a
+sound-of least limit q b lent a c g f =
+    let i : f .answer ≡ a = cc in
+    subst (λ (x : Reply). Sound least limit q b lent x) i (f .sound)
+
+-- what it says of the records and the steps
+kept-within : (least limit q b : ℕ) (lent : List ℕ) (a : Reply) → Sound least limit q b lent a → (8 * a .result .records ≤ length (a .output)) × (a .result .steps ≤ limit)
+kept-within least limit q b lent a s = (omega (arith, s .fits, s .size), s .steps)
+
+-- ---- whole runs
+
+module _ (l : List ℕ) (limit : ℕ) (lent : List ℕ) (e : checkResult l .number ≡ 0) where
+  run-is : conclusionOf lent (runProgram limit (length lent) (read l)) ≡ runOutcome l limit lent
+  unfolding runOutcome ifAccepted
+  run-is = rw (good-program l e) refl
+
+  pub run-told : (out : List ℕ) (r : Answer) → concluded out r ≡ conclusionOf lent (runProgram limit (length lent) (read l)) → NotStuck r
+  run-told out r h = told-by 24 limit _ _ lent out r _ (run-sound l limit lent e) (h ∙ run-is)
+
+  pub run-answers : (out : List ℕ) (r : Answer) (x : Result) → concluded out r ≡ conclusionOf lent (runProgram limit (length lent) (read l)) → concluded out r ≡ finished (record { result = x; output = out })
+      → (runOutcome l limit lent ≡ finished (record { result = x; output = out })) × SoundRun l limit lent (record { result = x; output = out }) × (8 * x .records ≤ length out)
+      × (x .steps ≤ limit)
+  run-answers out r x h k =
+      let g = sym run-is ∙ sym h ∙ k in
+      let a : Reply = record { result = x; output = out } in
+      let s = sound-of 24 limit (qubitsDeclared l) (bitsDeclared l) lent a _ g (run-sound l limit lent e) in
+      let w = kept-within 24 limit (qubitsDeclared l) (bitsDeclared l) lent a s in
+      (g, (λ z. s), w .0, w .1)
+
+-- ---- instances
+
+module _ (l : List ℕ) (k : ℕ) (sizes : List ℕ) (limit : ℕ) (lent : List ℕ) (e : checkResult l .number ≡ 0) where
+  abbrev asked : Conclusion
+  asked = instanceOf (getElem? (allDeclared limit (length lent) (read l) []) k) sizes lent
+
+  instance-is : asked ≡ instanceOutcome l k sizes limit lent
+  unfolding instanceOutcome ifAccepted
+  instance-is = rw (good-program l e) refl
+
+  pub instance-told : (out : List ℕ) (r : Answer) → concluded out r ≡ instanceOf (getElem? (allDeclared limit (length lent) (read l) []) k) sizes lent → NotStuck r
+  instance-told out r h = told-by 20 limit _ _ lent out r _ (instance-sound l k sizes limit lent e .0) (h ∙ instance-is)
+
+  pub instance-answers : (out : List ℕ) (r : Answer) (x : Result) → concluded out r ≡ instanceOf (getElem? (allDeclared limit (length lent) (read l) []) k) sizes lent
+      → concluded out r ≡ finished (record { result = x; output = out })
+      → (instanceOutcome l k sizes limit lent ≡ finished (record { result = x; output = out })) × SoundInstance l k sizes limit lent (record { result = x; output = out })
+      × (8 * x .records ≤ length out) × (x .steps ≤ limit)
+  instance-answers out r x h j =
+      let g = sym instance-is ∙ sym h ∙ j in
+      let laid = wiresLaidOut l k sizes in
+      let a : Reply = record { result = x; output = out } in
+      let s = sound-of 20 limit laid 0 lent a _ g (instance-sound l k sizes limit lent e .0) in
+      let w = kept-within 20 limit laid 0 lent a s in
+      (g, (λ z. (s, λ suits. sound-of 23 limit laid 0 lent a _ g (instance-sound l k sizes limit lent e .1 suits))), w .0, w .1)
+
+-- ---- a program that is turned down
+
+module _ (l : List ℕ) (x : Result) (e : x ≡ checkResult l) (h : x .number ≡ 0 → ⊥) where
+  nonzero : 1 ≤ checkResult l .number
+  nonzero = let q = ap (λ (r : Result). r .number) e in omega arith
+
+  pub refused-run : (limit : ℕ) (lent : List ℕ) → runOutcome l limit lent ≡ finished (record { result = x; output = lent })
+  refused-run limit lent = run-refused l limit lent nonzero ∙ ap (λ (r : Result). finished (record { result = r; output = lent })) (sym e)
+
+  pub refused-instance : (k : ℕ) (sizes : List ℕ) (limit : ℕ) (lent : List ℕ) → instanceOutcome l k sizes limit lent ≡ finished (record { result = x; output = lent })
+  refused-instance k sizes limit lent = instance-refused l k sizes limit lent nonzero ∙ ap (λ (r : Result). finished (record { result = r; output = lent })) (sym e)
+
+  -- the check writes nothing and takes no step
+  pub refused-counts : (x .records ≡ 0) × (x .steps ≡ 0)
+  refused-counts = rw e (check-counts l)
+
+  -- and a promise for accepted programs says nothing of it
+  pub refused-sound : {A : Type 0} → checkResult l .number ≡ 0 → A
+  refused-sound z = absurd (omega (arith, nonzero))

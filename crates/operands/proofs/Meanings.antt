@@ -1,0 +1,156 @@
+-- What operands stand for. Assumes nothing.
+use Prim.Native.Nat.{ℕ, zero, suc, _+_, _*_, _-_, _<_, _≤_, min}
+use mathlib.Core.Path.{_≡_, refl, sym, ap, _∙_}
+use mathlib.Core.List.{List, [], _∷_, map}
+use mathlib.Core.Bool.{Bool, true, false, cond}
+use mathlib.Core.Option.{Option, none, some}
+use native.Mathlib.Omega.{arith}
+use borrow.Author.Tests.{lt-ltb, le-ltb, eq-eqb, ne-eqb}
+use lib.ListN.{length, getD, getElem?, take, drop, length-take}
+use lib.Seq.{getD-take}
+use lib.Dec.{eqb, ltb, T}
+use lib.IntN.{ℤ, pos, negsuc, natAbs}
+use lib.Signed.{leZ, ltZ, nonNeg}
+use mir.Syntax.{w64}
+use mir.Val.{ofZ, Fits}
+use Rattle.language.proofs.Integers.{integers, range-true}
+use Rattle.language.specs.Form.{inRange}
+use Rattle.operands.specs.declared.Wire.{Wire}
+use Rattle.operands.specs.declared.Bit.{Bit}
+use Rattle.language.specs.Tree.{Place}
+use Rattle.language.specs.Machine.{Meaning, aWire, aBit, wires, bits, Run, give, noMeaning, found, elementAt, after, _>>=_}
+use Rattle.operands.specs.declared.Operand.{Operand}
+use Rattle.operands.specs.declared.Operand.the-variants.{Single, Register}
+use Rattle.operands.specs.declared.Parameter.{Parameter}
+use Rattle.operands.specs.declared.OperandMeaning.{OperandMeaning}
+use Rattle.operands.specs.declared.OperandMeaning.the-variants.{AWire, ABit, Wires, Bits, Over, Stuck}
+use Rattle.operands.specs.declared.Location.the-variants.{At, Nowhere}
+use Rattle.operands.specs.Meanings.{ofParameter, parameterOf, registerOf, registersOf, operandsOf, meaningTold, locationIn, clipped, locationOf, theWire, theBit}
+
+pub register-at : (n : ℕ) (l : List ℕ) → 3 * n + 2 < length l → getElem? (registersOf l) n ≡ some (registerOf (getD l (3 * n) 0) (getD l (3 * n + 1) 0) (getD l (3 * n + 2) 0))
+unfolding registersOf
+register-at n [] h = absurd (omega arith)
+register-at n (a ∷ []) h = absurd (omega arith)
+register-at n (a ∷ b ∷ []) h = absurd (omega arith)
+register-at zero (a ∷ b ∷ c ∷ l) h = refl
+register-at (suc n) (a ∷ b ∷ c ∷ l) h =
+    let e : 3 * suc n ≡ suc (suc (suc (3 * n))) = omega arith in
+    let f : suc (suc (suc (3 * n))) + 1 ≡ suc (suc (suc (3 * n + 1))) = omega arith in
+    let g : suc (suc (suc (3 * n))) + 2 ≡ suc (suc (suc (3 * n + 2))) = omega arith in
+    rw (e, f, g) (register-at n l (omega arith))
+
+pub register-past : (n : ℕ) (l : List ℕ) → length l ≤ 3 * n + 2 → getElem? (registersOf l) n ≡ none
+unfolding registersOf
+register-past n [] h = refl
+register-past n (a ∷ []) h = refl
+register-past n (a ∷ b ∷ []) h = refl
+register-past zero (a ∷ b ∷ c ∷ l) h = absurd (omega arith)
+register-past (suc n) (a ∷ b ∷ c ∷ l) h = register-past n l (omega arith)
+
+-- of the first `count` in a table
+pub table-at : (n count : ℕ) (l : List ℕ) → n < count → 3 * count ≤ length l
+    → getElem? (registersOf (take (3 * count) l)) n ≡ some (registerOf (getD l (3 * n) 0) (getD l (3 * n + 1) 0) (getD l (3 * n + 2) 0))
+table-at n count l h k =
+    register-at n (take (3 * count) l) (omega (arith, length-take (3 * count) l))
+    ∙ rw (getD-take (3 * count) l (3 * n) 0 (omega arith), getD-take (3 * count) l (3 * n + 1) 0 (omega arith), getD-take (3 * count) l (3 * n + 2) 0 (omega arith))
+
+pub table-past : (n count : ℕ) (l : List ℕ) → count ≤ n → getElem? (registersOf (take (3 * count) l)) n ≡ none
+table-past n count l h = register-past n (take (3 * count) l) (omega (arith, length-take (3 * count) l))
+
+pub parameter-at : (n k : ℕ) (l : List Parameter) (d : Parameter) → n < k → n < length l → getElem? (map ofParameter (take k l)) n ≡ some (ofParameter (getD l n d))
+parameter-at n zero l d h i = absurd (omega arith)
+parameter-at n (suc k) [] d h i = absurd (omega arith)
+parameter-at zero (suc k) (x ∷ l) d h i = refl
+parameter-at (suc n) (suc k) (x ∷ l) d h i = parameter-at n k l d (omega arith) (omega arith)
+
+pub parameter-past : (n k : ℕ) (l : List Parameter) → k ≤ n → getElem? (map ofParameter (take k l)) n ≡ none
+parameter-past n zero l h = refl
+parameter-past n (suc k) [] h = refl
+parameter-past zero (suc k) (x ∷ l) h = absurd (omega arith)
+parameter-past (suc n) (suc k) (x ∷ l) h = parameter-past n k l (omega arith)
+
+pub parameter-none : (n k : ℕ) (l : List Parameter) → length l ≤ n → getElem? (map ofParameter (take k l)) n ≡ none
+parameter-none n zero l h = refl
+parameter-none n (suc k) [] h = refl
+parameter-none zero (suc k) (x ∷ l) h = absurd (omega arith)
+parameter-none (suc n) (suc k) (x ∷ l) h = parameter-none n k l (omega arith)
+
+-- the code's answer for what a parameter holds
+abbrev standsFor : Operand → OperandMeaning
+standsFor (Single w) = AWire w
+standsFor (Register f n) = Wires f n
+
+pub stands-for : (p : Place) (o : Operand) → meaningTold p (standsFor o) ≡ give (parameterOf o)
+unfolding meaningTold parameterOf
+stands-for p (Single w) = refl
+stands-for p (Register f n) = refl
+
+pub nothing : (p : Place) {A : Option Meaning} → A ≡ none → meaningTold p Stuck ≡ found A
+unfolding meaningTold found
+nothing p e = rw e
+
+pub spot-past : (first size i : ℕ) → size ≤ i → Nowhere ≡ locationIn first size i
+unfolding locationIn
+spot-past first size i h = simp (le-ltb i (clipped first size) (omega arith))
+
+pub spot-high : (first size i : ℕ) → 65536 ≤ first + i → first < 65536 → Nowhere ≡ locationIn first size i
+unfolding locationIn
+spot-high first size i h k = simp (le-ltb i (clipped first size) (omega arith))
+
+pub spot-at : (first size i : ℕ) → i < size → first + i < 65536 → At (first + i) ≡ locationIn first size i
+unfolding locationIn
+spot-at first size i h k = simp (lt-ltb i (clipped first size) (omega arith))
+
+-- ---- elements
+
+module _ (p : Place) (f size : ℕ) where
+  pub wires-nowhere : (z : ℤ) → locationOf f size z ≡ Nowhere → meaningTold p Stuck ≡ elementAt (wires (theWire f) (clipped f size)) z
+  unfolding locationOf locationIn elementAt meaningTold
+  wires-nowhere (negsuc i) h = refl
+  wires-nowhere (pos i) h = go (ltb i (clipped f size)) h
+    where
+      go : (b : Bool) → cond b (At (f + i)) Nowhere ≡ Nowhere → noMeaning ≡ cond b (give (aWire (theWire (f + i)))) noMeaning
+      go true h = absurd (let z : _≡_ {A = ℕ} 0 1 = cc in omega arith)
+      go false h = refl
+
+  pub wires-at : (z : ℤ) (w : Wire) → locationOf f size z ≡ At (w .0) → meaningTold p (AWire w) ≡ elementAt (wires (theWire f) (clipped f size)) z
+  unfolding locationOf locationIn elementAt meaningTold
+  wires-at (negsuc i) w h = absurd (let z : _≡_ {A = ℕ} 0 1 = cc in omega arith)
+  wires-at (pos i) w h = go (ltb i (clipped f size)) h
+    where
+      go : (b : Bool) → cond b (At (f + i)) Nowhere ≡ At (w .0) → give (aWire (theWire (w .0))) ≡ cond b (give (aWire (theWire (f + i)))) noMeaning
+      go true h = let e : w .0 ≡ f + i = cc in ap (λ (n : ℕ). give (aWire (theWire n))) e
+      go false h = absurd (let z : _≡_ {A = ℕ} 0 1 = cc in omega arith)
+
+  pub bits-nowhere : (z : ℤ) → locationOf f size z ≡ Nowhere → meaningTold p Stuck ≡ elementAt (bits (theBit f) (clipped f size)) z
+  unfolding locationOf locationIn elementAt meaningTold
+  bits-nowhere (negsuc i) h = refl
+  bits-nowhere (pos i) h = go (ltb i (clipped f size)) h
+    where
+      go : (b : Bool) → cond b (At (f + i)) Nowhere ≡ Nowhere → noMeaning ≡ cond b (give (aBit (theBit (f + i)))) noMeaning
+      go true h = absurd (let z : _≡_ {A = ℕ} 0 1 = cc in omega arith)
+      go false h = refl
+
+  pub bits-at : (z : ℤ) (w : Bit) → locationOf f size z ≡ At (w .0) → meaningTold p (ABit w) ≡ elementAt (bits (theBit f) (clipped f size)) z
+  unfolding locationOf locationIn elementAt meaningTold
+  bits-at (negsuc i) w h = absurd (let z : _≡_ {A = ℕ} 0 1 = cc in omega arith)
+  bits-at (pos i) w h = go (ltb i (clipped f size)) h
+    where
+      go : (b : Bool) → cond b (At (f + i)) Nowhere ≡ At (w .0) → give (aBit (theBit (w .0))) ≡ cond b (give (aBit (theBit (f + i)))) noMeaning
+      go true h = let e : w .0 ≡ f + i = cc in ap (λ (n : ℕ). give (aBit (theBit n))) e
+      go false h = absurd (let z : _≡_ {A = ℕ} 0 1 = cc in omega arith)
+
+-- a negative index, and one that is not
+pub indexed-negative : (f size : ℕ) (z : ℤ) → ltZ z (pos 0) ≡ true → Nowhere ≡ locationOf f size z
+unfolding locationOf
+indexed-negative f size (pos i) h = absurd (omega (integers))
+indexed-negative f size (negsuc i) h = refl
+
+pub natural-fits : (z : ℤ) → inRange z ≡ true → ltZ z (pos 0) ≡ false → T (nonNeg z) × Fits w64 (natAbs z)
+natural-fits (pos i) r h = (tt, record { fits = omega (integers, range-true) })
+natural-fits (negsuc i) r h = absurd (omega integers)
+
+pub indexed-natural : (f size : ℕ) (z : ℤ) (i : ℕ) → ltZ z (pos 0) ≡ false → i ≡ natAbs z → locationIn f size i ≡ locationOf f size z
+unfolding locationOf
+indexed-natural f size (pos n) i h e = ap (locationIn f size) e
+indexed-natural f size (negsuc n) i h e = absurd (omega integers)

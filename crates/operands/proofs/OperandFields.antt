@@ -1,0 +1,152 @@
+-- What an operand's field stands for. Assumes nothing.
+use Prim.Native.Nat.{ℕ, zero, suc, _+_, _*_, _-_, _<_, _≤_}
+use mathlib.Core.Path.{_≡_, refl, sym, ap, _∙_}
+use mathlib.Core.List.{List, [], _∷_}
+use mathlib.Core.Bool.{Bool, true, false, cond}
+use mathlib.Core.Option.{Option, none, some}
+use mathlib.Core.Logic.{⊎-elim}
+use native.Mathlib.Omega.{arith}
+use borrow.Author.Tests.{eq-eqb, ne-eqb}
+use lib.ListN.{length, getD, getElem?, take, drop}
+use lib.Seq.{slice}
+use lib.Dec.{eqb}
+use lib.IntN.{ℤ}
+use types.Run.{OneOf}
+use denote.Enum.Declared.{tagOf}
+use Rattle.language.specs.Tree.{Place, badIndex, badOperand, Operand}
+use Rattle.language.specs.Read.{field, fields, fieldsAfter, due, choose, readOperand, readWhole, readElement, elementOf, readIndex, outerIndex, Reader}
+use Rattle.language.specs.Machine.{Meaning, Run, Outcome, going, ended, stuck, State, begin, give, endAt, noMeaning, found, after, _>>=_, elementAt, meaningOf, evaluate, Direction, Condition, wireOf, asWire, bitOf, asBit}
+use Rattle.indexes.specs.declared.Value.{Value}
+use Rattle.indexes.specs.declared.Value.the-variants.{Is, Over, Stuck}
+use Rattle.fields.specs.declared.Header.the-variants.{Whole, End, Cut}
+use Rattle.indexes.specs.Values.{valueTold, IndexAt}
+use Rattle.fields.proofs.Header.{the-type}
+use Rattle.operands.proofs.OperandMeaning.{the-type as stands-type}
+use Rattle.fields.proofs.Parts.{not-first}
+use Rattle.fields.proofs.Between.{lookIn, in-whole, in-none, in-bad}
+use Rattle.fields.specs.declared.Header.{Header}
+use Rattle.operands.specs.declared.OperandMeaning.{OperandMeaning}
+use Rattle.operands.specs.declared.OperandMeaning.the-variants as s
+use Rattle.operands.specs.declared.WireMeaning.{WireMeaning}
+use Rattle.operands.specs.declared.BitMeaning.{BitMeaning}
+use Rattle.operands.specs.declared.BitMeaning.the-variants as b
+use Rattle.operands.specs.declared.WireMeaning.the-variants as w
+use Rattle.operands.specs.Meanings.{meaningTold, OperandIs, ElementIs, FieldMeans, frameOf, wireTold, AsWire, WireAt, bitTold, AsBit, BitAt}
+
+-- a value, what it is for, and what follows
+elements : Run Meaning → Run ℤ → Run Meaning
+elements a b = a >>= (λ m. b >>= (λ z. elementAt m z))
+
+found-stuck : (o : Option Meaning) → elements (found o) noMeaning ≡ noMeaning
+unfolding elements found _>>=_ after
+found-stuck none = refl
+found-stuck (some m) = refl
+
+not-over : (p : Place) (x : OperandMeaning) → meaningTold p x ≡ noMeaning → (x ≡ s.Stuck → ⊥) → ⊥
+unfolding meaningTold
+not-over p (s.AWire w) e h = let d : meaningTold p (s.AWire w) begin ≡ stuck = ap (λ (r : Run Meaning). r begin) e in let z : _≡_ {A = ℕ} 0 1 = cc in omega arith
+not-over p (s.ABit w) e h = let d : meaningTold p (s.ABit w) begin ≡ stuck = ap (λ (r : Run Meaning). r begin) e in let z : _≡_ {A = ℕ} 0 1 = cc in omega arith
+not-over p (s.Wires w n) e h = let d : meaningTold p (s.Wires w n) begin ≡ stuck = ap (λ (r : Run Meaning). r begin) e in let z : _≡_ {A = ℕ} 0 1 = cc in omega arith
+not-over p (s.Bits w n) e h = let d : meaningTold p (s.Bits w n) begin ≡ stuck = ap (λ (r : Run Meaning). r begin) e in let z : _≡_ {A = ℕ} 0 1 = cc in omega arith
+not-over p s.Over e h = let d : meaningTold p s.Over begin ≡ stuck = ap (λ (r : Run Meaning). r begin) e in let z : _≡_ {A = ℕ} 0 1 = cc in omega arith
+not-over p s.Stuck e h = h refl
+
+found-over : (p : Place) (x : OperandMeaning) (o : Option Meaning) → meaningTold p x ≡ found o → (x ≡ s.Stuck → ⊥) → elements (found o) (endAt 24 p) ≡ endAt 24 p
+unfolding elements found _>>=_ after
+found-over p x none e h = absurd (not-over p x e h)
+found-over p x (some m) e h = refl
+
+module _ (tag : ℕ) (l : List ℕ) (values : List ℤ) (ms : List Meaning) where
+  pub empty-operand : length l ≡ 0 → FieldMeans tag l values ms s.Stuck
+  unfolding readOperand choose readWhole readElement meaningTold meaningOf
+  empty-operand h p q d c = go l h
+    where
+      pick : (a b : Bool) → noMeaning ≡ meaningOf p (frameOf d c values ms) (cond {A = Reader Operand} a readWhole (cond {A = Reader Operand} b readElement (λ q rest. badOperand 3 q)) q [])
+      pick true b = refl
+      pick false true = refl
+      pick false false = refl
+
+      go : (l : List ℕ) → length l ≡ 0 → meaningTold p s.Stuck ≡ meaningOf p (frameOf d c values ms) (readOperand (field q tag l))
+      go [] h = pick (eqb tag 48) (eqb tag 49)
+      go (x ∷ l) h = absurd (omega arith)
+
+  pub whole-operand : (n : ℕ) (r : OperandMeaning) → (length l ≡ 0 → ⊥) → tag ≡ 48 → n ≡ getD l 0 0 → OperandIs ms n r → FieldMeans tag l values ms r
+  unfolding readOperand choose readWhole meaningOf
+  whole-operand n r h t e w p q d c = w p ∙ rw t (go l h e)
+    where
+      go : (l : List ℕ) → (length l ≡ 0 → ⊥) → n ≡ getD l 0 0 → found (getElem? ms n) ≡ meaningOf p (frameOf d c values ms) (readWhole q l)
+      go [] h e = absurd (h refl)
+      go (x ∷ l) h e = ap (λ (i : ℕ). found (getElem? ms i)) e
+
+  pub other-operand : (tag ≡ 48 → ⊥) → (tag ≡ 49 → ⊥) → FieldMeans tag l values ms s.Stuck
+  unfolding readOperand choose meaningTold meaningOf
+  other-operand a b p q d c = rw (ne-eqb tag 48 a, ne-eqb tag 49 b)
+
+  module _ (t : tag ≡ 49) (h : length l ≡ 0 → ⊥) (n : ℕ) (e : n ≡ getD l 0 0) (x : OperandMeaning) (w : OperandIs ms n x) where
+    element-is : (p q : Place) (d : Direction) (c : Condition) → meaningOf p (frameOf d c values ms) (readOperand (field q tag l))
+        ≡ elements (found (getElem? ms n)) (evaluate p values (due (readIndex 16) (badIndex 4 q) (fields (q + 4) (drop 1 l))))
+    unfolding readOperand choose readElement elementOf meaningOf elements
+    element-is p q d c = rw t (go l h e)
+      where
+        go : (l : List ℕ) → (length l ≡ 0 → ⊥) → n ≡ getD l 0 0 → meaningOf p (frameOf d c values ms) (readElement q l)
+            ≡ elements (found (getElem? ms n)) (evaluate p values (due (readIndex 16) (badIndex 4 q) (fields (q + 4) (drop 1 l))))
+        go [] h e = absurd (h refl)
+        go (y ∷ l) h e = ap (λ (i : ℕ). elements (found (getElem? ms i)) (evaluate p values (due (readIndex 16) (badIndex 4 q) (fields (q + 4) l)))) (sym e)
+
+    pub element-unnamed : x ≡ s.Stuck → FieldMeans tag l values ms s.Stuck
+    unfolding meaningTold elements _>>=_ after
+    element-unnamed g p q d c = sym (element-is p q d c ∙ ap (λ (r : Run Meaning). elements r (evaluate p values (due (readIndex 16) (badIndex 4 q) (fields (q + 4) (drop 1 l))))) (sym (w p) ∙ ap (meaningTold p) g))
+
+    module _ (v : Value) (u : IndexAt l 1 values v) where
+      index-is : (p q : Place) → evaluate p values (due (readIndex 16) (badIndex 4 q) (fields (q + 4) (drop 1 l))) ≡ valueTold p v
+      index-is p q = sym (u .same p q (q + 4))
+
+      pub element-stuck : v ≡ Stuck → FieldMeans tag l values ms s.Stuck
+      unfolding meaningTold valueTold
+      element-stuck k p q d c = sym (element-is p q d c ∙ ap (elements (found (getElem? ms n))) (index-is p q ∙ ap (valueTold p) k) ∙ found-stuck (getElem? ms n))
+
+      pub element-over : v ≡ Over → (x ≡ s.Stuck → ⊥) → FieldMeans tag l values ms s.Over
+      unfolding meaningTold valueTold
+      element-over k y p q d c = sym (element-is p q d c ∙ ap (elements (found (getElem? ms n))) (index-is p q ∙ ap (valueTold p) k) ∙ found-over p x (getElem? ms n) (w p) y)
+
+      pub element-at : (z : ℤ) (r : OperandMeaning) → v ≡ Is z → ElementIs x z r → FieldMeans tag l values ms r
+      unfolding valueTold elements _>>=_ after
+      element-at z r k y p q d c = y p ∙ sym (element-is p q d c ∙ (λ j. elements (sym (w p) j) ((index-is p q ∙ ap (valueTold p) k) j)))
+
+pub not-stuck : (x : OperandMeaning) → OneOf (0 ∷ 1 ∷ 2 ∷ 3 ∷ 4 ∷ []) (tagOf stands-type x) → x ≡ s.Stuck → ⊥
+not-stuck x h e = not-five (rw e at h)
+  where
+    not-five : OneOf (0 ∷ 1 ∷ 2 ∷ 3 ∷ 4 ∷ []) 5 → ⊥
+    not-five k = ⊎-elim (λ z. omega arith) (⊎-elim (λ z. omega arith) (⊎-elim (λ z. omega arith) (⊎-elim (λ z. omega arith) (λ z. omega arith)))) k
+
+-- ---- the operand due at a position
+
+module _ (l : List ℕ) (at to : ℕ) (values : List ℤ) (ms : List Meaning) where
+  pub wire-none : OneOf (1 ∷ 2 ∷ []) (tagOf the-type (lookIn l at to)) → WireAt (slice at to l) 0 values ms w.Stuck
+  unfolding wireTold wireOf due meaningOf readOperand _>>=_ after
+  wire-none h p q t d c = go (lookIn l at to) refl h
+    where
+      go : (f : Header) → lookIn l at to ≡ f → OneOf (1 ∷ 2 ∷ []) (tagOf the-type f) → wireTold p w.Stuck ≡ wireOf p (frameOf d c values ms) (due readOperand (badOperand 4 q) (fields t (slice at to l)))
+      go (Whole u n) e h = absurd (not-first h)
+      go End e h = rw (in-none l at to e t)
+      go Cut e h = rw (in-bad l at to e t)
+
+  pub wire-some : (tag next : ℕ) (x : OperandMeaning) (r : WireMeaning) → lookIn l at to ≡ Whole tag next → FieldMeans tag (slice (at + 3) next l) values ms x → AsWire x r → WireAt (slice at to l) 0 values ms r
+  unfolding wireOf due
+  wire-some tag next x r e u v p q t d c = v p ∙ rw (in-whole l at to tag next e .first t) (ap (λ (m : Run Meaning). m >>= asWire) (u p t d c))
+
+-- ---- and as a bit
+
+module _ (l : List ℕ) (at to : ℕ) (values : List ℤ) (ms : List Meaning) where
+  pub bit-none : OneOf (1 ∷ 2 ∷ []) (tagOf the-type (lookIn l at to)) → BitAt (slice at to l) 0 values ms b.Stuck
+  unfolding bitTold bitOf due meaningOf readOperand _>>=_ after
+  bit-none h p q t d c = go (lookIn l at to) refl h
+    where
+      go : (f : Header) → lookIn l at to ≡ f → OneOf (1 ∷ 2 ∷ []) (tagOf the-type f) → bitTold p b.Stuck ≡ bitOf p (frameOf d c values ms) (due readOperand (badOperand 4 q) (fields t (slice at to l)))
+      go (Whole u n) e h = absurd (not-first h)
+      go End e h = rw (in-none l at to e t)
+      go Cut e h = rw (in-bad l at to e t)
+
+  pub bit-some : (tag next : ℕ) (x : OperandMeaning) (r : BitMeaning) → lookIn l at to ≡ Whole tag next → FieldMeans tag (slice (at + 3) next l) values ms x → AsBit x r → BitAt (slice at to l) 0 values ms r
+  unfolding bitOf due
+  bit-some tag next x r e u v p q t d c = v p ∙ rw (in-whole l at to tag next e .first t) (ap (λ (m : Run Meaning). m >>= asBit) (u p t d c))
