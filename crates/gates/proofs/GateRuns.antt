@@ -23,9 +23,9 @@ use Rattle.operands.specs.declared.WireMeaning.the-variants.{Is, Over, Stuck}
 use Rattle.operands.specs.declared.Wire.{Wire}
 use Rattle.operands.specs.Meanings.{theWire, wireTold, WireAt, frameOf}
 use Rattle.operands.proofs.OperandFields.{wire-none}
-use Rattle.emit.specs.declared.State.{State}
-use Rattle.emit.specs.declared.Answer.{Answer}
-use Rattle.emit.specs.Outcomes.{Does, ActionNumbers}
+use Rattle.records.specs.declared.State.{State}
+use Rattle.records.specs.declared.Answer.{Answer}
+use Rattle.records.specs.Outcomes.{Does, ActionNumbers}
 use Rattle.gates.specs.declared.Mode.{Mode}
 use Rattle.gates.specs.Gates.{directionOf, gateFor, codeOf, gateAt, cxAt, actAt}
 

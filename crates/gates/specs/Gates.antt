@@ -16,10 +16,10 @@ use Rattle.indexes.specs.declared.Value.{Value}
 use Rattle.indexes.specs.declared.Value.the-variants.{Is, Over as vOver, Stuck as vStuck}
 use Rattle.operands.specs.Meanings.{operandsOf, frameOf}
 use Rattle.operands.specs.declared.Scope.{Scope}
-use Rattle.emit.specs.Outcomes.{conditionOf}
-use Rattle.emit.specs.declared.State.{State}
-use Rattle.emit.specs.declared.Answer.{Answer}
-use Rattle.emit.specs.declared.Answer.the-variants.{Going, Ended, Stuck as aStuck}
+use Rattle.records.specs.Outcomes.{conditionOf}
+use Rattle.records.specs.declared.State.{State}
+use Rattle.records.specs.declared.Answer.{Answer}
+use Rattle.records.specs.declared.Answer.the-variants.{Going, Ended, Stuck as aStuck}
 use Rattle.gates.specs.declared.Mode.{Mode}
 use Rattle.gates.specs.declared.Bounds.{Bounds}
 use Rattle.gates.specs.declared.Bounds.the-variants.{Are, Over, Stuck}

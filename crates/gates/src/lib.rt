@@ -7,11 +7,11 @@ ghost use lib.Seq.{slice};
 ghost use lib.IntN.{ℤ, _-ℤ_};
 ghost use Rattle.language.specs.Machine.{roundsOf, startOf};
 ghost use Rattle.language.specs.Form.{inRange};
-ghost use Rattle.emit.specs.Outcomes.{Does};
+ghost use Rattle.records.specs.Outcomes.{Does};
 ghost use Rattle.gates.specs.Gates.{codeOf, frameIn, directionOf, boundOf, Bounded, mostRounds, Repeated, turnOf, namelessOf, Entered, actAt, deeperOf, innerOf, enteredOf};
-use emit::Answer;
-use emit::Condition;
-use emit::State;
+use records::Answer;
+use records::Condition;
+use records::State;
 use fields::Header;
 use indexes::Value;
 use operands::Scope;
@@ -72,7 +72,7 @@ pub fn act(
         WireMeaning::Stuck => Answer::Stuck,
         WireMeaning::Is(x) => {
             if tag != 35 {
-                return emit::write_record(out, st, place, code(tag, mode.reversed), x.0, 0, c);
+                return records::write_record(out, st, place, code(tag, mode.reversed), x.0, 0, c);
             }
             let Header::Whole(_, mid) = fields::header_at(bytes, from, to) else {
                 return Answer::Stuck;
@@ -84,7 +84,7 @@ pub fn act(
                     if x.0 == y.0 {
                         return Answer::Ended(25, place as u16, st);
                     }
-                    emit::write_record(out, st, place, 4, x.0, y.0, c)
+                    records::write_record(out, st, place, 4, x.0, y.0, c)
                 }
             }
         }

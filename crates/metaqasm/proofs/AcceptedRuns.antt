@@ -15,8 +15,8 @@ use Rattle.language.specs.Sound.{qubitsDeclared, bitsDeclared, wiresLaidOut, So
 use Rattle.language.proofs.Safe.{then-both, required}
 use Rattle.language.proofs.Refusals.{accepted}
 use Rattle.language.proofs.Soundness.{run-sound, instance-sound, run-refused, instance-refused}
-use Rattle.emit.specs.declared.Answer.{Answer}
-use Rattle.emit.specs.declared.Answer.the-variants.{Going, Ended, Stuck}
+use Rattle.records.specs.declared.Answer.{Answer}
+use Rattle.records.specs.declared.Answer.the-variants.{Going, Ended, Stuck}
 use Rattle.runs.specs.Whole.{Acceptable}
 use Rattle.runs.specs.Conclusions.{concluded}
 use Rattle.metaqasm.specs.Answers.{NotStuck, SoundRun, SoundInstance}

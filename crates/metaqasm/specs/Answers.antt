@@ -4,8 +4,8 @@ use mathlib.Core.Path.{_≡_}
 use mathlib.Core.List.{List}
 use Rattle.language.specs.Result.{Result, Answer as Reply, checkResult}
 use Rattle.language.specs.Sound.{qubitsDeclared, bitsDeclared, wiresLaidOut, Sound, Suits}
-use Rattle.emit.specs.declared.Answer.{Answer}
-use Rattle.emit.specs.declared.Answer.the-variants.{Going, Ended, Stuck}
+use Rattle.records.specs.declared.Answer.{Answer}
+use Rattle.records.specs.declared.Answer.the-variants.{Going, Ended, Stuck}
 use Rattle.metaqasm.specs.declared.MetaqasmResult.{MetaqasmResult}
 
 -- the four numbers of a result

@@ -7,8 +7,8 @@ ghost use Rattle.language.specs.Result.{finished, checkResult, instanceOutcome,
 ghost use Rattle.runs.specs.Conclusions.{concluded, resultIn};
 ghost use Rattle.metaqasm.specs.Answers.{answered, NotStuck, SoundRun, SoundInstance};
 use check_program::Outcome;
-use emit::Answer;
-use emit::State;
+use records::Answer;
+use records::State;
 
 // The answer of a call: number (0 for done), place, records and steps.
 #[repr(C)]

@@ -8,10 +8,10 @@ use Rattle.language.specs.Limits.{recordSize}
 use Rattle.language.specs.Machine as machine
 use Rattle.language.specs.Machine.{Outcome, Run, Record, begin}
 use Rattle.language.specs.Result.{Result, Conclusion, finished, gotStuck, outputBytes, writtenInto, resultOf, conclusionOf, untouched}
-use Rattle.emit.specs.declared.State.{State}
-use Rattle.emit.specs.declared.Answer.{Answer}
-use Rattle.emit.specs.declared.Answer.the-variants.{Going, Ended, Stuck}
-use Rattle.emit.specs.Outcomes.{answerTold, flatOutcome, Holds, Does}
+use Rattle.records.specs.declared.State.{State}
+use Rattle.records.specs.declared.Answer.{Answer}
+use Rattle.records.specs.declared.Answer.the-variants.{Going, Ended, Stuck}
+use Rattle.records.specs.Outcomes.{answerTold, flatOutcome, Holds, Does}
 use Rattle.runs.specs.Whole.{started}
 use Rattle.runs.specs.Conclusions.{resultIn, concluded}
 

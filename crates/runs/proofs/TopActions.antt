@@ -18,12 +18,12 @@ use Rattle.language.specs.Machine.{Outcome, Run, Globals, Family, give, after, 
 use Rattle.language.specs.Result.{writtenInto}
 use Rattle.language.proofs.ReadLaws.{AllRows, choose-all}
 use Rattle.language.proofs.Accepted.{TopGood, aFamily, aQreg, aCreg, aMeasure, aReset, anIf, aStatement}
-use Rattle.emit.specs.declared.State.{State}
-use Rattle.emit.specs.declared.Answer.{Answer}
-use Rattle.emit.specs.declared.Answer.the-variants.{Going, Ended, Stuck}
-use Rattle.emit.specs.Outcomes.{answerTold, flatOutcome, Does, stateOf}
-use Rattle.emit.proofs.Answer.{the-type}
-use Rattle.emit.proofs.Sequences.{not-first}
+use Rattle.records.specs.declared.State.{State}
+use Rattle.records.specs.declared.Answer.{Answer}
+use Rattle.records.specs.declared.Answer.the-variants.{Going, Ended, Stuck}
+use Rattle.records.specs.Outcomes.{answerTold, flatOutcome, Does, stateOf}
+use Rattle.records.proofs.Answer.{the-type}
+use Rattle.records.proofs.Sequences.{not-first}
 use Rattle.fields.specs.declared.Header.the-variants.{Whole}
 use Rattle.fields.proofs.Parts.{look}
 use Rattle.runs.specs.declared.Totals.{Totals}

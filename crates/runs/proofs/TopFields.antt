@@ -16,11 +16,11 @@ use Rattle.language.specs.Machine.{actTop, Run, Globals, runTops}
 use Rattle.fields.specs.declared.Header.the-variants.{Whole, End, Cut}
 use Rattle.fields.proofs.Parts.{look}
 use Rattle.fields.proofs.Between.{in-whole}
-use Rattle.emit.specs.declared.State.{State}
-use Rattle.emit.specs.declared.Answer.{Answer}
-use Rattle.emit.specs.declared.Answer.the-variants.{Going, Stuck}
-use Rattle.emit.specs.Outcomes.{Does}
-use Rattle.emit.proofs.Answer.{the-type}
+use Rattle.records.specs.declared.State.{State}
+use Rattle.records.specs.declared.Answer.{Answer}
+use Rattle.records.specs.declared.Answer.the-variants.{Going, Stuck}
+use Rattle.records.specs.Outcomes.{Does}
+use Rattle.records.proofs.Answer.{the-type}
 use Rattle.calls.specs.Families.{Tabled}
 use Rattle.calls.proofs.FamilyTable.{tabled, tabled-fewer}
 use Rattle.runs.specs.declared.Totals.{Totals}

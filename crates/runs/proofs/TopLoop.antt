@@ -25,11 +25,11 @@ use Rattle.fields.specs.declared.Header.the-variants.{Whole, End, Cut}
 use Rattle.fields.proofs.Parts.{look, rest-is}
 use Rattle.fields.proofs.Reading.{when-end, when-cut}
 use Rattle.operands.specs.Meanings.{registersOf}
-use Rattle.emit.specs.declared.State.{State}
-use Rattle.emit.specs.declared.Answer.{Answer}
-use Rattle.emit.specs.declared.Answer.the-variants.{Going, Stuck}
-use Rattle.emit.specs.Outcomes.{answerTold, flatOutcome, Does}
-use Rattle.emit.proofs.Answer.{the-type}
+use Rattle.records.specs.declared.State.{State}
+use Rattle.records.specs.declared.Answer.{Answer}
+use Rattle.records.specs.declared.Answer.the-variants.{Going, Stuck}
+use Rattle.records.specs.Outcomes.{answerTold, flatOutcome, Does}
+use Rattle.records.proofs.Answer.{the-type}
 use Rattle.runs.specs.declared.Totals.{Totals}
 use Rattle.runs.specs.Whole.{topsAt, globalsOf}
 use Rattle.runs.specs.TopFields.{ActReady}

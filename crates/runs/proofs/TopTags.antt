@@ -24,12 +24,12 @@ use Rattle.operands.specs.declared.Bit.{Bit}
 use Rattle.operands.specs.declared.BitMeaning.{BitMeaning}
 use Rattle.operands.specs.declared.BitMeaning.the-variants.{Is, Over, Stuck}
 use Rattle.operands.proofs.OperandFields.{bit-none}
-use Rattle.emit.specs.declared.Condition.{Condition}
+use Rattle.records.specs.declared.Condition.{Condition}
 use Rattle.gates.specs.declared.Mode.{Mode}
 use Rattle.operands.specs.Meanings.{theBit, bitTold, BitAt, operandsOf}
-use Rattle.emit.specs.Outcomes.{conditionOf}
+use Rattle.records.specs.Outcomes.{conditionOf}
 use Rattle.gates.specs.Gates.{directionOf, frameIn}
-use Rattle.tops.specs.Tops.{resetAt, measureAt}
+use Rattle.reset_measure.specs.Tops.{resetAt, measureAt}
 use Rattle.unroller.specs.Runs.{listRun}
 use Rattle.runs.specs.TopFields.{globalsIn, topMode, underMode, ifAt}
 use Rattle.runs.proofs.TopActions.{DeclaresNothing}

@@ -4,9 +4,9 @@ use mathlib.Core.List.{List}
 use Rattle.language.specs.Limits.{recordSize}
 use Rattle.language.specs.Tree.{Place, Refusal}
 use Rattle.language.specs.Result.{Result, Conclusion, finished, gotStuck}
-use Rattle.emit.specs.declared.State.{State}
-use Rattle.emit.specs.declared.Answer.{Answer}
-use Rattle.emit.specs.declared.Answer.the-variants.{Going, Ended, Stuck}
+use Rattle.records.specs.declared.State.{State}
+use Rattle.records.specs.declared.Answer.{Answer}
+use Rattle.records.specs.declared.Answer.the-variants.{Going, Ended, Stuck}
 
 -- the result of a state, in which so many bytes of records are written
 abbrev pub resultIn : Refusal → Place → State → Result

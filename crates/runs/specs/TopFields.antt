@@ -9,8 +9,8 @@ use Rattle.language.specs.Tree.{Place}
 use Rattle.language.specs.Read.{fields, read, operandDue, readStatement, statementsBy}
 use Rattle.language.specs.Machine.{Run, Frame, Family, Globals, allDeclared, runIf, runStatements}
 use Rattle.operands.specs.Meanings.{registersOf}
-use Rattle.emit.specs.declared.Condition.{Condition}
-use Rattle.emit.specs.declared.Condition.the-variants.{Always}
+use Rattle.records.specs.declared.Condition.{Condition}
+use Rattle.records.specs.declared.Condition.the-variants.{Always}
 use Rattle.gates.specs.declared.Mode.{Mode}
 
 -- what statements at the top see: so many families, and the registers of a table

@@ -11,7 +11,7 @@ use Rattle.language.specs.Check.{Declared, check, good}
 use Rattle.language.specs.Machine.{Meaning, wires, bits, Globals, Family, allDeclared}
 use Rattle.fields.specs.Header.{fieldsAt}
 use Rattle.fields.specs.Table.{Listed}
-use Rattle.emit.specs.declared.State.{State}
+use Rattle.records.specs.declared.State.{State}
 use Rattle.language.specs.Lookup.{meaning}
 use Rattle.operands.specs.Meanings.{theWire, theBit, registersOf}
 use Rattle.calls.specs.Families.{declaredAt}

@@ -10,16 +10,16 @@ ghost use Rattle.language.specs.Read.{field, fields, read, readTop};
 ghost use Rattle.language.specs.Machine.{actTop, whenBit, runTops, runProgram, nothingYet, allDeclared, instanceRun};
 ghost use Rattle.language.specs.Result.{conclusionOf, instanceOf};
 ghost use Rattle.operands.specs.Meanings.{theBit, registersOf};
-ghost use Rattle.emit.specs.Outcomes.{Does, conditionOf};
+ghost use Rattle.records.specs.Outcomes.{Does, conditionOf};
 ghost use Rattle.gates.specs.Gates.{frameIn};
 ghost use Rattle.calls.specs.Families.{Entry, Tabled};
 ghost use Rattle.unroller.specs.Runs.{listRun};
 ghost use Rattle.runs.specs.Whole.{totalOf, moreLocations, registerFrom, sizeIn, RegisterRoom, Acceptable, moreFamilies, DeclareReady, Declares, DeclaringTag, FullTable, started, familyWith};
 ghost use Rattle.runs.specs.TopFields.{globalsIn, topMode, underMode, ifAt, WholeField, IfReady, ActReady};
 ghost use Rattle.runs.specs.Conclusions.{concluded};
-use emit::Answer;
-use emit::Condition;
-use emit::State;
+use records::Answer;
+use records::Condition;
+use records::State;
 use fields::Header;
 use gates::Mode;
 use layout::Layout;
@@ -238,10 +238,10 @@ fn act(
     };
     let from = at + 3;
     if tag == 4 {
-        return tops::measure(program, from, next, at, &vars, scope, regs, mode, s, out);
+        return reset_measure::measure(program, from, next, at, &vars, scope, regs, mode, s, out);
     }
     if tag == 5 {
-        return tops::reset(program, from, next, at, &vars, scope, regs, mode, s, out);
+        return reset_measure::reset(program, from, next, at, &vars, scope, regs, mode, s, out);
     }
     conditional(program, at, next, seen, scope, regs, table, limit, s, out)
 }

@@ -14,7 +14,7 @@ use Rattle.fields.specs.Table.{pastOf}
 use Rattle.fields.proofs.Between.{not-empty, first-byte}
 use Rattle.operands.specs.declared.Scope.{Scope}
 use Rattle.operands.specs.Meanings.{operandsOf, frameOf}
-use Rattle.emit.specs.Outcomes.{conditionOf}
+use Rattle.records.specs.Outcomes.{conditionOf}
 use Rattle.gates.specs.declared.Mode.{Mode}
 use Rattle.gates.specs.Gates.{directionOf, frameIn, enteredOf}
 use Rattle.calls.specs.declared.Taken.{Taken}

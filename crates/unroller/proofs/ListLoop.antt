@@ -14,17 +14,17 @@ use Rattle.language.proofs.Runs.{then-then, done-then}
 use Rattle.fields.specs.declared.Header.the-variants.{Whole}
 use Rattle.fields.specs.Header.{fieldsAt, headerOf}
 use Rattle.fields.proofs.Header.{the-type as header-type}
-use Rattle.lists.specs.declared.Walk.{Walk}
-use Rattle.lists.specs.declared.Begun.{Begun}
-use Rattle.lists.specs.declared.Begun.the-variants as B
-use Rattle.lists.specs.Walks.{Walking, Sought, Starting, passedOf, wholeOf}
+use Rattle.field_walk.specs.declared.Walk.{Walk}
+use Rattle.field_walk.specs.declared.Begun.{Begun}
+use Rattle.field_walk.specs.declared.Begun.the-variants as B
+use Rattle.field_walk.specs.Walks.{Walking, Sought, Starting, passedOf, wholeOf}
 use Rattle.operands.specs.declared.Scope.{Scope}
-use Rattle.emit.specs.Outcomes.{Does, Leads}
-use Rattle.emit.specs.declared.State.{State}
-use Rattle.emit.specs.declared.Answer.{Answer}
-use Rattle.emit.specs.declared.Answer.the-variants.{Going, Stuck}
-use Rattle.emit.proofs.Answer.{the-type}
-use Rattle.emit.proofs.Sequences.{does-stuck, does-done, does-then, does-other}
+use Rattle.records.specs.Outcomes.{Does, Leads}
+use Rattle.records.specs.declared.State.{State}
+use Rattle.records.specs.declared.Answer.{Answer}
+use Rattle.records.specs.declared.Answer.the-variants.{Going, Stuck}
+use Rattle.records.proofs.Answer.{the-type}
+use Rattle.records.proofs.Sequences.{does-stuck, does-done, does-then, does-other}
 use Rattle.gates.specs.declared.Mode.{Mode}
 use Rattle.gates.specs.Gates.{frameIn}
 use Rattle.gates.proofs.GateRuns.{does-as}

@@ -14,7 +14,7 @@ use Rattle.language.specs.Read.{fields, readStatement, statementsBy}
 use Rattle.language.specs.Machine.{Run, noMeaning, endAt, step, rounds, roundsOf, startOf, inRound, inDirection, runStatements, _>>_}
 use Rattle.operands.specs.declared.Scope.{Scope}
 use Rattle.operands.specs.Meanings.{operandsOf, frameOf}
-use Rattle.emit.specs.Outcomes.{conditionOf}
+use Rattle.records.specs.Outcomes.{conditionOf}
 use Rattle.gates.specs.declared.Mode.{Mode}
 use Rattle.gates.specs.declared.Bounds.{Bounds}
 use Rattle.gates.specs.declared.Bounds.the-variants.{Are, Over, Stuck}

@@ -13,12 +13,12 @@ use Rattle.language.specs.Form.{inRange}
 use Rattle.language.specs.Machine.{Run, Frame, done, noMeaning, step, rounds, inRound, after, _>>=_, _>>_}
 use Rattle.language.proofs.Runs.{then-done}
 use Rattle.operands.specs.declared.Scope.{Scope}
-use Rattle.emit.specs.Outcomes.{Does}
-use Rattle.emit.specs.declared.State.{State}
-use Rattle.emit.specs.declared.Answer.{Answer}
-use Rattle.emit.specs.declared.Answer.the-variants.{Going, Ended, Stuck}
-use Rattle.emit.proofs.Answer.{the-type}
-use Rattle.emit.proofs.Sequences.{step-full, step-taken, not-first}
+use Rattle.records.specs.Outcomes.{Does}
+use Rattle.records.specs.declared.State.{State}
+use Rattle.records.specs.declared.Answer.{Answer}
+use Rattle.records.specs.declared.Answer.the-variants.{Going, Ended, Stuck}
+use Rattle.records.proofs.Answer.{the-type}
+use Rattle.records.proofs.Sequences.{step-full, step-taken, not-first}
 use Rattle.gates.specs.declared.Mode.{Mode}
 use Rattle.gates.specs.Gates.{directionOf, frameIn, turnOf}
 use Rattle.gates.proofs.GateRuns.{does-as}

@@ -15,12 +15,12 @@ use Rattle.language.specs.Tree.{badIndex, Statement, call, badStatement}
 use Rattle.language.specs.Read.{Field, field, fields, due, choose, outerIndex, readStatement, statementBy, deepStatement, statementsBy, gateOf, cxOf, readCall, forOf}
 use Rattle.language.specs.Machine.{callFamily, runGate, runCx, runCall, runReverse, runFor, Run, Frame, flipped, noMeaning, evaluate, found, step, rounds, roundsOf, startOf, inRound, inDirection, runStatement, runStatements, _>>=_, _>>_}
 use Rattle.language.proofs.Integers.{clash}
-use Rattle.emit.specs.Outcomes.{Does}
-use Rattle.emit.specs.declared.State.{State}
-use Rattle.emit.specs.declared.Answer.{Answer}
-use Rattle.emit.specs.declared.Answer.the-variants.{Going, Ended, Stuck as aStuck}
-use Rattle.emit.proofs.Answer.{the-type}
-use Rattle.emit.proofs.Sequences.{step-full, does-stuck, not-first}
+use Rattle.records.specs.Outcomes.{Does}
+use Rattle.records.specs.declared.State.{State}
+use Rattle.records.specs.declared.Answer.{Answer}
+use Rattle.records.specs.declared.Answer.the-variants.{Going, Ended, Stuck as aStuck}
+use Rattle.records.proofs.Answer.{the-type}
+use Rattle.records.proofs.Sequences.{step-full, does-stuck, not-first}
 use Rattle.gates.specs.declared.Mode.{Mode}
 use Rattle.gates.specs.Gates.{directionOf, gateFor, gateAt, cxAt, namelessOf, actAt, Enterable, StepTaken, Entered}
 use Rattle.gates.proofs.GateRuns.{does-as}

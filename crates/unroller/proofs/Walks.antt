@@ -23,11 +23,11 @@ use Rattle.fields.proofs.Reading.{slice-none}
 use Rattle.fields.proofs.Parts.{not-first}
 use Rattle.fields.proofs.Between.{FieldIn, in-whole}
 use Rattle.fields.proofs.Counting.{Broke, lastly, before, broken-fields}
-use Rattle.lists.specs.declared.Walk.{Walk}
-use Rattle.lists.specs.declared.Begun.{Begun}
-use Rattle.lists.specs.declared.Begun.the-variants as B
-use Rattle.lists.specs.Walks.{isBroken, brokenIn, FieldBegins, PositionsKept, Linked, Walking, NextField, Starting, passedOf, wholeOf}
-use Rattle.lists.proofs.Positions.{cut-in, begins-passes, slice-part, slice-rest}
+use Rattle.field_walk.specs.declared.Walk.{Walk}
+use Rattle.field_walk.specs.declared.Begun.{Begun}
+use Rattle.field_walk.specs.declared.Begun.the-variants as B
+use Rattle.field_walk.specs.Walks.{isBroken, brokenIn, FieldBegins, PositionsKept, Linked, Walking, NextField, Starting, passedOf, wholeOf}
+use Rattle.field_walk.proofs.Positions.{cut-in, begins-passes, slice-part, slice-rest}
 use Rattle.gates.specs.declared.Mode.{Mode}
 use Rattle.gates.specs.Gates.{directionOf}
 use Rattle.unroller.specs.Runs.{familiesIn, oneRun, listRun, restRun}

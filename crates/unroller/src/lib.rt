@@ -3,17 +3,17 @@ ghost use mathlib.Core.Path.{_≡_};
 ghost use Prim.Native.Nat.{_+_, _-_, _<_, _≤_};
 ghost use lib.ListN.{length, getD, take};
 ghost use lib.Seq.{slice};
-ghost use Rattle.emit.specs.Outcomes.{Does};
+ghost use Rattle.records.specs.Outcomes.{Does};
 ghost use Rattle.gates.specs.Gates.{frameIn, Enterable};
 ghost use Rattle.calls.specs.Families.{Tabled};
 ghost use Rattle.unroller.specs.Runs.{Ready, Often, Turns, Turned, Completes, oneRun, timesRun, keptIn};
 use calls::Taken;
-use emit::Answer;
-use emit::State;
+use records::Answer;
+use records::State;
 use fields::Header;
 use gates::Mode;
 use gates::Repeats;
-use lists::Begun;
+use field_walk::Begun;
 use operands::Scope;
 
 fn wider(x: u8) -> u16
@@ -219,8 +219,8 @@ pub fn run_list(
     ensures { λ r. ⌜ Does (now (out .entry)) st (now (out .exit)) r (timesRun looping mode (length (now (out .entry))) base from to place start total (now (bytes .entry)) (now (program .entry)) (frameIn mode (take (keptIn mode looping) (now (vars .entry))) scope (now (regs .entry)))) × (take (keptIn mode looping) (now (vars .exit)) ≡ take (keptIn mode looping) (now (vars .entry))) ⌝ }
 {
     let reversed = mode.reversed;
-    let mut cuts = [0u16; lists::KEPT];
-    let mut w = lists::whole(to, to, 0, 0);
+    let mut cuts = [0u16; field_walk::KEPT];
+    let mut w = field_walk::whole(to, to, 0, 0);
     let mut i: usize = 0;
     let mut s = st;
     loop {
@@ -232,15 +232,15 @@ pub fn run_list(
             let Answer::Going(t) = r else {
                 return r;
             };
-            let Begun::With(depth, sure) = lists::begin(bytes, from, to, reversed, &mut cuts) else {
+            let Begun::With(depth, sure) = field_walk::begin(bytes, from, to, reversed, &mut cuts) else {
                 return Answer::Stuck;
             };
             s = t;
-            w = lists::whole(from, to, depth, sure);
+            w = field_walk::whole(from, to, depth, sure);
             i += 1;
             continue;
         }
-        w = lists::seek(bytes, w, reversed, &mut cuts);
+        w = field_walk::seek(bytes, w, reversed, &mut cuts);
         let here = w.here;
         let upto = w.to;
         let Header::Whole(tag, next) = fields::header_at(bytes, here, upto) else {
@@ -268,7 +268,7 @@ pub fn run_list(
             return r;
         };
         s = t;
-        w = lists::passed(w, reversed, next);
+        w = field_walk::passed(w, reversed, next);
     }
 }
 

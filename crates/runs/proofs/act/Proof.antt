@@ -7,8 +7,8 @@ use Rattle.runs.proofs.conditional.Reads as conditional-reads
 use Rattle.runs.proofs.once.Reads as once-reads
 use Rattle.runs.proofs.top_mode.Reads as top-mode-reads
 use Rattle.runs.proofs.top_scope.Reads as top-scope-reads
-use Rattle.tops.proofs.measure.Reads as measure-reads
-use Rattle.tops.proofs.reset.Reads as reset-reads
+use Rattle.reset_measure.proofs.measure.Reads as measure-reads
+use Rattle.reset_measure.proofs.reset.Reads as reset-reads
 use borrow.Author.Needs.{needs}
 use borrow.Author.Tests.{ltb-true, ltb-false}
 use Prim.Native.Nat.{ℕ, _+_, _*_, _-_}
@@ -19,7 +19,7 @@ use denote.Ref.{now}
 use lib.ListN.{length, take}
 use lib.Seq.{slice}
 use Rattle.language.specs.Read.{readTop, field}
-use Rattle.emit.proofs.Sequences.{step-full, step-taken}
+use Rattle.records.proofs.Sequences.{step-full, step-taken}
 use Rattle.gates.proofs.GateRuns.{does-as}
 use Rattle.language.specs.Machine.{actTop}
 use Rattle.runs.specs.TopFields.{globalsIn}

@@ -7,7 +7,7 @@ use mathlib.Core.Path.{_≡_, sym, ap}
 use native.Mathlib.Omega.{arith}
 use Rattle.language.specs.Machine.{whenBit}
 use Rattle.operands.specs.Meanings.{theBit}
-use Rattle.emit.specs.Outcomes.{conditionOf}
+use Rattle.records.specs.Outcomes.{conditionOf}
 
 -- src/lib.rt:96:9
 returns : tie.Need-returns

@@ -18,7 +18,7 @@ use lib.Seq.{slice, length-slice}
 use lib.ListN.{length, take}
 use Rattle.language.specs.Read.{read}
 use Rattle.language.specs.Machine.{allDeclared}
-use Rattle.emit.proofs.Sequences.{does-end, does-stuck}
+use Rattle.records.proofs.Sequences.{does-end, does-stuck}
 use Rattle.gates.proofs.GateRuns.{does-as}
 use Rattle.gates.specs.Gates.{frameIn}
 use Rattle.fields.proofs.Between.{in-whole, first-byte}

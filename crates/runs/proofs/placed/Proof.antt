@@ -16,8 +16,8 @@ use denote.Ref.{now}
 use lib.ListN.{length, take, getD}
 use lib.Seq.{slice}
 use Rattle.language.specs.Machine.{instanceRun}
-use Rattle.emit.specs.Outcomes.{conditionOf}
-use Rattle.emit.proofs.Sequences.{does-end, does-stuck}
+use Rattle.records.specs.Outcomes.{conditionOf}
+use Rattle.records.proofs.Sequences.{does-end, does-stuck}
 use Rattle.fields.specs.Table.{pastOf}
 use Rattle.gates.proofs.GateRuns.{does-as}
 use Rattle.gates.specs.Gates.{directionOf}

@@ -13,7 +13,7 @@ use lib.ListN.{length, getD, take}
 use lib.Seq.{slice, length-slice}
 use Rattle.fields.specs.Table.{pastOf}
 use Rattle.operands.specs.Meanings.{operandsOf}
-use Rattle.emit.proofs.Sequences.{does-end, does-stuck, step-taken}
+use Rattle.records.proofs.Sequences.{does-end, does-stuck, step-taken}
 use Rattle.gates.specs.Gates.{frameIn}
 use Rattle.gates.proofs.GateRuns.{does-as}
 use Rattle.calls.specs.Families.{Entry}

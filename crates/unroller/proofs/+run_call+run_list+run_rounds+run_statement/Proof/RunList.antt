@@ -15,7 +15,7 @@ use mir.Val.{toZ, ofZ}
 use mir.ValLaws.{toZ-ofZ}
 use Rattle.fields.specs.declared.Header.the-variants.{Whole}
 use Rattle.fields.specs.Header.{fieldsAt, headerOf}
-use Rattle.lists.specs.Walks.{wholeOf}
+use Rattle.field_walk.specs.Walks.{wholeOf}
 use Rattle.gates.specs.Gates.{frameIn}
 use Rattle.gates.proofs.GateRuns.{does-as}
 use Rattle.unroller.specs.Runs.{Often, timesRun, keptIn}

@@ -11,7 +11,7 @@ use denote.Ref.{now}
 use lib.ListN.{length, take}
 use lib.Seq.{slice}
 use Rattle.language.proofs.Integers.{range-back}
-use Rattle.emit.proofs.Sequences.{does-end, does-stuck, step-taken}
+use Rattle.records.proofs.Sequences.{does-end, does-stuck, step-taken}
 use Rattle.gates.specs.Gates.{frameIn, Repeated, innerOf}
 use Rattle.gates.proofs.GateRuns.{does-as}
 use Rattle.calls.proofs.FamilyTable.{tabled-fewer}

@@ -10,7 +10,7 @@ use borrow.Author.Needs.{needs}
 use denote.Ref.{now}
 use lib.ListN.{length, take}
 use lib.Seq.{slice, length-slice}
-use Rattle.emit.proofs.Sequences.{step-taken}
+use Rattle.records.proofs.Sequences.{step-taken}
 use Rattle.gates.specs.Gates.{frameIn, Entered, StepTaken}
 use Rattle.gates.proofs.GateRuns.{does-as}
 use Rattle.unroller.specs.Runs.{oneRun}

@@ -24,10 +24,10 @@ use Rattle.gates.proofs.entered.Reads as entered-reads
 use Rattle.gates.proofs.inner.Reads as inner-reads
 use Rattle.gates.proofs.repeats_of.Reads as repeats-of-reads
 use Rattle.gates.proofs.step.Reads as step-reads
-use Rattle.lists.proofs.begin.Reads as begin-reads
-use Rattle.lists.proofs.passed.Reads as passed-reads
-use Rattle.lists.proofs.seek.Reads as seek-reads
-use Rattle.lists.proofs.whole.Reads as whole-reads
+use Rattle.field_walk.proofs.begin.Reads as begin-reads
+use Rattle.field_walk.proofs.passed.Reads as passed-reads
+use Rattle.field_walk.proofs.seek.Reads as seek-reads
+use Rattle.field_walk.proofs.whole.Reads as whole-reads
 use Rattle.unroller.proofs.begin_round.Reads as begin-round-reads
 use Rattle.unroller.proofs.listed.Reads as listed-reads
 use Rattle.unroller.proofs.wider.Reads as wider-reads

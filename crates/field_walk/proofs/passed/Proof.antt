@@ -1,0 +1,21 @@
+use Rattle.field_walk.proofs.passed.Statement.{statement}
+use Rattle.field_walk.proofs.passed.Tie as tie
+use Rattle.field_walk.proofs.passed.Reads as reads
+use Rattle.field_walk.proofs.passed.Lts as lts
+use mathlib.Core.Path.{_≡_, sym, ap, _∙_}
+use Rattle.field_walk.specs.Walks.{passedOf}
+
+-- src/lib.rt:222:9
+returns : tie.Need-returns
+unfolding passedOf
+returns c =
+    rw (c .if1 .taken)
+
+-- src/lib.rt:217:1
+returns-2 : tie.Need-returns-2
+unfolding passedOf
+returns-2 c =
+    rw (c .if1 .left)
+
+pub passed-spec : {M : Type 1} → statement M
+passed-spec = tie.close (tie.spec returns returns-2)

@@ -1,0 +1,149 @@
+use borrow.Author.Needs.{needs}
+use Rattle.field_walk.proofs.seek.Statement.{statement}
+use Rattle.field_walk.proofs.seek.Tie as tie
+use Rattle.field_walk.proofs.seek.Reads as reads
+use Rattle.field_walk.proofs.seek.Lts as lts
+use Rattle.field_walk.proofs.last.Reads as last-reads
+use Rattle.field_walk.proofs.long.Reads as long-reads
+use Rattle.field_walk.proofs.tell.Reads as tell-reads
+use Prim.Native.Nat.{suc, _≤_, _<_, _-_, _+_}
+use native.Mathlib.Omega.{arith}
+use denote.Ref.{now}
+use lib.ListN.{length, length-set, getD, set}
+use mathlib.Core.Path.{_≡_, refl, sym, ap, _∙_}
+use mathlib.Core.Bool.{Bool, true, false, not}
+use Rattle.field_walk.specs.Walks.{Walking, NextField, Sought, Backward, Forward, LastField, FirstField}
+use Rattle.field_walk.proofs.Positions.{top-is, linked-top, lasts-found}
+
+-- src/lib.rt:184:13
+tell-requires : tie.Need-tell-requires
+tell-requires c κs =
+    search needs
+
+-- src/lib.rt:185:25
+sub-below : tie.Need-sub-below
+sub-below c =
+    omega arith
+
+-- src/lib.rt:186:28
+mul-long : tie.Need-mul-long
+unfolding Walking
+mul-long c =
+    let a = c .before .before .before .before .before .before .before .args in
+    let p = now (a .bytes) in
+    let b : Backward p (a .w) (now (a .cuts)) = rw (c .before .before .before .before .before .if1 .taken) at (c .before .before .before .before .before .before .before .pre .0) in
+    omega (arith, b .few, c .before .tell .ensures)
+
+-- src/lib.rt:186:28
+element-copy-out-long : tie.Need-element-copy-out-long
+unfolding Walking
+element-copy-out-long c =
+    let a = c .before .before .before .before .before .before .before .args in
+    let p = now (a .bytes) in
+    let b : Backward p (a .w) (now (a .cuts)) = rw (c .before .before .before .before .before .if1 .taken) at (c .before .before .before .before .before .before .before .pre .0) in
+    omega (arith, b .few, c .before .tell .ensures)
+
+-- src/lib.rt:186:17
+long-requires : tie.Need-long-requires
+long-requires c κs =
+    search needs
+
+-- src/lib.rt:187:13
+returns : tie.Need-returns
+unfolding Walking NextField
+returns c =
+    let a = c .before .before .before .before .before .before .before .before .before .args in
+    let p = now (a .bytes) in
+    let b : Backward p (a .w) (now (a .cuts)) = rw (c .before .before .before .before .before .before .before .if1 .taken) at (c .before .before .before .before .before .before .before .before .before .pre .0) in
+    let s : 1 ≤ a .w .depth = omega arith in
+    let t = top-is p (a .w .at) (now (a .cuts)) (a .w .depth) (a .w .to) s (b .kept) in
+    let l = linked-top p (now (a .cuts)) (a .w .sure) (a .w .depth) (a .w .to) (c .before .before .before .before .before .if2 .taken) (b .linked) in
+    rw (c .before .before .before .before .before .before .before .if1 .taken, c .long .ensures .0) (record { same-at = refl; same-to = refl; next = record { within = b .within; ends = l .ends; begins = t .begins; few = omega (arith, b .few); kept = t .kept; linked = l .linked } })
+
+-- src/lib.rt:195:13
+last-requires : tie.Need-last-requires
+unfolding Walking
+last-requires c κs =
+    let a = c .before .before .before .before .before .args in
+    let p = now (a .bytes) in
+    let b : Backward p (a .w) (now (a .cuts)) = rw (c .before .before .before .if1 .taken) at (c .before .before .before .before .before .pre .0) in
+    (b .within, c .before .before .before .before .before .pre .2, c .before .before .before .before .before .pre .1, b .few, b .kept)
+
+-- src/lib.rt:196:9
+tell-requires-2 : tie.Need-tell-requires-2
+tell-requires-2 c κs =
+    search needs
+
+-- src/lib.rt:197:21
+sub-depth : tie.Need-sub-depth
+unfolding Walking
+sub-depth c =
+    let a = c .before .before .before .before .before .before .before .before .before .args in
+    let p = now (a .bytes) in
+    let b : Backward p (a .w) (now (a .cuts)) = rw (c .before .before .before .before .before .before .before .if1 .taken) at (c .before .before .before .before .before .before .before .before .before .pre .0) in
+    let f = lasts-found p (a .w .at) (a .w .to) _ (b .within) _ _ (b .end) (c .before .before .before .last .ensures) in
+    omega (arith, f .some)
+
+-- src/lib.rt:198:25
+mul-long-2 : tie.Need-mul-long-2
+unfolding Walking
+mul-long-2 c =
+    let a = c .before .before .before .before .before .before .before .before .before .args in
+    let p = now (a .bytes) in
+    let b : Backward p (a .w) (now (a .cuts)) = rw (c .before .before .before .before .before .before .before .if1 .taken) at (c .before .before .before .before .before .before .before .before .before .pre .0) in
+    let f = lasts-found p (a .w .at) (a .w .to) _ (b .within) _ _ (b .end) (c .before .before .before .last .ensures) in
+    omega (arith, f .some, f .few, c .before .tell2 .ensures)
+
+-- src/lib.rt:198:25
+element-copy-out-long-2 : tie.Need-element-copy-out-long-2
+unfolding Walking
+element-copy-out-long-2 c =
+    let a = c .before .before .before .before .before .before .before .before .before .args in
+    let p = now (a .bytes) in
+    let b : Backward p (a .w) (now (a .cuts)) = rw (c .before .before .before .before .before .before .before .if1 .taken) at (c .before .before .before .before .before .before .before .before .before .pre .0) in
+    let f = lasts-found p (a .w .at) (a .w .to) _ (b .within) _ _ (b .end) (c .before .before .before .last .ensures) in
+    omega (arith, f .some, f .few, c .before .tell2 .ensures)
+
+-- src/lib.rt:198:13
+long-requires-2 : tie.Need-long-requires-2
+long-requires-2 c κs =
+    search needs
+
+-- src/lib.rt:199:9
+returns-2 : tie.Need-returns-2
+unfolding Walking NextField
+returns-2 c =
+    let a = c .before .before .before .before .before .before .before .before .before .before .before .args in
+    let p = now (a .bytes) in
+    let b : Backward p (a .w) (now (a .cuts)) = rw (c .before .before .before .before .before .before .before .before .before .if1 .taken) at (c .before .before .before .before .before .before .before .before .before .before .before .pre .0) in
+    let f = lasts-found p (a .w .at) (a .w .to) _ (b .within) _ _ (b .end) (c .before .before .before .before .before .last .ensures) in
+    let t = f .top in
+    let l = f .linking in
+    rw (c .before .before .before .before .before .before .before .before .before .if1 .taken, c .long2 .ensures .0) (record { same-at = refl; same-to = refl; next = record { within = b .within; ends = l .ends; begins = t .begins; few = omega (arith, f .few); kept = t .kept; linked = l .linked } })
+
+-- src/lib.rt:176:1
+returns-3 : tie.Need-returns-3
+unfolding Walking NextField
+returns-3 c =
+    let a = c .before .before .args in
+    let f : Forward (now (a .bytes)) (a .w) = rw (c .if1 .left) at (c .before .before .pre .0) in
+    rw (c .if1 .left) (record { same-at = refl; same-to = refl; next = record { within = f .within; begins = refl } })
+
+pub seek-spec : {M : Type 1} → statement M
+seek-spec =
+    tie.close
+    (tie.spec
+    tell-requires
+    sub-below
+    mul-long
+    element-copy-out-long
+    long-requires
+    returns
+    last-requires
+    tell-requires-2
+    sub-depth
+    mul-long-2
+    element-copy-out-long-2
+    long-requires-2
+    returns-2
+    returns-3)

@@ -1,0 +1,20 @@
+use borrow.Author.Needs.{needs}
+use Rattle.field_walk.proofs.skipped.Statement.{statement}
+use Rattle.field_walk.proofs.skipped.Tie as tie
+use Rattle.field_walk.proofs.skipped.Reads as reads
+use Rattle.field_walk.proofs.skipped.Lts as lts
+use mathlib.Core.Path.{_≡_, refl, sym, ap, _∙_}
+use Rattle.language.proofs.Integers.{clash}
+
+-- src/lib.rt:72:9
+returns : tie.Need-returns
+returns c =
+    λ z. absurd (clash (sym z))
+
+-- src/lib.rt:68:1
+returns-2 : tie.Need-returns-2
+returns-2 c =
+    search needs
+
+pub skipped-spec : {M : Type 1} → statement M
+skipped-spec = tie.close (tie.spec returns returns-2)

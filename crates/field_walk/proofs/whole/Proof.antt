@@ -1,0 +1,15 @@
+use Rattle.field_walk.proofs.whole.Statement.{statement}
+use Rattle.field_walk.proofs.whole.Tie as tie
+use Rattle.field_walk.proofs.whole.Reads as reads
+use Rattle.field_walk.proofs.whole.Lts as lts
+use mathlib.Core.Path.{_≡_, refl}
+use Rattle.field_walk.specs.Walks.{wholeOf}
+
+-- src/lib.rt:163:1
+returns : tie.Need-returns
+unfolding wholeOf
+returns c =
+    refl
+
+pub whole-spec : {M : Type 1} → statement M
+whole-spec = tie.close (tie.spec returns)

@@ -1,0 +1,87 @@
+-- A record's bytes, and what writing one does. Assumes nothing.
+use Prim.Native.Nat.{ℕ, zero, suc, _+_, _*_, _-_, _<_, _≤_}
+use mathlib.Core.Path.{_≡_, refl, sym, ap, _∙_}
+use mathlib.Core.List.{List, [], _∷_, _++_, append-assoc, append-nil}
+use mathlib.Core.Bool.{true, false}
+use native.Mathlib.Omega.{arith}
+use native.Mathlib.Numerals.{towards-suc}
+use borrow.Author.Tests.{le-leb, lt-leb}
+use lib.ListN.{length, take, drop, set, length-append, length-drop}
+use lib.Seq.{sets, sets-eq, take-at, drop-append-add, drop-drop}
+use Rattle.language.specs.Tree.{Place}
+use Rattle.language.specs.Machine.{Record, Action, Frame, write}
+use Rattle.language.specs.Machine as machine
+use Rattle.language.specs.Result.{op, firstNumber, secondNumber, recordBytes, bytesOf, conditionByte, conditionBit, outputBytes, writtenInto}
+use Rattle.records.specs.declared.State.{State}
+use Rattle.records.specs.declared.Answer.the-variants.{Going, Ended, Stuck}
+use Rattle.records.specs.declared.Condition.{Condition}
+use Rattle.records.specs.declared.Condition.the-variants.{Always, IsZero, IsOne}
+use Rattle.records.specs.Outcomes.{FlatOutcome, going, ended, answerTold, flatOutcome, Holds, Does, conditionOf, kindOf, bitOf, bytes8, ActionNumbers, stateOf}
+
+pub stores : (l : List ℕ) (at a b c d e f g h : ℕ) →
+    set (set (set (set (set (set (set (set l at a) (at + 1) b) (at + 2) c) (at + 3) d) (at + 4) e) (at + 5) f) (at + 6) g) (at + 7) h
+    ≡ sets l at (a ∷ b ∷ c ∷ d ∷ e ∷ f ∷ g ∷ h ∷ [])
+stores l at a b c d e f g h = simp towards-suc
+
+pub length-bytes : (rs : List Record) → length (outputBytes rs) ≡ 8 * length rs
+unfolding outputBytes recordBytes bytesOf
+length-bytes [] = refl
+length-bytes (r ∷ rs) = let h = length-bytes rs in omega arith
+
+bytes-more : (rs : List Record) (r : Record) → outputBytes (rs ++ (r ∷ [])) ≡ outputBytes rs ++ recordBytes r
+unfolding outputBytes
+bytes-more [] r = append-nil (recordBytes r)
+bytes-more (x ∷ rs) r = ap (λ (l : List ℕ). recordBytes x ++ l) (bytes-more rs r) ∙ sym (append-assoc (recordBytes x) (outputBytes rs) (recordBytes r))
+
+kind-is : (c : Condition) → conditionByte (conditionOf c) ≡ kindOf c
+unfolding conditionByte conditionOf kindOf
+kind-is Always = refl
+kind-is (IsZero b) = refl
+kind-is (IsOne b) = refl
+
+bit-is : (c : Condition) → conditionBit (conditionOf c) ≡ bitOf c
+unfolding conditionBit conditionOf bitOf
+bit-is Always = refl
+bit-is (IsZero b) = refl
+bit-is (IsOne b) = refl
+
+record-bytes : (a : Action) (k : machine.Condition) (c : Condition) (code first second : ℕ) → k ≡ conditionOf c → ActionNumbers a code first second
+    → recordBytes (record { action = a; condition = k }) ≡ bytes8 code (kindOf c) first second (bitOf c)
+unfolding recordBytes bytesOf
+record-bytes a k c code first second e w = rw (e, w .its-code, w .its-first, w .its-second, kind-is c, bit-is c)
+
+-- one record more
+into-more : (lent : List ℕ) (rs : List Record) (r : Record) (l : List ℕ) (at : ℕ) (b : List ℕ) → l ≡ writtenInto lent rs → 8 * length rs ≡ at → at + length b ≤ length l → recordBytes r ≡ b
+    → sets l at b ≡ writtenInto lent (rs ++ (r ∷ []))
+unfolding writtenInto recordBytes bytesOf
+into-more lent rs r l at b e s h q =
+    let z : length (outputBytes rs) ≡ at = length-bytes rs ∙ s in
+    let lb : length b ≡ 8 = sym (ap length q) in
+    let n : 8 * length rs + length b ≡ 8 * length (rs ++ (r ∷ [])) = simp length-append (omega arith) in
+    let t : take at l ≡ outputBytes rs = ap (take at) e ∙ take-at (outputBytes rs) (drop (8 * length rs) lent) at z in
+    let d : drop (at + length b) l ≡ drop (8 * length (rs ++ (r ∷ []))) lent =
+    ap (λ (x : List ℕ). drop (at + length b) x) e
+    ∙ ap (λ (k : ℕ). drop (k + length b) (outputBytes rs ++ drop (8 * length rs) lent)) (sym z)
+    ∙ drop-append-add (outputBytes rs) (drop (8 * length rs) lent) (length b)
+    ∙ drop-drop (length b) (8 * length rs) lent
+    ∙ ap (λ (k : ℕ). drop k lent) n in
+    let o : outputBytes rs ++ b ≡ outputBytes (rs ++ (r ∷ [])) = sym (bytes-more rs r ∙ ap (λ (x : List ℕ). outputBytes rs ++ x) q) in
+    sets-eq b l at h ∙ (λ j. (t j ++ b) ++ d j) ∙ (λ j. o j ++ drop (8 * length (rs ++ (r ∷ []))) lent)
+
+module _ (limit : ℕ) (l : List ℕ) (st : State) (p : Place) (f : Frame) (a : Action) where
+  pub write-full : length l < st .written + 8 → Does l st l (Ended 27 p st) (write limit (length l) p f a)
+  unfolding write answerTold flatOutcome
+  write-full h lent rs w =
+      let s = w .size in
+      simp (lt-leb (8 * suc (length rs)) (length l) (omega arith)) (let e = w .output in cc)
+
+  pub write-room : (l' : List ℕ) (c : Condition) (code first second : ℕ) → f .condition ≡ conditionOf c → ActionNumbers a code first second → st .written + 8 ≤ length l
+      → l' ≡ sets l (st .written) (bytes8 code (kindOf c) first second (bitOf c))
+      → Does l st l' (Going (record { written = st .written + 8; steps = st .steps })) (write limit (length l) p f a)
+  unfolding write answerTold flatOutcome
+  write-room l' c code first second e u h k lent rs w =
+      let s = w .size in
+      let r : Record = record { action = a; condition = f .condition } in
+      let n : 8 * length (rs ++ (r ∷ [])) ≡ st .written + 8 = simp length-append (omega arith) in
+      let o : l' ≡ writtenInto lent (rs ++ (r ∷ [])) = k ∙ into-more lent rs r l (st .written) _ (w .output) s h (record-bytes a (f .condition) c code first second e u) in
+      simp (le-leb (8 * suc (length rs)) (length l) (omega arith)) cc

@@ -1,0 +1,44 @@
+use borrow.Author.Needs.{needs}
+use Rattle.records.proofs.numbers.Statement.{statement}
+use Rattle.records.proofs.numbers.Tie as tie
+use Rattle.records.proofs.numbers.Reads as reads
+use Rattle.records.proofs.numbers.Lts as lts
+use mathlib.Core.Path.{refl, sym, ap, _∙_}
+use Rattle.records.specs.Outcomes.{kindOf, bitOf}
+
+-- src/lib.rt:61:30
+enum-told : tie.Need-enum-told
+enum-told c =
+    search needs
+
+-- src/lib.rt:62:27
+enum-known-c : tie.Need-enum-known-c
+enum-known-c c =
+    search needs
+
+-- src/lib.rt:63:26
+enum-known-c-2 : tie.Need-enum-known-c-2
+enum-known-c-2 c =
+    search needs
+
+-- src/lib.rt:57:1
+returns : tie.Need-returns
+unfolding kindOf bitOf
+returns c =
+    rw (c .enum-told .given .1) (refl, refl)
+
+-- src/lib.rt:57:1
+returns-2 : tie.Need-returns-2
+unfolding kindOf bitOf
+returns-2 c =
+    rw (c .before .c .given .1) (refl, refl)
+
+-- src/lib.rt:57:1
+returns-3 : tie.Need-returns-3
+unfolding kindOf bitOf
+returns-3 c =
+    rw (c .before .c2 .given .1) (refl, refl)
+
+pub numbers-spec : {M : Type 1} → statement M
+numbers-spec =
+    tie.close (tie.spec enum-told enum-known-c enum-known-c-2 returns returns-2 returns-3)

@@ -1,0 +1,96 @@
+// Records in the output.
+ghost use mathlib.Core.Path.{_≡_};
+ghost use Prim.Native.Nat.{ℕ, _+_, _*_, _<_, _≤_};
+ghost use lib.ListN.{length};
+ghost use lib.Seq.{sets};
+ghost use Rattle.records.specs.Outcomes.{lowOf, highOf, bytes8, kindOf, bitOf, Writes};
+use operands::Bit;
+
+// What changes as a program runs: the bytes written, and the steps taken.
+pub struct State {
+    pub written: usize,
+    pub steps: u64,
+}
+
+// How a part of a run comes out: it goes on, it ends with a refusal at a place, or it has no meaning.
+pub enum Answer {
+    Going(State),
+    Ended(u16, u16, State),
+    Stuck,
+}
+
+// The condition of the gates written.
+pub enum Condition {
+    Always,
+    IsZero(Bit),
+    IsOne(Bit),
+}
+
+// A condition's byte and its bit.
+struct Pair(u8, u16);
+
+fn low(n: u16) -> u8
+    ensures { λ r. ⌜ r ≡ lowOf n ⌝ }
+{
+    (n % 256) as u8
+}
+
+fn high(n: u16) -> u8
+    ensures { λ r. ⌜ r ≡ highOf n ⌝ }
+{
+    (n / 256) as u8
+}
+
+fn put(out: &mut [u8], at: usize, op: u8, kind: u8, a: u16, b: u16, c: u16)
+    requires { ⌜ at + 8 ≤ length (now out) ⌝ }
+    ensures { λ _. ⌜ now (out .exit) ≡ sets (now (out .entry)) at (bytes8 op kind a b c) ⌝ }
+{
+    out[at] = op;
+    out[at + 1] = kind;
+    out[at + 2] = low(a);
+    out[at + 3] = high(a);
+    out[at + 4] = low(b);
+    out[at + 5] = high(b);
+    out[at + 6] = low(c);
+    out[at + 7] = high(c);
+}
+
+fn numbers(c: Condition) -> Pair
+    ensures { λ r. ⌜ (r .0 ≡ kindOf c) × (r .1 ≡ bitOf c) ⌝ }
+{
+    match c {
+        Condition::Always => Pair(0, 0),
+        Condition::IsZero(b) => Pair(1, b.0),
+        Condition::IsOne(b) => Pair(2, b.0),
+    }
+}
+
+// Writes a record of the statement at `place`.
+pub fn write_record(
+    out: &mut [u8],
+    st: State,
+    place: usize,
+    op: u8,
+    a: u16,
+    b: u16,
+    c: Condition,
+) -> Answer
+    requires { ⌜ place ≤ 65535 ⌝ }
+    ensures { λ r. ⌜ Writes (now (out .entry)) st (now (out .exit)) r place op a b c ⌝ }
+{
+    let at = st.written;
+    let len = out.len();
+    if len < at {
+        return Answer::Ended(27, place as u16, st);
+    }
+    if len - at < 8 {
+        return Answer::Ended(27, place as u16, st);
+    }
+    let n = numbers(c);
+    put(out, at, op, n.0, a, b, n.1);
+    let next = at + 8;
+    Answer::Going(State {
+        written: next,
+        steps: st.steps,
+    })
+}
