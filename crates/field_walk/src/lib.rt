@@ -4,6 +4,7 @@ ghost use mathlib.Core.Path.{_≡_};
 ghost use mathlib.Core.Bool.{true, false};
 ghost use Prim.Native.Nat.{ℕ, _<_, _≤_};
 ghost use lib.ListN.{length};
+ghost use Rattle.language.specs.Limits.{longestProgram};
 ghost use Rattle.field_walk.specs.Walks.{mostKept, PositionsKept, Lasts, Walking, Sought, Starting, passedOf, wholeOf};
 use fields::Header;
 
@@ -46,7 +47,7 @@ fn tell(cuts: [u16; KEPT])
 // From where on the next position after `at` is kept, when so many are and not all fit: a sixth of what is left further, later
 // a third; the last place is for the last field.
 fn spaced(at: usize, to: usize, depth: usize) -> usize
-    requires { ⌜ (at < to) × (to ≤ 65535) ⌝ }
+    requires { ⌜ (at < to) × (to ≤ longestProgram) ⌝ }
 {
     if depth < 14 {
         return at + (to - at) / 6;
@@ -59,7 +60,7 @@ fn spaced(at: usize, to: usize, depth: usize) -> usize
 
 // The same; at once while all are kept.
 fn later(all: bool, at: usize, to: usize, depth: usize) -> usize
-    requires { ⌜ (at < to) × (to ≤ 65535) ⌝ }
+    requires { ⌜ (at < to) × (to ≤ longestProgram) ⌝ }
 {
     if all {
         return 0;
@@ -80,7 +81,7 @@ fn skipped(all: bool, at: usize, due: usize) -> bool
 // Finds the last field from the last kept position on. It is kept, and so are some on the way to it, or all. At a bad header
 // none is.
 fn last(bytes: &[u8], from: usize, to: usize, cuts: &mut [u16; KEPT], depth: usize) -> Held
-    requires { ⌜ (to ≤ length (now bytes)) × (to ≤ 65535) × (from < to) × (depth ≤ mostKept) × PositionsKept (now bytes) from (now cuts) depth to ⌝ }
+    requires { ⌜ (to ≤ length (now bytes)) × (to ≤ longestProgram) × (from < to) × (depth ≤ mostKept) × PositionsKept (now bytes) from (now cuts) depth to ⌝ }
     ensures { λ r. ⌜ Lasts (now (bytes .entry)) from to (now (cuts .exit)) (r .depth) (r .sure) ⌝ }
 {
     tell(*cuts);
@@ -144,7 +145,7 @@ fn last(bytes: &[u8], from: usize, to: usize, cuts: &mut [u16; KEPT], depth: usi
 
 // Begins a walk of the list from `from` to `to`.
 pub fn begin(bytes: &[u8], from: usize, to: usize, reversed: bool, cuts: &mut [u16; KEPT]) -> Begun
-    requires { ⌜ (from ≤ to) × (to ≤ length (now bytes)) × (to ≤ 65535) ⌝ }
+    requires { ⌜ (from ≤ to) × (to ≤ length (now bytes)) × (to ≤ longestProgram) ⌝ }
     ensures { λ r. ⌜ Starting (now (bytes .entry)) from to reversed (now (cuts .exit)) r ⌝ }
 {
     if reversed {
@@ -177,7 +178,7 @@ pub fn whole(from: usize, to: usize, depth: usize, sure: usize) -> Walk
 
 // Finds the next field.
 pub fn seek(bytes: &[u8], w: Walk, reversed: bool, cuts: &mut [u16; KEPT]) -> Walk
-    requires { ⌜ Walking (now bytes) reversed w (now cuts) × (w .at < w .to) × (w .to ≤ 65535) ⌝ }
+    requires { ⌜ Walking (now bytes) reversed w (now cuts) × (w .at < w .to) × (w .to ≤ longestProgram) ⌝ }
     ensures { λ r. ⌜ Sought (now (bytes .entry)) reversed w r (now (cuts .exit)) ⌝ }
 {
     let at = w.at;

@@ -5,17 +5,24 @@ ghost use Prim.Native.Nat.{ℕ, _+_, _-_, _<_, _≤_};
 ghost use lib.ListN.{length, take};
 ghost use lib.Seq.{slice};
 ghost use lib.IntN.{ℤ, _-ℤ_};
+ghost use Rattle.language.specs.Limits.{longestProgram};
 ghost use Rattle.language.specs.Machine.{roundsOf, startOf};
 ghost use Rattle.language.specs.Form.{inRange};
+ghost use Rattle.indexes.specs.Values.{mostValues};
 ghost use Rattle.records.specs.Outcomes.{Does};
 ghost use Rattle.gates.specs.Gates.{codeOf, frameIn, directionOf, boundOf, Bounded, mostRounds, Repeated, turnOf, namelessOf, Entered, actAt, deeperOf, innerOf, enteredOf};
 use records::Answer;
 use records::Condition;
 use records::State;
 use fields::Header;
+use indexes::VALUES;
 use indexes::Value;
+use limits::DEEPEST;
 use operands::Scope;
 use operands::WireMeaning;
+
+// Levels of nested statements in a body.
+pub const LEVELS: u8 = DEEPEST as u8;
 
 // What stays: the limit of steps, how many families may be called, the levels left, how many values are in scope, the
 // direction and the condition.
@@ -54,7 +61,7 @@ pub fn act(
     to: usize,
     tag: u8,
     place: usize,
-    vars: &[i32; 20],
+    vars: &[i32; VALUES],
     scope: Scope,
     regs: &[u16; 765],
     mode: Mode,
@@ -62,7 +69,7 @@ pub fn act(
     out: &mut [u8],
 ) -> Answer
     requires { ⌜ to ≤ length (now bytes) ⌝ }
-    requires { ⌜ (mode .variables ≤ 20) × (place ≤ 65535) ⌝ }
+    requires { ⌜ (mode .variables ≤ mostValues) × (place ≤ longestProgram) ⌝ }
     ensures { λ r. ⌜ Does (now (out .entry)) st (now (out .exit)) r (actAt mode (length (now (out .entry))) tag place (slice from to (now (bytes .entry))) (frameIn mode (take (mode .variables) (now (vars .entry))) scope (now (regs .entry)))) ⌝ }
 {
     let many = fields::wide(mode.variables);
@@ -109,9 +116,9 @@ fn bound(v: Value) -> Bounds
 }
 
 // The bounds of the for whose content is from `from` to `to`.
-fn bounds_of(bytes: &[u8], from: usize, to: usize, vars: &[i32; 20], many: usize) -> Bounds
+fn bounds_of(bytes: &[u8], from: usize, to: usize, vars: &[i32; VALUES], many: usize) -> Bounds
     requires { ⌜ to ≤ length (now bytes) ⌝ }
-    requires { ⌜ many ≤ 20 ⌝ }
+    requires { ⌜ many ≤ mostValues ⌝ }
     ensures { λ r. ⌜ Bounded (now (bytes .entry)) from to (take many (now (vars .entry))) r ⌝ }
 {
     let low = indexes::index_at(bytes, from, to, vars, many);
@@ -166,12 +173,12 @@ pub fn repeats_of(
     from: usize,
     to: usize,
     tag: u8,
-    vars: &[i32; 20],
+    vars: &[i32; VALUES],
     many: usize,
     reversed: bool,
 ) -> Repeats
     requires { ⌜ to ≤ length (now bytes) ⌝ }
-    requires { ⌜ many ≤ 20 ⌝ }
+    requires { ⌜ many ≤ mostValues ⌝ }
     ensures { λ r. ⌜ Repeated (now (bytes .entry)) from to tag (take many (now (vars .entry))) reversed r ⌝ }
 {
     if tag == 37 {
@@ -211,7 +218,7 @@ fn nameless(tag: u8, size: usize) -> bool
 
 // Enters the statement with this tag and so many bytes of content: takes its step, unless it has no meaning or none is left.
 pub fn step(tag: u8, size: usize, place: usize, mode: Mode, st: State) -> Answer
-    requires { ⌜ place ≤ 65535 ⌝ }
+    requires { ⌜ place ≤ longestProgram ⌝ }
     ensures { λ r. ⌜ Entered mode tag size place st r ⌝ }
 {
     if mode.levels == 0 {
@@ -226,15 +233,7 @@ pub fn step(tag: u8, size: usize, place: usize, mode: Mode, st: State) -> Answer
     if nameless(tag, size) {
         return Answer::Stuck;
     }
-    let steps = st.steps;
-    if mode.limit <= steps {
-        return Answer::Ended(26, place as u16, st);
-    }
-    let taken = steps + 1;
-    Answer::Going(State {
-        written: st.written,
-        steps: taken,
-    })
+    records::take_step(mode.limit, place, st)
 }
 
 // A level deeper, with so many values in scope, in a direction.
@@ -257,7 +256,7 @@ fn deeper(mode: Mode, variables: u8, reversed: bool) -> Mode
 
 // What stays in the body of the reverse or the for with this tag.
 pub fn inner(mode: Mode, tag: u8) -> Mode
-    requires { ⌜ (0 < mode .levels) × (mode .variables ≤ 19) ⌝ }
+    requires { ⌜ (0 < mode .levels) × (mode .variables < mostValues) ⌝ }
     ensures { λ r. ⌜ r ≡ innerOf mode tag ⌝ }
 {
     let variables = mode.variables;
@@ -276,7 +275,7 @@ pub fn entered(mode: Mode, n: u16, variables: u8) -> Mode
     Mode {
         limit: mode.limit,
         families_visible: n,
-        levels: 16,
+        levels: LEVELS,
         variables,
         reversed: mode.reversed,
         condition: kept,

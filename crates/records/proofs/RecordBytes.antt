@@ -16,7 +16,7 @@ use Rattle.records.specs.declared.State.{State}
 use Rattle.records.specs.declared.Answer.the-variants.{Going, Ended, Stuck}
 use Rattle.records.specs.declared.Condition.{Condition}
 use Rattle.records.specs.declared.Condition.the-variants.{Always, IsZero, IsOne}
-use Rattle.records.specs.Outcomes.{FlatOutcome, going, ended, answerTold, flatOutcome, Holds, Does, conditionOf, kindOf, bitOf, bytes8, ActionNumbers, stateOf}
+use Rattle.records.specs.Outcomes.{FlatOutcome, going, ended, answerTold, flatOutcome, Holds, Does, conditionOf, bytes8, ActionNumbers, stateOf}
 
 pub stores : (l : List ℕ) (at a b c d e f g h : ℕ) →
     set (set (set (set (set (set (set (set l at a) (at + 1) b) (at + 2) c) (at + 3) d) (at + 4) e) (at + 5) f) (at + 6) g) (at + 7) h
@@ -33,22 +33,10 @@ unfolding outputBytes
 bytes-more [] r = append-nil (recordBytes r)
 bytes-more (x ∷ rs) r = ap (λ (l : List ℕ). recordBytes x ++ l) (bytes-more rs r) ∙ sym (append-assoc (recordBytes x) (outputBytes rs) (recordBytes r))
 
-kind-is : (c : Condition) → conditionByte (conditionOf c) ≡ kindOf c
-unfolding conditionByte conditionOf kindOf
-kind-is Always = refl
-kind-is (IsZero b) = refl
-kind-is (IsOne b) = refl
-
-bit-is : (c : Condition) → conditionBit (conditionOf c) ≡ bitOf c
-unfolding conditionBit conditionOf bitOf
-bit-is Always = refl
-bit-is (IsZero b) = refl
-bit-is (IsOne b) = refl
-
 record-bytes : (a : Action) (k : machine.Condition) (c : Condition) (code first second : ℕ) → k ≡ conditionOf c → ActionNumbers a code first second
-    → recordBytes (record { action = a; condition = k }) ≡ bytes8 code (kindOf c) first second (bitOf c)
+    → recordBytes (record { action = a; condition = k }) ≡ bytes8 code (conditionByte (conditionOf c)) first second (conditionBit (conditionOf c))
 unfolding recordBytes bytesOf
-record-bytes a k c code first second e w = rw (e, w .its-code, w .its-first, w .its-second, kind-is c, bit-is c)
+record-bytes a k c code first second e w = rw (e, w .its-code, w .its-first, w .its-second)
 
 -- one record more
 into-more : (lent : List ℕ) (rs : List Record) (r : Record) (l : List ℕ) (at : ℕ) (b : List ℕ) → l ≡ writtenInto lent rs → 8 * length rs ≡ at → at + length b ≤ length l → recordBytes r ≡ b
@@ -76,7 +64,7 @@ module _ (limit : ℕ) (l : List ℕ) (st : State) (p : Place) (f : Frame) (a : 
       simp (lt-leb (8 * suc (length rs)) (length l) (omega arith)) (let e = w .output in cc)
 
   pub write-room : (l' : List ℕ) (c : Condition) (code first second : ℕ) → f .condition ≡ conditionOf c → ActionNumbers a code first second → st .written + 8 ≤ length l
-      → l' ≡ sets l (st .written) (bytes8 code (kindOf c) first second (bitOf c))
+      → l' ≡ sets l (st .written) (bytes8 code (conditionByte (conditionOf c)) first second (conditionBit (conditionOf c)))
       → Does l st l' (Going (record { written = st .written + 8; steps = st .steps })) (write limit (length l) p f a)
   unfolding write answerTold flatOutcome
   write-room l' c code first second e u h k lent rs w =

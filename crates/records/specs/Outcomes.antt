@@ -4,6 +4,7 @@ use mathlib.Core.Path.{_≡_}
 use mathlib.Core.List.{List, [], _∷_}
 use mathlib.Core.Bool.{Bool, true, false, cond}
 use lib.ListN.{length, take, drop}
+use Rattle.language.specs.Limits.{recordSize}
 use Rattle.language.specs.Tree.{Place, Refusal}
 use Rattle.language.specs.Machine.{Outcome, Run, Record, Action, Frame, write, give, endAt, noMeaning}
 use Rattle.language.specs.Machine as machine
@@ -28,14 +29,14 @@ answerTold l Stuck = stuck
 
 -- an outcome, with its records written into the output lent
 unfoldable pub flatOutcome : {A : Type 0} → List ℕ → Outcome A → FlatOutcome
-flatOutcome lent (machine.going a s) = going (writtenInto lent (s .records)) (8 * length (s .records)) (s .steps)
-flatOutcome lent (machine.ended n p s) = ended n p (writtenInto lent (s .records)) (8 * length (s .records)) (s .steps)
+flatOutcome lent (machine.going a s) = going (writtenInto lent (s .records)) (recordSize * length (s .records)) (s .steps)
+flatOutcome lent (machine.ended n p s) = ended n p (writtenInto lent (s .records)) (recordSize * length (s .records)) (s .steps)
 flatOutcome lent machine.stuck = stuck
 
 -- the output l holds these records over what was lent
 pub record Holds (lent : List ℕ) (rs : List Record) (l : List ℕ) (st : State) : Type 0 where
   pub output : l ≡ writtenInto lent rs
-  pub size : 8 * length rs ≡ st .written
+  pub size : recordSize * length rs ≡ st .written
 
 abbrev pub stateOf : List Record → State → machine.State
 stateOf rs st = record { records = rs; steps = st .steps }
@@ -47,6 +48,25 @@ Does l st l' r run = (lent : List ℕ) (rs : List Record) → Holds lent rs l st
 -- what is left to do leads to the whole
 abbrev pub Leads : List ℕ → State → List ℕ → State → (rest whole : Run (Unit {0})) → Type 0
 Leads l st l' st' rest whole = (x : List ℕ) (r : Answer) → Does l' st' x r rest → Does l st x r whole
+
+-- a step is taken
+pub record OneStep (limit : ℕ) (st s : State) : Type 0 where
+  pub left : st .steps < limit
+  pub same : s .written ≡ st .written
+  pub more : s .steps ≡ st .steps + 1
+
+-- no step is left for the statement at `place`
+pub record NoStep (limit : ℕ) (place : Place) (st : State) (n : ℕ) (p : Place) (s : State) : Type 0 where
+  pub none : limit ≤ st .steps
+  pub number : n ≡ 26
+  pub here : p ≡ place
+  pub same : s ≡ st
+
+-- what taking a step answers
+unfoldable pub Stepped : (limit : ℕ) → Place → State → Answer → Type 0
+Stepped limit place st (Going s) = OneStep limit st s
+Stepped limit place st (Ended n p s) = NoStep limit place st n p s
+Stepped limit place st Stuck = ⊥
 
 unfoldable pub conditionOf : Condition → machine.Condition
 conditionOf Always = machine.always
@@ -61,16 +81,6 @@ highOf n = n / 256
 
 abbrev pub bytes8 : ℕ → ℕ → ℕ → ℕ → ℕ → List ℕ
 bytes8 op kind a b c = op ∷ kind ∷ lowOf a ∷ highOf a ∷ lowOf b ∷ highOf b ∷ lowOf c ∷ highOf c ∷ []
-
-unfoldable pub kindOf : Condition → ℕ
-kindOf Always = 0
-kindOf (IsZero b) = 1
-kindOf (IsOne b) = 2
-
-unfoldable pub bitOf : Condition → ℕ
-bitOf Always = 0
-bitOf (IsZero b) = b .0
-bitOf (IsOne b) = b .0
 
 -- an action with its numbers
 pub record ActionNumbers (a : Action) (code first second : ℕ) : Type 0 where

@@ -3,7 +3,10 @@ ghost use mathlib.Core.Path.{_≡_};
 ghost use Prim.Native.Nat.{ℕ, _+_, _*_, _<_, _≤_};
 ghost use lib.ListN.{length};
 ghost use lib.Seq.{sets};
-ghost use Rattle.records.specs.Outcomes.{lowOf, highOf, bytes8, kindOf, bitOf, Writes};
+ghost use Rattle.language.specs.Limits.{longestProgram, recordSize};
+ghost use Rattle.language.specs.Result.{conditionByte, conditionBit};
+ghost use Rattle.records.specs.Outcomes.{lowOf, highOf, bytes8, conditionOf, Stepped, Writes};
+use limits::RECORD_SIZE;
 use operands::Bit;
 
 // What changes as a program runs: the bytes written, and the steps taken.
@@ -26,6 +29,22 @@ pub enum Condition {
     IsOne(Bit),
 }
 
+// Takes a step of the statement at `place`, if one is left.
+pub fn take_step(limit: u64, place: usize, st: State) -> Answer
+    requires { ⌜ place ≤ longestProgram ⌝ }
+    ensures { λ r. ⌜ Stepped limit place st r ⌝ }
+{
+    let steps = st.steps;
+    if limit <= steps {
+        return Answer::Ended(26, place as u16, st);
+    }
+    let taken = steps + 1;
+    Answer::Going(State {
+        written: st.written,
+        steps: taken,
+    })
+}
+
 // A condition's byte and its bit.
 struct Pair(u8, u16);
 
@@ -42,7 +61,7 @@ fn high(n: u16) -> u8
 }
 
 fn put(out: &mut [u8], at: usize, op: u8, kind: u8, a: u16, b: u16, c: u16)
-    requires { ⌜ at + 8 ≤ length (now out) ⌝ }
+    requires { ⌜ at + recordSize ≤ length (now out) ⌝ }
     ensures { λ _. ⌜ now (out .exit) ≡ sets (now (out .entry)) at (bytes8 op kind a b c) ⌝ }
 {
     out[at] = op;
@@ -56,7 +75,7 @@ fn put(out: &mut [u8], at: usize, op: u8, kind: u8, a: u16, b: u16, c: u16)
 }
 
 fn numbers(c: Condition) -> Pair
-    ensures { λ r. ⌜ (r .0 ≡ kindOf c) × (r .1 ≡ bitOf c) ⌝ }
+    ensures { λ r. ⌜ (r .0 ≡ conditionByte (conditionOf c)) × (r .1 ≡ conditionBit (conditionOf c)) ⌝ }
 {
     match c {
         Condition::Always => Pair(0, 0),
@@ -75,7 +94,7 @@ pub fn write_record(
     b: u16,
     c: Condition,
 ) -> Answer
-    requires { ⌜ place ≤ 65535 ⌝ }
+    requires { ⌜ place ≤ longestProgram ⌝ }
     ensures { λ r. ⌜ Writes (now (out .entry)) st (now (out .exit)) r place op a b c ⌝ }
 {
     let at = st.written;
@@ -83,12 +102,12 @@ pub fn write_record(
     if len < at {
         return Answer::Ended(27, place as u16, st);
     }
-    if len - at < 8 {
+    if len - at < RECORD_SIZE {
         return Answer::Ended(27, place as u16, st);
     }
     let n = numbers(c);
     put(out, at, op, n.0, a, b, n.1);
-    let next = at + 8;
+    let next = at + RECORD_SIZE;
     Answer::Going(State {
         written: next,
         steps: st.steps,

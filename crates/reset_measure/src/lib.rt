@@ -3,6 +3,8 @@ ghost use mathlib.Core.Path.{_≡_};
 ghost use Prim.Native.Nat.{ℕ, _+_, _≤_};
 ghost use lib.ListN.{length, take};
 ghost use lib.Seq.{slice};
+ghost use Rattle.language.specs.Limits.{longestProgram};
+ghost use Rattle.indexes.specs.Values.{mostValues};
 ghost use Rattle.records.specs.Outcomes.{Does};
 ghost use Rattle.gates.specs.Gates.{frameIn};
 ghost use Rattle.reset_measure.specs.Tops.{resetAt, measureAt};
@@ -10,6 +12,7 @@ use records::Answer;
 use records::State;
 use fields::Header;
 use gates::Mode;
+use indexes::VALUES;
 use operands::BitMeaning;
 use operands::Scope;
 use operands::WireMeaning;
@@ -20,7 +23,7 @@ pub fn reset(
     from: usize,
     to: usize,
     place: usize,
-    vars: &[i32; 20],
+    vars: &[i32; VALUES],
     scope: Scope,
     regs: &[u16; 765],
     mode: Mode,
@@ -28,7 +31,7 @@ pub fn reset(
     out: &mut [u8],
 ) -> Answer
     requires { ⌜ to ≤ length (now bytes) ⌝ }
-    requires { ⌜ (mode .variables ≤ 20) × (place ≤ 65535) ⌝ }
+    requires { ⌜ (mode .variables ≤ mostValues) × (place ≤ longestProgram) ⌝ }
     ensures { λ r. ⌜ Does (now (out .entry)) st (now (out .exit)) r (resetAt mode (length (now (out .entry))) place (slice from to (now (bytes .entry))) (frameIn mode (take (mode .variables) (now (vars .entry))) scope (now (regs .entry)))) ⌝ }
 {
     let many = fields::wide(mode.variables);
@@ -46,7 +49,7 @@ pub fn measure(
     from: usize,
     to: usize,
     place: usize,
-    vars: &[i32; 20],
+    vars: &[i32; VALUES],
     scope: Scope,
     regs: &[u16; 765],
     mode: Mode,
@@ -54,7 +57,7 @@ pub fn measure(
     out: &mut [u8],
 ) -> Answer
     requires { ⌜ to ≤ length (now bytes) ⌝ }
-    requires { ⌜ (mode .variables ≤ 20) × (place ≤ 65535) ⌝ }
+    requires { ⌜ (mode .variables ≤ mostValues) × (place ≤ longestProgram) ⌝ }
     ensures { λ r. ⌜ Does (now (out .entry)) st (now (out .exit)) r (measureAt mode (length (now (out .entry))) place (slice from to (now (bytes .entry))) (frameIn mode (take (mode .variables) (now (vars .entry))) scope (now (regs .entry)))) ⌝ }
 {
     let many = fields::wide(mode.variables);

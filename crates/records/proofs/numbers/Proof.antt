@@ -4,7 +4,8 @@ use Rattle.records.proofs.numbers.Tie as tie
 use Rattle.records.proofs.numbers.Reads as reads
 use Rattle.records.proofs.numbers.Lts as lts
 use mathlib.Core.Path.{refl, sym, ap, _∙_}
-use Rattle.records.specs.Outcomes.{kindOf, bitOf}
+use Rattle.language.specs.Result.{conditionByte, conditionBit}
+use Rattle.records.specs.Outcomes.{conditionOf}
 
 -- src/lib.rt:61:30
 enum-told : tie.Need-enum-told
@@ -23,19 +24,19 @@ enum-known-c-2 c =
 
 -- src/lib.rt:57:1
 returns : tie.Need-returns
-unfolding kindOf bitOf
+unfolding conditionByte conditionBit conditionOf
 returns c =
     rw (c .enum-told .given .1) (refl, refl)
 
 -- src/lib.rt:57:1
 returns-2 : tie.Need-returns-2
-unfolding kindOf bitOf
+unfolding conditionByte conditionBit conditionOf
 returns-2 c =
     rw (c .before .c .given .1) (refl, refl)
 
 -- src/lib.rt:57:1
 returns-3 : tie.Need-returns-3
-unfolding kindOf bitOf
+unfolding conditionByte conditionBit conditionOf
 returns-3 c =
     rw (c .before .c2 .given .1) (refl, refl)
 

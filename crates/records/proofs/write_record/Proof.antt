@@ -10,7 +10,7 @@ use mathlib.Core.Path.{_≡_, _∙_, ap, sym}
 use native.Mathlib.Omega.{arith}
 use denote.Ref.{now}
 use lib.Seq.{sets}
-use Rattle.records.specs.Outcomes.{bytes8, kindOf, bitOf}
+use Rattle.records.specs.Outcomes.{bytes8, conditionOf}
 use Rattle.records.proofs.RecordBytes.{write-full, write-room}
 
 -- src/lib.rt:84:34
