@@ -11,7 +11,7 @@ use lib.Dec.{leb}
 use lib.ListN.{length, take, drop, getD, set}
 use lib.Seq.{take-suc, take-suc-set}
 use Rattle.io.specs.Digits.{digits, glyph, Fewest}
-use Rattle.list_text.specs.Lines.{digitsOf, numberOf, gateOf, conditionOf, lineOf, linesOf, Put}
+use Rattle.list_text.specs.Lines.{digitsOf, numberText, gateText, conditionText, lineText, linesText, Put}
 
 -- one byte more of a word
 pub more : (before after word : List ℕ) (from at i : ℕ) → at < length after → i < length word → take at after ≡ take from before ++ take i word
@@ -73,34 +73,34 @@ digits-fit k n h f = go (leb k 20) refl
         omega arith
 
 -- the line of one record more
-pub lines-more : (bytes : List ℕ) (first next : ℕ) → first ≤ next → linesOf bytes first (next + 1 - first) ≡ linesOf bytes first (next - first) ++ lineOf (take 8 (drop (8 * next) bytes))
-unfolding linesOf
+pub lines-more : (bytes : List ℕ) (first next : ℕ) → first ≤ next → linesText bytes first (next + 1 - first) ≡ linesText bytes first (next - first) ++ lineText (take 8 (drop (8 * next) bytes))
+unfolding linesText
 lines-more bytes first next h =
     let e : next + 1 - first ≡ suc (next - first) = omega arith in
     let f : 8 * (first + (next - first)) ≡ 8 * next = omega arith in
-    ap (linesOf bytes first) e ∙ ap (λ (k : ℕ). linesOf bytes first (next - first) ++ lineOf (take 8 (drop k bytes))) f
+    ap (linesText bytes first) e ∙ ap (λ (k : ℕ). linesText bytes first (next - first) ++ lineText (take 8 (drop k bytes))) f
 
 -- the lines of some records and then those of the next ones are the lines of all of them
-pub lines-together : (bytes : List ℕ) (first some more : ℕ) → linesOf bytes first some ++ linesOf bytes (first + some) more ≡ linesOf bytes first (some + more)
-unfolding linesOf
+pub lines-together : (bytes : List ℕ) (first some more : ℕ) → linesText bytes first some ++ linesText bytes (first + some) more ≡ linesText bytes first (some + more)
+unfolding linesText
 lines-together bytes first some zero =
     let e : some + 0 ≡ some = omega arith in
-    append-nil (linesOf bytes first some) ∙ ap (linesOf bytes first) (sym e)
+    append-nil (linesText bytes first some) ∙ ap (linesText bytes first) (sym e)
 lines-together bytes first some (suc more) =
     let e : some + suc more ≡ suc (some + more) = omega arith in
     let f : first + some + more ≡ first + (some + more) = omega arith in
-    sym (append-assoc (linesOf bytes first some) (linesOf bytes (first + some) more) (lineOf (take 8 (drop (8 * (first + some + more)) bytes))))
-    ∙ ap (λ (l : List ℕ). l ++ lineOf (take 8 (drop (8 * (first + some + more)) bytes))) (lines-together bytes first some more)
-    ∙ ap (λ (k : ℕ). linesOf bytes first (some + more) ++ lineOf (take 8 (drop (8 * k) bytes))) f
-    ∙ ap (linesOf bytes first) (sym e)
+    sym (append-assoc (linesText bytes first some) (linesText bytes (first + some) more) (lineText (take 8 (drop (8 * (first + some + more)) bytes))))
+    ∙ ap (λ (l : List ℕ). l ++ lineText (take 8 (drop (8 * (first + some + more)) bytes))) (lines-together bytes first some more)
+    ∙ ap (λ (k : ℕ). linesText bytes first (some + more) ++ lineText (take 8 (drop (8 * k) bytes))) f
+    ∙ ap (linesText bytes first) (sym e)
 
 -- an operation that no record has
 pub gate-other : (op first second : ℕ) → (op ≡ 1 → ⊥) → (op ≡ 2 → ⊥) → (op ≡ 3 → ⊥) → (op ≡ 4 → ⊥) → (op ≡ 5 → ⊥) → (op ≡ 6 → ⊥)
-    → (111 ∷ 112 ∷ []) ++ numberOf op ≡ gateOf op first second
-unfolding gateOf
+    → (111 ∷ 112 ∷ []) ++ numberText op ≡ gateText op first second
+unfolding gateText
 gate-other op first second a b c d e f = rw (ne-eqb op 1 a, ne-eqb op 2 b, ne-eqb op 3 c, ne-eqb op 4 d, ne-eqb op 5 e, ne-eqb op 6 f)
 
 -- a condition that there is
-pub condition-is : (condition bit : ℕ) → (condition ≡ 0 → ⊥) → (105 ∷ 102 ∷ []) ++ numberOf bit ++ numberOf (condition - 1) ++ (32 ∷ []) ≡ conditionOf condition bit
-unfolding conditionOf
+pub condition-is : (condition bit : ℕ) → (condition ≡ 0 → ⊥) → (105 ∷ 102 ∷ []) ++ numberText bit ++ numberText (condition - 1) ++ (32 ∷ []) ≡ conditionText condition bit
+unfolding conditionText
 condition-is condition bit h = rw (ne-eqb condition 0 h)

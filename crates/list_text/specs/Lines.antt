@@ -14,46 +14,46 @@ digitsOf zero n = []
 digitsOf (suc most) n = cond (ltb n 10) [] (digitsOf most (n / 10)) ++ (glyph (n % 10) ∷ [])
 
 -- a space and n in decimal: 20 digits hold every number of 64 bits
-unfoldable pub numberOf : ℕ → List ℕ
-numberOf n = 32 ∷ digitsOf 20 n
+unfoldable pub numberText : ℕ → List ℕ
+numberText n = 32 ∷ digitsOf 20 n
 
 -- an operation on its numbers: `h`, `t`, `tdg`, `cx`, `measure`, `reset`, and `op` for a number that no record has
-unfoldable pub gateOf : (op first second : ℕ) → List ℕ
-gateOf op first second =
-    cond (eqb op 1) ((104 ∷ []) ++ numberOf first)
-    (cond (eqb op 2) ((116 ∷ []) ++ numberOf first)
-    (cond (eqb op 3) ((116 ∷ 100 ∷ 103 ∷ []) ++ numberOf first)
-    (cond (eqb op 4) ((99 ∷ 120 ∷ []) ++ numberOf first ++ numberOf second)
-    (cond (eqb op 5) ((109 ∷ 101 ∷ 97 ∷ 115 ∷ 117 ∷ 114 ∷ 101 ∷ []) ++ numberOf first ++ numberOf second)
-    (cond (eqb op 6) ((114 ∷ 101 ∷ 115 ∷ 101 ∷ 116 ∷ []) ++ numberOf first)
-    ((111 ∷ 112 ∷ []) ++ numberOf op))))))
+unfoldable pub gateText : (op first second : ℕ) → List ℕ
+gateText op first second =
+    cond (eqb op 1) ((104 ∷ []) ++ numberText first)
+    (cond (eqb op 2) ((116 ∷ []) ++ numberText first)
+    (cond (eqb op 3) ((116 ∷ 100 ∷ 103 ∷ []) ++ numberText first)
+    (cond (eqb op 4) ((99 ∷ 120 ∷ []) ++ numberText first ++ numberText second)
+    (cond (eqb op 5) ((109 ∷ 101 ∷ 97 ∷ 115 ∷ 117 ∷ 114 ∷ 101 ∷ []) ++ numberText first ++ numberText second)
+    (cond (eqb op 6) ((114 ∷ 101 ∷ 115 ∷ 101 ∷ 116 ∷ []) ++ numberText first)
+    ((111 ∷ 112 ∷ []) ++ numberText op))))))
 
 -- `if`, the bit, its value and a space, or nothing where there is no condition: 1 asks for the value 0 and 2 for the value 1
-unfoldable pub conditionOf : (condition bit : ℕ) → List ℕ
-conditionOf condition bit = cond (eqb condition 0) [] ((105 ∷ 102 ∷ []) ++ numberOf bit ++ numberOf (condition - 1) ++ (32 ∷ []))
+unfoldable pub conditionText : (condition bit : ℕ) → List ℕ
+conditionText condition bit = cond (eqb condition 0) [] ((105 ∷ 102 ∷ []) ++ numberText bit ++ numberText (condition - 1) ++ (32 ∷ []))
 
 -- two bytes as a number, low byte first
 unfoldable pub twoBytesAt : List ℕ → ℕ → ℕ
 twoBytesAt bytes at = getD bytes at 0 + 256 * getD bytes (at + 1) 0
 
 -- the line of a record of 8 bytes: op, condition, first and second number, condition bit
-unfoldable pub lineOf : List ℕ → List ℕ
-lineOf bytes = conditionOf (getD bytes 1 0) (twoBytesAt bytes 6) ++ gateOf (getD bytes 0 0) (twoBytesAt bytes 2) (twoBytesAt bytes 4) ++ (10 ∷ [])
+unfoldable pub lineText : List ℕ → List ℕ
+lineText bytes = conditionText (getD bytes 1 0) (twoBytesAt bytes 6) ++ gateText (getD bytes 0 0) (twoBytesAt bytes 2) (twoBytesAt bytes 4) ++ (10 ∷ [])
 
 -- the lines of `count` records from the record `first` on
-unfoldable pub linesOf : (bytes : List ℕ) (first count : ℕ) → List ℕ
-linesOf bytes first zero = []
-linesOf bytes first (suc count) = linesOf bytes first count ++ lineOf (take 8 (drop (8 * (first + count)) bytes))
+unfoldable pub linesText : (bytes : List ℕ) (first count : ℕ) → List ℕ
+linesText bytes first zero = []
+linesText bytes first (suc count) = linesText bytes first count ++ lineText (take 8 (drop (8 * (first + count)) bytes))
 
 -- the last line: `end`, number, place, records, steps
-unfoldable pub endOf : (number place records steps : ℕ) → List ℕ
-endOf number place records steps = (101 ∷ 110 ∷ 100 ∷ []) ++ numberOf number ++ numberOf place ++ numberOf records ++ numberOf steps ++ (10 ∷ [])
+unfoldable pub endText : (number place records steps : ℕ) → List ℕ
+endText number place records steps = (101 ∷ 110 ∷ 100 ∷ []) ++ numberText number ++ numberText place ++ numberText records ++ numberText steps ++ (10 ∷ [])
 
 -- the whole listing of an answer, which is printed part by part: the lines of all its records, and the last line
-unfoldable pub listingOf : Answer → List ℕ
-listingOf a =
-    linesOf (a .output) 0 (a .result .records)
-    ++ endOf (a .result .number) (a .result .place) (a .result .records) (a .result .steps)
+unfoldable pub listingText : Answer → List ℕ
+listingText a =
+    linesText (a .output) 0 (a .result .records)
+    ++ endText (a .result .number) (a .result .place) (a .result .records) (a .result .steps)
 
 -- what putting a word of at most `most` bytes at `from` did: the text up to `to` is what it was up to `from`, and then the word
 pub record Put (before : List ℕ) (from : ℕ) (after : List ℕ) (to : ℕ) (word : List ℕ) (most : ℕ) : Type 0 where

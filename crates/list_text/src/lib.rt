@@ -4,7 +4,7 @@ ghost use mathlib.Core.List.{[], _∷_, _++_};
 ghost use Prim.Native.Nat.{_+_, _*_, _-_, _<_, _≤_};
 ghost use lib.ListN.{length, take};
 ghost use Rattle.io.specs.Counts.{Counts};
-ghost use Rattle.list_text.specs.Lines.{numberOf, gateOf, conditionOf, twoBytesAt, lineOf, linesOf, endOf, Put};
+ghost use Rattle.list_text.specs.Lines.{numberText, gateText, conditionText, twoBytesAt, lineText, linesText, endText, Put};
 
 // The bytes of text that any line fits in.
 const LINE: usize = 128;
@@ -40,7 +40,7 @@ fn put(word: &[u8], text: &mut [u8], from: usize) -> usize
 // Puts a space and a number in decimal.
 fn number(n: u64, text: &mut [u8], from: usize) -> usize
     requires { ⌜ from + 21 ≤ length (now text) ⌝ }
-    ensures { λ r. ⌜ Put (now (text .entry)) from (now (text .exit)) r (numberOf n) 21 ⌝ }
+    ensures { λ r. ⌜ Put (now (text .entry)) from (now (text .exit)) r (numberText n) 21 ⌝ }
 {
     let mut digits = [0u8; 20];
     let many = io::decimal(n, &mut digits);
@@ -52,7 +52,7 @@ fn number(n: u64, text: &mut [u8], from: usize) -> usize
 fn named(name: &[u8], first: u64, text: &mut [u8], from: usize) -> usize
     requires { ⌜ length (now name) ≤ 7 ⌝ }
     requires { ⌜ from + 28 ≤ length (now text) ⌝ }
-    ensures { λ r. ⌜ Put (now (text .entry)) from (now (text .exit)) r (now (name .entry) ++ numberOf first) 28 ⌝ }
+    ensures { λ r. ⌜ Put (now (text .entry)) from (now (text .exit)) r (now (name .entry) ++ numberText first) 28 ⌝ }
 {
     let at = put(name, text, from);
     number(first, text, at)
@@ -62,7 +62,7 @@ fn named(name: &[u8], first: u64, text: &mut [u8], from: usize) -> usize
 fn paired(name: &[u8], first: u64, second: u64, text: &mut [u8], from: usize) -> usize
     requires { ⌜ length (now name) ≤ 7 ⌝ }
     requires { ⌜ from + 49 ≤ length (now text) ⌝ }
-    ensures { λ r. ⌜ Put (now (text .entry)) from (now (text .exit)) r (now (name .entry) ++ numberOf first ++ numberOf second) 49 ⌝ }
+    ensures { λ r. ⌜ Put (now (text .entry)) from (now (text .exit)) r (now (name .entry) ++ numberText first ++ numberText second) 49 ⌝ }
 {
     let at = named(name, first, text, from);
     number(second, text, at)
@@ -71,7 +71,7 @@ fn paired(name: &[u8], first: u64, second: u64, text: &mut [u8], from: usize) ->
 // Puts an operation and the wires or bits that it is on.
 fn gate(op: u8, first: u64, second: u64, text: &mut [u8], from: usize) -> usize
     requires { ⌜ from + 49 ≤ length (now text) ⌝ }
-    ensures { λ r. ⌜ Put (now (text .entry)) from (now (text .exit)) r (gateOf op first second) 49 ⌝ }
+    ensures { λ r. ⌜ Put (now (text .entry)) from (now (text .exit)) r (gateText op first second) 49 ⌝ }
 {
     match op {
         1 => named(b"h", first, text, from),
@@ -87,7 +87,7 @@ fn gate(op: u8, first: u64, second: u64, text: &mut [u8], from: usize) -> usize
 // Puts the condition of a record: the bit and the value that it must have.
 fn condition(kind: u8, bit: u64, text: &mut [u8], from: usize) -> usize
     requires { ⌜ from + 50 ≤ length (now text) ⌝ }
-    ensures { λ r. ⌜ Put (now (text .entry)) from (now (text .exit)) r (conditionOf kind bit) 50 ⌝ }
+    ensures { λ r. ⌜ Put (now (text .entry)) from (now (text .exit)) r (conditionText kind bit) 50 ⌝ }
 {
     if kind == 0 {
         return from;
@@ -108,7 +108,7 @@ fn two_bytes(bytes: &[u8], at: usize) -> u64
 fn line(bytes: &[u8], text: &mut [u8], from: usize) -> usize
     requires { ⌜ 8 ≤ length (now bytes) ⌝ }
     requires { ⌜ from + 128 ≤ length (now text) ⌝ }
-    ensures { λ r. ⌜ Put (now (text .entry)) from (now (text .exit)) r (lineOf (now (bytes .entry))) 128 ⌝ }
+    ensures { λ r. ⌜ Put (now (text .entry)) from (now (text .exit)) r (lineText (now (bytes .entry))) 128 ⌝ }
 {
     let at = condition(bytes[1], two_bytes(bytes, 6), text, from);
     let end = gate(bytes[0], two_bytes(bytes, 2), two_bytes(bytes, 4), text, at);
@@ -120,7 +120,7 @@ pub fn lines(records: &[u8], first: usize, total: usize, text: &mut [u8]) -> Chu
     requires { ⌜ 8 * total ≤ length (now records) ⌝ }
     requires { ⌜ first < total ⌝ }
     requires { ⌜ 128 ≤ length (now text) ⌝ }
-    ensures text { λ r. ⌜ take (r .size) (now (text .exit)) ≡ linesOf (now (records .entry)) first (r .next - first) ⌝ }
+    ensures text { λ r. ⌜ take (r .size) (now (text .exit)) ≡ linesText (now (records .entry)) first (r .next - first) ⌝ }
     ensures room { λ r. ⌜ Counts (r .size) (now (text .exit)) ⌝ }
     ensures more { λ r. ⌜ first < r .next ⌝ }
     ensures within { λ r. ⌜ r .next ≤ total ⌝ }
@@ -139,7 +139,7 @@ pub fn lines(records: &[u8], first: usize, total: usize, text: &mut [u8]) -> Chu
 // Puts the last line at the start of the text: the outcome's number and place, and the counts of records and steps.
 pub fn last_line(outcome: u64, place: u64, records: u64, steps: u64, text: &mut [u8]) -> usize
     requires { ⌜ 128 ≤ length (now text) ⌝ }
-    ensures text { λ r. ⌜ take r (now (text .exit)) ≡ endOf outcome place records steps ⌝ }
+    ensures text { λ r. ⌜ take r (now (text .exit)) ≡ endText outcome place records steps ⌝ }
     ensures room { λ r. ⌜ Counts r (now (text .exit)) ⌝ }
 {
     let placed = paired(b"end", outcome, place, text, 0);

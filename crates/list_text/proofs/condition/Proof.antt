@@ -8,15 +8,15 @@ use mathlib.Core.List.{[], _∷_, _++_, append-nil}
 use native.Mathlib.Omega.{arith}
 use lib.ListN.{take}
 use denote.Ref.{now}
-use Rattle.list_text.specs.Lines.{conditionOf, numberOf}
+use Rattle.list_text.specs.Lines.{conditionText, numberText}
 use Rattle.list_text.proofs.Texts.{then, condition-is}
 
 returns : tie.Need-returns
-unfolding conditionOf
+unfolding conditionText
 returns c =
     let e : c .before .before .args .kind ≡ 0 = omega arith in
     record {
-      text = sym (append-nil (take (c .before .before .args .from) (now (c .before .before .args .text)))) ∙ ap (λ (k : ℕ). take (c .before .before .args .from) (now (c .before .before .args .text)) ++ conditionOf k (c .before .before .args .bit)) (sym e);
+      text = sym (append-nil (take (c .before .before .args .from) (now (c .before .before .args .text)))) ∙ ap (λ (k : ℕ). take (c .before .before .args .from) (now (c .before .before .args .text)) ++ conditionText k (c .before .before .args .bit)) (sym e);
       bound = omega arith;
     }
 
@@ -44,7 +44,7 @@ same-length c = search needs
 returns-2 : tie.Need-returns-2
 returns-2 c =
     then _ _ (c .before .before .before .before .before .before .before .paired .ensures) (c .before .before .put .ensures)
-    (ap (λ (k : ℕ). (105 ∷ 102 ∷ []) ++ numberOf (c .before .before .before .before .before .before .before .before .before .before .before .before .before .args .bit) ++ numberOf (k - 1) ++ (32 ∷ [])) (c .before .before .before .before .before .before .before .before .before .wide .ensures) ∙ condition-is (c .before .before .before .before .before .before .before .before .before .before .before .before .before .args .kind) (c .before .before .before .before .before .before .before .before .before .before .before .before .before .args .bit) (c .before .before .before .before .before .before .before .before .before .before .before .if1 .left))
+    (ap (λ (k : ℕ). (105 ∷ 102 ∷ []) ++ numberText (c .before .before .before .before .before .before .before .before .before .before .before .before .before .args .bit) ++ numberText (k - 1) ++ (32 ∷ [])) (c .before .before .before .before .before .before .before .before .before .wide .ensures) ∙ condition-is (c .before .before .before .before .before .before .before .before .before .before .before .before .before .args .kind) (c .before .before .before .before .before .before .before .before .before .before .before .before .before .args .bit) (c .before .before .before .before .before .before .before .before .before .before .before .if1 .left))
     (omega arith)
 
 pub condition-spec : {M : Type 1} → statement M

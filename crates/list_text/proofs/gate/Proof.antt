@@ -6,7 +6,7 @@ use Prim.Native.Nat.{ℕ}
 use mathlib.Core.Path.{sym, ap, _∙_}
 use mathlib.Core.List.{_++_, _∷_, []}
 use native.Mathlib.Omega.{arith}
-use Rattle.list_text.specs.Lines.{gateOf, numberOf}
+use Rattle.list_text.specs.Lines.{gateText, numberText}
 use Rattle.list_text.proofs.Texts.{wider, gate-other}
 
 slice-aggregate-named : tie.Need-slice-aggregate-named
@@ -58,49 +58,49 @@ same-length : tie.Need-same-length
 same-length c = search needs
 
 returns : tie.Need-returns
-unfolding gateOf
+unfolding gateText
 returns c =
-    wider _ _ (c .before .before .named .ensures) (sym (ap (λ (k : ℕ). gateOf k (c .before .before .before .before .before .before .before .args .first) (c .before .before .before .before .before .before .before .args .second)) (c .before .before .before .before .before .match .keys1))) (omega arith)
+    wider _ _ (c .before .before .named .ensures) (sym (ap (λ (k : ℕ). gateText k (c .before .before .before .before .before .before .before .args .first) (c .before .before .before .before .before .before .before .args .second)) (c .before .before .before .before .before .match .keys1))) (omega arith)
 
 same-length-2 : tie.Need-same-length-2
 same-length-2 c = search needs
 
 returns-2 : tie.Need-returns-2
-unfolding gateOf
+unfolding gateText
 returns-2 c =
-    wider _ _ (c .before .before .named2 .ensures) (sym (ap (λ (k : ℕ). gateOf k (c .before .before .before .before .before .before .before .args .first) (c .before .before .before .before .before .before .before .args .second)) (c .before .before .before .before .before .match .keys2))) (omega arith)
+    wider _ _ (c .before .before .named2 .ensures) (sym (ap (λ (k : ℕ). gateText k (c .before .before .before .before .before .before .before .args .first) (c .before .before .before .before .before .before .before .args .second)) (c .before .before .before .before .before .match .keys2))) (omega arith)
 
 same-length-3 : tie.Need-same-length-3
 same-length-3 c = search needs
 
 returns-3 : tie.Need-returns-3
-unfolding gateOf
+unfolding gateText
 returns-3 c =
-    wider _ _ (c .before .before .named3 .ensures) (sym (ap (λ (k : ℕ). gateOf k (c .before .before .before .before .before .before .before .args .first) (c .before .before .before .before .before .before .before .args .second)) (c .before .before .before .before .before .match .keys3))) (omega arith)
+    wider _ _ (c .before .before .named3 .ensures) (sym (ap (λ (k : ℕ). gateText k (c .before .before .before .before .before .before .before .args .first) (c .before .before .before .before .before .before .before .args .second)) (c .before .before .before .before .before .match .keys3))) (omega arith)
 
 same-length-4 : tie.Need-same-length-4
 same-length-4 c = search needs
 
 returns-4 : tie.Need-returns-4
-unfolding gateOf
+unfolding gateText
 returns-4 c =
-    wider _ _ (c .before .before .paired .ensures) (sym (ap (λ (k : ℕ). gateOf k (c .before .before .before .before .before .before .before .args .first) (c .before .before .before .before .before .before .before .args .second)) (c .before .before .before .before .before .match .keys4))) (omega arith)
+    wider _ _ (c .before .before .paired .ensures) (sym (ap (λ (k : ℕ). gateText k (c .before .before .before .before .before .before .before .args .first) (c .before .before .before .before .before .before .before .args .second)) (c .before .before .before .before .before .match .keys4))) (omega arith)
 
 same-length-5 : tie.Need-same-length-5
 same-length-5 c = search needs
 
 returns-5 : tie.Need-returns-5
-unfolding gateOf
+unfolding gateText
 returns-5 c =
-    wider _ _ (c .before .before .paired2 .ensures) (sym (ap (λ (k : ℕ). gateOf k (c .before .before .before .before .before .before .before .args .first) (c .before .before .before .before .before .before .before .args .second)) (c .before .before .before .before .before .match .keys5))) (omega arith)
+    wider _ _ (c .before .before .paired2 .ensures) (sym (ap (λ (k : ℕ). gateText k (c .before .before .before .before .before .before .before .args .first) (c .before .before .before .before .before .before .before .args .second)) (c .before .before .before .before .before .match .keys5))) (omega arith)
 
 same-length-6 : tie.Need-same-length-6
 same-length-6 c = search needs
 
 returns-6 : tie.Need-returns-6
-unfolding gateOf
+unfolding gateText
 returns-6 c =
-    wider _ _ (c .before .before .named4 .ensures) (sym (ap (λ (k : ℕ). gateOf k (c .before .before .before .before .before .before .before .args .first) (c .before .before .before .before .before .before .before .args .second)) (c .before .before .before .before .before .match .keys6))) (omega arith)
+    wider _ _ (c .before .before .named4 .ensures) (sym (ap (λ (k : ℕ). gateText k (c .before .before .before .before .before .before .before .args .first) (c .before .before .before .before .before .before .before .args .second)) (c .before .before .before .before .before .match .keys6))) (omega arith)
 
 same-length-7 : tie.Need-same-length-7
 same-length-7 c = search needs
@@ -108,7 +108,7 @@ same-length-7 c = search needs
 returns-7 : tie.Need-returns-7
 returns-7 c =
     let r = c .before .before .before .before .before .before .match .rest in
-    wider _ _ (c .before .before .named5 .ensures) (ap (λ (k : ℕ). (111 ∷ 112 ∷ []) ++ numberOf k) (c .before .before .before .before .wide .ensures) ∙ gate-other (c .before .before .before .before .before .before .before .before .args .op) (c .before .before .before .before .before .before .before .before .args .first) (c .before .before .before .before .before .before .before .before .args .second) (r .0 .0 .0 .0 .0 .1) (r .0 .0 .0 .0 .1) (r .0 .0 .0 .1) (r .0 .0 .1) (r .0 .1) (r .1)) (omega arith)
+    wider _ _ (c .before .before .named5 .ensures) (ap (λ (k : ℕ). (111 ∷ 112 ∷ []) ++ numberText k) (c .before .before .before .before .wide .ensures) ∙ gate-other (c .before .before .before .before .before .before .before .before .args .op) (c .before .before .before .before .before .before .before .before .args .first) (c .before .before .before .before .before .before .before .before .args .second) (r .0 .0 .0 .0 .0 .1) (r .0 .0 .0 .0 .1) (r .0 .0 .0 .1) (r .0 .0 .1) (r .0 .1) (r .1)) (omega arith)
 
 pub gate-spec : {M : Type 1} → statement M
 gate-spec =

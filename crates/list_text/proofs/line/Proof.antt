@@ -7,7 +7,7 @@ use mathlib.Core.List.{[], _∷_, _++_}
 use native.Mathlib.Omega.{arith}
 use lib.ListN.{getD}
 use denote.Ref.{now}
-use Rattle.list_text.specs.Lines.{lineOf, conditionOf, gateOf}
+use Rattle.list_text.specs.Lines.{lineText, conditionText, gateText}
 use Rattle.list_text.proofs.Texts.{then}
 
 shared-slice-read-condition : tie.Need-shared-slice-read-condition
@@ -41,11 +41,11 @@ same-length : tie.Need-same-length
 same-length c = search needs
 
 returns : tie.Need-returns
-unfolding lineOf
+unfolding lineText
 returns c =
     let b = now (c .before .before .before .before .before .before .before .before .before .before .before .before .before .before .before .before .before .before .before .before .args .bytes) in
     then _ _ (then _ 99 (c .before .before .before .before .before .before .before .before .before .before .before .before .before .before .condition .ensures) (c .before .before .before .before .before .before .before .gate .ensures) refl (omega arith)) (c .before .before .put .ensures)
-    (λ j. conditionOf (getD b 1 0) (c .before .before .before .before .before .before .before .before .before .before .before .before .before .before .before .before .two-bytes .ensures j) ++ gateOf (getD b 0 0) (c .before .before .before .before .before .before .before .before .before .before .two-bytes2 .ensures j) (c .before .before .before .before .before .before .before .before .before .two-bytes3 .ensures j) ++ (10 ∷ []))
+    (λ j. conditionText (getD b 1 0) (c .before .before .before .before .before .before .before .before .before .before .before .before .before .before .before .before .two-bytes .ensures j) ++ gateText (getD b 0 0) (c .before .before .before .before .before .before .before .before .before .before .two-bytes2 .ensures j) (c .before .before .before .before .before .before .before .before .before .two-bytes3 .ensures j) ++ (10 ∷ []))
     (omega arith)
 
 pub line-spec : {M : Type 1} → statement M

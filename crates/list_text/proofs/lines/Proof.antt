@@ -8,23 +8,23 @@ use native.Mathlib.Nat.{sub-self}
 use denote.Ref.{now}
 use native.Mathlib.Omega.{arith}
 use lib.ListN.{length, take, drop, length-take, length-drop}
-use Rattle.list_text.specs.Lines.{lineOf, linesOf}
+use Rattle.list_text.specs.Lines.{lineText, linesText}
 use Rattle.list_text.proofs.Texts.{lines-more}
 use borrow.Author.Tests.{leb-true, leb-false}
 use Rattle.io.proofs.Counting.{counts}
 
 abbrev Inv-loop : tie.InvT-loop
 Inv-loop records first total text₀ next₀ size₀ text next size =
-    (first ≤ next) × (next ≤ total) × (take size text ≡ linesOf records first (next - first)) × (size ≤ length text) × (length text ≡ length text₀) × (size ≤ 128 * (next - first))
+    (first ≤ next) × (next ≤ total) × (take size text ≡ linesText records first (next - first)) × (size ≤ length text) × (length text ≡ length text₀) × (size ≤ 128 * (next - first))
 
 abbrev μ-loop : tie.MeasureT-loop
 μ-loop records first total text₀ next₀ size₀ text next size =
     total - next
 
 loop-holds : tie.Need-loop-holds Inv-loop μ-loop
-unfolding linesOf
+unfolding linesText
 loop-holds c =
-    (omega arith, omega arith, sym (ap (linesOf (now (c .before .before .args .records)) (c .before .before .args .first)) (sub-self (c .before .before .args .first))), omega arith, refl, omega arith)
+    (omega arith, omega arith, sym (ap (linesText (now (c .before .before .args .records)) (c .before .before .args .first)) (sub-self (c .before .before .args .first))), omega arith, refl, omega arith)
 
 sub-if1 : tie.Need-sub-if1 Inv-loop μ-loop
 sub-if1 c =
@@ -70,10 +70,10 @@ loop-again c =
     let k : length (c .before .before .line .last .1 .0) ≡ length (c .before .before .before .before .before .before .before .loop .text) = c .before .before .line .kept .1 .0 in
     let s : length (c .before .before .before .before .before .before .before .loop .text) ≡ length (now (c .before .before .before .before .before .before .before .before .before .before .args .text)) = c .before .before .before .before .before .before .before .loop .inv .4 in
     let e : 8 * c .before .before .before .before .before .before .before .loop .next + 8 - 8 * c .before .before .before .before .before .before .before .loop .next ≡ 8 = omega arith in
-    let t : take (c .before .before .line .result) (c .before .before .line .last .1 .0) ≡ linesOf (now (c .before .before .before .before .before .before .before .before .before .before .args .records)) (c .before .before .before .before .before .before .before .before .before .before .args .first) (c .before .before .before .before .before .before .before .loop .next + 1 - c .before .before .before .before .before .before .before .before .before .before .args .first) =
+    let t : take (c .before .before .line .result) (c .before .before .line .last .1 .0) ≡ linesText (now (c .before .before .before .before .before .before .before .before .before .before .args .records)) (c .before .before .before .before .before .before .before .before .before .before .args .first) (c .before .before .before .before .before .before .before .loop .next + 1 - c .before .before .before .before .before .before .before .before .before .before .args .first) =
     c .before .before .line .ensures .text
-    ∙ ap (λ (l : List ℕ). l ++ lineOf (take (8 * c .before .before .before .before .before .before .before .loop .next + 8 - 8 * c .before .before .before .before .before .before .before .loop .next) (drop (8 * c .before .before .before .before .before .before .before .loop .next) (now (c .before .before .before .before .before .before .before .before .before .before .args .records))))) (c .before .before .before .before .before .before .before .loop .inv .2)
-    ∙ ap (λ (n : ℕ). linesOf (now (c .before .before .before .before .before .before .before .before .before .before .args .records)) (c .before .before .before .before .before .before .before .before .before .before .args .first) (c .before .before .before .before .before .before .before .loop .next - c .before .before .before .before .before .before .before .before .before .before .args .first) ++ lineOf (take n (drop (8 * c .before .before .before .before .before .before .before .loop .next) (now (c .before .before .before .before .before .before .before .before .before .before .args .records))))) e
+    ∙ ap (λ (l : List ℕ). l ++ lineText (take (8 * c .before .before .before .before .before .before .before .loop .next + 8 - 8 * c .before .before .before .before .before .before .before .loop .next) (drop (8 * c .before .before .before .before .before .before .before .loop .next) (now (c .before .before .before .before .before .before .before .before .before .before .args .records))))) (c .before .before .before .before .before .before .before .loop .inv .2)
+    ∙ ap (λ (n : ℕ). linesText (now (c .before .before .before .before .before .before .before .before .before .before .args .records)) (c .before .before .before .before .before .before .before .before .before .before .args .first) (c .before .before .before .before .before .before .before .loop .next - c .before .before .before .before .before .before .before .before .before .before .args .first) ++ lineText (take n (drop (8 * c .before .before .before .before .before .before .before .loop .next) (now (c .before .before .before .before .before .before .before .before .before .before .args .records))))) e
     ∙ sym (lines-more (now (c .before .before .before .before .before .before .before .before .before .before .args .records)) (c .before .before .before .before .before .before .before .before .before .before .args .first) (c .before .before .before .before .before .before .before .loop .next) (c .before .before .before .before .before .before .before .loop .inv .0)) in
     (omega arith, omega arith, t, omega arith, k ∙ s, omega arith)
 

@@ -8,7 +8,7 @@ use Prim.Native.Nat.{ℕ, _+_, _≤_}
 use native.Mathlib.Omega.{arith}
 use lib.ListN.{length, take}
 use denote.Ref.{now}
-use Rattle.list_text.specs.Lines.{numberOf}
+use Rattle.list_text.specs.Lines.{numberText}
 use Rattle.list_text.proofs.Texts.{then, digits-are, digits-fit}
 
 decimal-requires : tie.Need-decimal-requires
@@ -39,7 +39,7 @@ same-length : tie.Need-same-length
 same-length c = search needs
 
 returns : tie.Need-returns
-unfolding numberOf
+unfolding numberText
 returns c =
     let fit : c .before .before .before .before .before .before .before .before .before .before .decimal .result ≤ 20 = digits-fit (c .before .before .before .before .before .before .before .before .before .before .decimal .result) (c .before .before .before .before .before .before .before .before .before .before .before .before .before .args .n) (omega arith) (c .before .before .before .before .before .before .before .before .before .before .decimal .ensures .1 .0) in
     let size : c .before .before .before .before .before .before .before .before .before .before .decimal .result ≡ length (take (c .before .before .before .before .before .before .before .before .before .before .decimal .result) (c .before .before .before .before .before .before .before .before .before .before .decimal .last .1 .0)) = c .before .before .before .before .before .before .before .before .before .before .decimal .ensures .0 .1 in
