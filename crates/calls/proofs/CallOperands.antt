@@ -23,7 +23,7 @@ use Rattle.operands.proofs.OperandMeaning.{the-type as stands-type}
 use Rattle.fields.specs.declared.Header.the-variants.{Whole, End, Cut}
 use Rattle.fields.proofs.Between.{lookIn, in-whole}
 use Rattle.calls.specs.declared.Gathered.the-variants.{Are, Over as gOver, Stuck as gStuck}
-use Rattle.calls.specs.Arguments.{operandArguments, gatheredOperand, gatheredOperands, Unfit, OperandsKept, KeepsMore, OperandsGathered, hands, ends, sticks}
+use Rattle.calls.specs.Arguments.{operandNumbers, operandArguments, gatheredOperand, gatheredOperands, Unfit, OperandsKept, KeepsMore, OperandsGathered, hands, ends, sticks}
 use Rattle.calls.proofs.ArgumentLists.{Lister, Sofar, ListLeads, Skipped, led, sofar-start, sofar-end, sofar-cut, sofar-skip, sofar-more, sofar-over, sofar-stuck}
 
 -- ---- operands that no family takes
@@ -72,6 +72,10 @@ unfit-long ms m h types e = all-take-long types (ms ++ (m ∷ [])) (λ f. omega 
 
 -- ---- one operand more
 
+-- more operands than any family takes
+abbrev tooMany : ℕ
+tooMany = mostParameters + 1
+
 pub handed-more : (k f s n : ℕ) (l : List ℕ) → 3 * n + 2 < length l
     → gatheredOperands (take (3 * (n + 1)) (set (set (set l (3 * n) k) (3 * n + 1) f) (3 * n + 2) s)) ≡ gatheredOperands (take (3 * n) l) ++ (gatheredOperand k f s ∷ [])
 unfolding gatheredOperands
@@ -98,15 +102,15 @@ give-same : {m n : Meaning} → give m ≡ give n → m ≡ n
 give-same {m} {n} e = let d : _≡_ {A = Outcome Meaning} (going m begin) (going n begin) = ap (λ (r : Run Meaning). r begin) e in cc
 
 module _ (given : List ℕ) (n : ℕ) (s : OperandMeaning) where
-  -- a ninth operand
-  pub keeps-long : length given ≡ 24 → 8 ≤ n → KeepsMore given n s given 9
-  keeps-long z h p ms m e k = record { same = λ i. absurd (omega arith); unfit = λ i. go (leb n 8) (leb-true n 8) (leb-false n 8) }
+  -- one operand more than any family takes
+  pub keeps-long : length given ≡ operandNumbers → mostParameters ≤ n → KeepsMore given n s given tooMany
+  keeps-long z h p ms m e k = record { same = λ i. absurd (omega arith); unfit = λ i. go (leb n mostParameters) (leb-true n mostParameters) (leb-false n mostParameters) }
     where
-      go : (b : Bool) → (b ≡ true → n ≤ 8) → (b ≡ false → 8 < n) → Unfit (ms ++ (m ∷ []))
+      go : (b : Bool) → (b ≡ true → n ≤ mostParameters) → (b ≡ false → mostParameters < n) → Unfit (ms ++ (m ∷ []))
       go true f g = let i = f refl in unfit-long ms m (rw (k .same i) (omega (arith, handed-length n given (omega arith))))
       go false f g = unfit-more ms m (k .unfit (g refl))
 
-  module _ (h : n < 8) where
+  module _ (h : n < mostParameters) where
     pub keeps-quantum : (kind first size : ℕ) (after : List ℕ) → ((p : Place) → meaningTold p s ≡ give (gatheredOperand kind first size))
         → gatheredOperands (take (3 * (n + 1)) after) ≡ gatheredOperands (take (3 * n) given) ++ (gatheredOperand kind first size ∷ []) → KeepsMore given n s after (n + 1)
     keeps-quantum kind first size after f g p ms m e k = record {
@@ -114,14 +118,14 @@ module _ (given : List ℕ) (n : ℕ) (s : OperandMeaning) where
       unfit = λ i. absurd (omega arith);
     }
 
-    pub keeps-classical : (c : Meaning) → ((p : Place) → meaningTold p s ≡ give c) → isWire c ≡ false → isQuantum c ≡ false → KeepsMore given n s given 9
+    pub keeps-classical : (c : Meaning) → ((p : Place) → meaningTold p s ≡ give c) → isWire c ≡ false → isQuantum c ≡ false → KeepsMore given n s given tooMany
     keeps-classical c f x y p ms m e k = record { same = λ i. absurd (omega arith); unfit = λ i. rw (give-same (sym e ∙ f p)) (λ types j. all-take-classical types ms c x y) }
 
-    pub keeps-over : s ≡ Over → KeepsMore given n s given 9
+    pub keeps-over : s ≡ Over → KeepsMore given n s given tooMany
     unfolding meaningTold
     keeps-over f p ms m e k = absurd (let d : _≡_ {A = Outcome Meaning} (meaningTold p Over begin) (going m begin) = ap (λ (r : Run Meaning). r begin) (ap (meaningTold p) (sym f) ∙ e) in let z : _≡_ {A = ℕ} 0 1 = cc in omega arith)
 
-    pub keeps-stuck : s ≡ Stuck → KeepsMore given n s given 9
+    pub keeps-stuck : s ≡ Stuck → KeepsMore given n s given tooMany
     unfolding meaningTold
     keeps-stuck f p ms m e k = absurd (let d : _≡_ {A = Outcome Meaning} (meaningTold p Stuck begin) (going m begin) = ap (λ (r : Run Meaning). r begin) (ap (meaningTold p) (sym f) ∙ e) in let z : _≡_ {A = ℕ} 0 1 = cc in omega arith)
 

@@ -26,7 +26,8 @@ use Rattle.calls.specs.declared.Taken.{Taken}
 use Rattle.calls.specs.declared.Taken.the-variants.{All, Over, Stuck}
 use Rattle.calls.proofs.Gathered.{the-type as gathered-type}
 use Rattle.calls.specs.Families.{FamilyHead, declaredAt, BodyFrom}
-use Rattle.calls.specs.Arguments.{argumentsIn, sizeArguments, operandArguments, gatheredOperand, gatheredOperands, Gives, SizesGathered, are, over, stuck, OperandsKept, OperandsGathered, hands, ends, sticks, taking, Fitting, Scopes, given, BodyBegins, Arguments}
+use Rattle.language.specs.Limits.{mostParameters}
+use Rattle.calls.specs.Arguments.{argumentsIn, sizeArguments, operandArguments, operandNumbers, gatheredOperand, gatheredOperands, Gives, SizesGathered, are, over, stuck, OperandsKept, OperandsGathered, hands, ends, sticks, taking, Fitting, Scopes, given, BodyBegins, Arguments}
 use Rattle.fields.proofs.Parts.{not-first}
 
 -- a family takes these sizes and operands, or does not
@@ -143,7 +144,7 @@ module _ (l program : List ℕ) (at : ℕ) (values : List ℤ) (ms : List Meanin
     pub all-fit : (f : Fit) (start : ℕ) → FamilyHead program at → Fitting program at k n hand f → f ≡ From start → Arguments l program at values ms stored hand (All n start)
     unfolding entered given Fitting BodyBegins
     all-fit f start h v i =
-        let u : (taking program at k (gatheredOperands (take (3 * n) hand)) ≡ true) × BodyFrom program at start × (n ≤ 8) = rw i at v in
+        let u : (taking program at k (gatheredOperands (take (3 * n) hand)) ≡ true) × BodyFrom program at start × (n ≤ mostParameters) = rw i at v in
         let j : kept .0 ≡ gatheredOperands (take (3 * n) hand) = kept .2 .same (u .2) in
         let y : taking program at k (kept .0) ≡ true = rw j (u .0) in
         let m : k ≡ getD program (at + 3) 0 = eqb-true k (getD program (at + 3) 0) (first (eqb k (getD program (at + 3) 0)) _ y) in
@@ -187,11 +188,11 @@ handed-from l j h =
     let i : j + 3 ≡ suc (suc (suc j)) = omega arith in
     rw (x, y, i, a, b, c)
 
-eight : (l : List ℕ) → length l ≡ 24 → gatheredOperands l ≡ (one l 0 ∷ one l 3 ∷ one l 6 ∷ one l 9 ∷ one l 12 ∷ one l 15 ∷ one l 18 ∷ one l 21 ∷ [])
+eight : (l : List ℕ) → length l ≡ operandNumbers → gatheredOperands l ≡ (one l 0 ∷ one l 3 ∷ one l 6 ∷ one l 9 ∷ one l 12 ∷ one l 15 ∷ one l 18 ∷ one l 21 ∷ [])
 unfolding gatheredOperands
 eight l h = rw (handed-from l 0 (omega arith), handed-from l 3 (omega arith), handed-from l 6 (omega arith), handed-from l 9 (omega arith), handed-from l 12 (omega arith), handed-from l 15 (omega arith), handed-from l 18 (omega arith), handed-from l 21 (omega arith), drop-of-length-le l {i = 24} (omega arith)) refl
 
-pub scopes : (hand : List ℕ) (n : ℕ) (s : Scope) → length hand ≡ 24 → s .top ≡ false → s .count ≡ n
+pub scopes : (hand : List ℕ) (n : ℕ) (s : Scope) → length hand ≡ operandNumbers → s .top ≡ false → s .count ≡ n
     → map ofParameter (s .params) ≡ (one hand 0 ∷ one hand 3 ∷ one hand 6 ∷ one hand 9 ∷ one hand 12 ∷ one hand 15 ∷ one hand 18 ∷ one hand 21 ∷ []) → Scopes hand n s
 unfolding operandsOf
 scopes hand n s z a b e = record { same = λ regs. rw (a, b) (map-take n (s .params) ∙ ap (take n) (e ∙ sym (eight hand z)) ∙ sym (take-handed n hand)) }

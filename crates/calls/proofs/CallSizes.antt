@@ -14,13 +14,13 @@ use Rattle.language.specs.Form.{inRange}
 use Rattle.language.proofs.Integers.{integers, range-true}
 use lib.ListN.{length, take, set, length-append}
 use lib.Seq.{slice, take-suc-set}
-use Rattle.language.specs.Limits.{mostVariables}
+use Rattle.language.specs.Limits.{mostVariables, deepest}
 use Rattle.language.specs.Tree.{Place, index, operand, badArgument}
 use Rattle.language.specs.Read.{field, readArgument, readIndex, readOperand, indexBy, choose, isIndexTag, isOperandTag}
 use Rattle.language.specs.Machine.{Meaning, noMeaning, after, _>>=_, sizesOf, evaluate}
 use Rattle.indexes.specs.declared.Value.{Value}
 use Rattle.indexes.specs.declared.Value.the-variants.{Is, Over, Stuck}
-use Rattle.indexes.specs.Values.{valueTold, IndexIs}
+use Rattle.indexes.specs.Values.{mostValues, valueTold, IndexIs}
 use Rattle.operands.specs.Meanings.{frameOf}
 use Rattle.fields.specs.declared.Header.the-variants.{Whole, End, Cut}
 use Rattle.fields.proofs.Between.{lookIn, in-whole}
@@ -60,18 +60,18 @@ module _ (values : List ℤ) (ms : List Meaning) (tag : ℕ) (content : List ℕ
   operand-skipped h q t d c more = rw (operand-no-index tag h, h)
 
   -- a field of another tag is no index
-  no-index : isIndexTag tag ≡ false → (q t : Place) → evaluate q values (readIndex 16 (field t tag content)) ≡ noMeaning
+  no-index : isIndexTag tag ≡ false → (q t : Place) → evaluate q values (readIndex deepest (field t tag content)) ≡ noMeaning
   unfolding readIndex indexBy choose evaluate
   no-index h q t = rw (ne-eqb tag 64 (λ e. other e h refl), ne-eqb tag 65 (λ e. other e h refl), ne-eqb tag 66 (λ e. other e h refl), ne-eqb tag 67 (λ e. other e h refl), ne-eqb tag 68 (λ e. other e h refl)) refl
     where
       other : {n : ℕ} → tag ≡ n → isIndexTag tag ≡ false → isIndexTag n ≡ true → ⊥
       other e h f = let z : _≡_ {A = Bool} true false = sym f ∙ ap isIndexTag (sym e) ∙ h in let y : _≡_ {A = ℕ} 0 1 = cc in omega arith
 
-  pub index-leads : isOperandTag tag ≡ false → (v : Value) → IndexIs tag content 16 values v → ListLeads (sizesBy values ms) tag content (λ q. valueTold q v)
+  pub index-leads : isOperandTag tag ≡ false → (v : Value) → IndexIs tag content deepest values v → ListLeads (sizesBy values ms) tag content (λ q. valueTold q v)
   unfolding readArgument sizesOf led _>>=_ after
   index-leads h v w q t d c more = rw (w .same q t) (go (isIndexTag tag) refl)
     where
-      go : (b : Bool) → isIndexTag tag ≡ b → sizesOf q (frameOf d c values ms) (cond b (index t (readIndex 16 (field t tag content))) (cond (isOperandTag tag) (operand t (readOperand (field t tag content))) (badArgument 3 t)) ∷ more) ≡ led (evaluate q values (readIndex 16 (field t tag content))) (sizesOf q (frameOf d c values ms) more)
+      go : (b : Bool) → isIndexTag tag ≡ b → sizesOf q (frameOf d c values ms) (cond b (index t (readIndex deepest (field t tag content))) (cond (isOperandTag tag) (operand t (readOperand (field t tag content))) (badArgument 3 t)) ∷ more) ≡ led (evaluate q values (readIndex deepest (field t tag content))) (sizesOf q (frameOf d c values ms) more)
       go true e = refl
       go false e = rw (h, no-index e q t)
 
@@ -101,7 +101,7 @@ module _ (l : List ℕ) (from to : ℕ) (values : List ℤ) (ms : List Meaning) 
         kept = s .kept;
       }
 
-      module _ (h : isOperandTag tag ≡ false) (v : Value) (w : IndexIs tag (slice (at + 3) next l) 16 values v) where
+      module _ (h : isOperandTag tag ≡ false) (v : Value) (w : IndexIs tag (slice (at + 3) next l) deepest values v) where
         leads : ListLeads (sizesBy values ms) tag (slice (at + 3) next l) (λ q. valueTold q v)
         leads = index-leads values ms tag (slice (at + 3) next l) h v w
 
@@ -113,7 +113,7 @@ module _ (l : List ℕ) (from to : ℕ) (values : List ℤ) (ms : List Meaning) 
         unfolding valueTold
         sizes-stuck f = stuck (sofar-stuck (sizesBy values ms) l from to at (s .low) (s .sizes) (s .sofar) tag next e (λ q. valueTold q v) leads (λ q. ap (valueTold q) f))
 
-        pub sizes-more : (z : ℤ) (after : List ℤ) → v ≡ Is z → (k < 4 → after ≡ set stored k z) → length stored ≡ 20 → Sizing l from to values after ms next (k + 1)
+        pub sizes-more : (z : ℤ) (after : List ℤ) → v ≡ Is z → (k < mostVariables → after ≡ set stored k z) → length stored ≡ mostValues → Sizing l from to values after ms next (k + 1)
         unfolding valueTold
         sizes-more z after f g n = record {
           sizes = s .sizes ++ (z ∷ []);

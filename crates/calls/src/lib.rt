@@ -6,18 +6,31 @@ ghost use lib.ListN.{length, getD, set, take};
 ghost use lib.Seq.{slice};
 ghost use mathlib.Core.Bool.{true};
 ghost use Rattle.language.specs.Form.{inRange};
+ghost use Rattle.language.specs.Limits.{mostVariables, mostParameters};
 ghost use Rattle.language.specs.Read.{isIndexTag, isOperandTag};
 ghost use Rattle.fields.specs.Table.{pastOf};
+ghost use Rattle.indexes.specs.Values.{mostValues};
 ghost use Rattle.operands.specs.Meanings.{operandsOf, ofParameter};
 ghost use Rattle.calls.specs.Families.{FamilyHead, PastFields, BodyFrom};
-ghost use Rattle.calls.specs.Arguments.{gatheredOperand, gatheredOperands, operandArguments, SizesAre, KeepsMore, OperandsGathered, Takes, Fits, Fitting, Scopes, Arguments};
+ghost use Rattle.calls.specs.Arguments.{operandNumbers, gatheredOperand, gatheredOperands, operandArguments, SizesAre, KeepsMore, OperandsGathered, Takes, Fits, Fitting, Scopes, Arguments};
 use fields::Header;
+use indexes::VALUES;
 use indexes::Value;
+use limits::DEEPEST;
+use limits::MOST_PARAMETERS;
+use limits::MOST_VARIABLES;
 use operands::Operand;
-use operands::Parameter;
-use operands::Scope;
 use operands::OperandMeaning;
+use operands::Parameter;
+use operands::REGISTER_NUMBERS;
+use operands::Scope;
 use operands::Wire;
+
+// A call's operands are gathered with three numbers for each.
+pub const OPERAND_NUMBERS: usize = 3 * MOST_PARAMETERS;
+
+// More operands than any family takes.
+const TOO_MANY: usize = MOST_PARAMETERS + 1;
 
 // The position past the field at `at`.
 pub fn past(program: &[u8], at: usize) -> usize
@@ -76,43 +89,38 @@ pub enum Gathered {
 fn is_index(tag: u8) -> bool
     ensures { λ r. ⌜ r ≡ isIndexTag tag ⌝ }
 {
-    64 <= tag && tag <= 68
+    fields::LITERAL <= tag && tag <= fields::PRODUCT
 }
 
 // Whether a field with this tag is an operand.
 fn is_operand(tag: u8) -> bool
     ensures { λ r. ⌜ r ≡ isOperandTag tag ⌝ }
 {
-    48 <= tag && tag <= 49
+    fields::WHOLE <= tag && tag <= fields::ELEMENT
 }
 
-// An array tells how long it is.
-fn tell_sizes(sizes: [i32; 20])
-    ensures { λ _. ⌜ length sizes ≡ 20 ⌝ }
-{}
-
-// Stores a size if it is one of the first four.
-fn store(sizes: &mut [i32; 20], k: usize, z: i64)
+// Stores a size if it is one of the first that a family can have.
+fn store(sizes: &mut [i32; VALUES], k: usize, z: i64)
     requires { ⌜ inRange z ≡ true ⌝ }
-    ensures { λ _. ⌜ (k < 4 → now (sizes .exit) ≡ set (now (sizes .entry)) k z) × (length (now (sizes .entry)) ≡ 20) ⌝ }
+    ensures { λ _. ⌜ (k < mostVariables → now (sizes .exit) ≡ set (now (sizes .entry)) k z) × (length (now (sizes .entry)) ≡ mostValues) ⌝ }
 {
-    tell_sizes(*sizes);
-    if k < 4 {
+    indexes::tell_values(*sizes);
+    if k < MOST_VARIABLES {
         sizes[k] = z as i32;
     }
 }
 
-// The sizes among the arguments from `from` to `to`. The first four are stored.
+// The sizes among the arguments from `from` to `to`. The first that a family can have are stored.
 fn sizes_of(
     bytes: &[u8],
     from: usize,
     to: usize,
-    vars: &[i32; 20],
+    vars: &[i32; VALUES],
     many: usize,
-    sizes: &mut [i32; 20],
+    sizes: &mut [i32; VALUES],
 ) -> Gathered
     requires { ⌜ to ≤ length (now bytes) ⌝ }
-    requires { ⌜ many ≤ 20 ⌝ }
+    requires { ⌜ many ≤ mostValues ⌝ }
     ensures { λ r. ⌜ SizesAre (slice from to (now (bytes .entry))) (take many (now (vars .entry))) (now (sizes .exit)) r ⌝ }
 {
     let mut at = from;
@@ -127,7 +135,7 @@ fn sizes_of(
                     at = next;
                     continue;
                 }
-                match indexes::evaluate(bytes, content, next, tag, vars, many, 16) {
+                match indexes::evaluate(bytes, content, next, tag, vars, many, DEEPEST) {
                     Value::Over => return Gathered::Over,
                     Value::Stuck => return Gathered::Stuck,
                     Value::Is(z) => {
@@ -142,13 +150,13 @@ fn sizes_of(
 }
 
 // An array tells how long it is.
-fn tell_given(given: [u16; 24])
-    ensures { λ _. ⌜ length given ≡ 24 ⌝ }
+fn tell_given(given: [u16; OPERAND_NUMBERS])
+    ensures { λ _. ⌜ length given ≡ operandNumbers ⌝ }
 {}
 
 // Puts an operand behind the n that are gathered: the tag of its type, its first wire and its size.
-fn put(given: &mut [u16; 24], n: usize, kind: u16, first: u16, size: u16)
-    requires { ⌜ n < 8 ⌝ }
+fn put(given: &mut [u16; OPERAND_NUMBERS], n: usize, kind: u16, first: u16, size: u16)
+    requires { ⌜ n < mostParameters ⌝ }
     ensures { λ _. ⌜ gatheredOperands (take (3 * (n + 1)) (now (given .exit))) ≡ gatheredOperands (take (3 * n) (now (given .entry))) ++ (gatheredOperand kind first size ∷ []) ⌝ }
 {
     tell_given(*given);
@@ -160,13 +168,14 @@ fn put(given: &mut [u16; 24], n: usize, kind: u16, first: u16, size: u16)
     given[third] = size;
 }
 
-// One operand more than the n that are gathered. No family takes a classical one, or a ninth: then the answer is 9.
-fn keep(given: &mut [u16; 24], n: usize, s: OperandMeaning) -> usize
+// One operand more than the n that are gathered. No family takes a classical one, or so many: then the answer is
+// TOO_MANY.
+fn keep(given: &mut [u16; OPERAND_NUMBERS], n: usize, s: OperandMeaning) -> usize
     ensures { λ r. ⌜ KeepsMore (now (given .entry)) n s (now (given .exit)) r ⌝ }
 {
     tell_given(*given);
-    if 8 <= n {
-        return 9;
+    if MOST_PARAMETERS <= n {
+        return TOO_MANY;
     }
     let more = n + 1;
     match s {
@@ -179,16 +188,16 @@ fn keep(given: &mut [u16; 24], n: usize, s: OperandMeaning) -> usize
             return more;
         }
         OperandMeaning::ABit(_) => {
-            return 9;
+            return TOO_MANY;
         }
         OperandMeaning::Bits(_, _) => {
-            return 9;
+            return TOO_MANY;
         }
         OperandMeaning::Over => {
-            return 9;
+            return TOO_MANY;
         }
         OperandMeaning::Stuck => {
-            return 9;
+            return TOO_MANY;
         }
     }
 }
@@ -198,14 +207,14 @@ fn operands_of(
     bytes: &[u8],
     from: usize,
     to: usize,
-    vars: &[i32; 20],
+    vars: &[i32; VALUES],
     many: usize,
     scope: Scope,
-    regs: &[u16; 765],
-    given: &mut [u16; 24],
+    regs: &[u16; REGISTER_NUMBERS],
+    given: &mut [u16; OPERAND_NUMBERS],
 ) -> Gathered
     requires { ⌜ to ≤ length (now bytes) ⌝ }
-    requires { ⌜ many ≤ 20 ⌝ }
+    requires { ⌜ many ≤ mostValues ⌝ }
     ensures { λ r. ⌜ OperandsGathered (operandArguments (slice from to (now (bytes .entry))) (take many (now (vars .entry))) (operandsOf scope (now (regs .entry)))) (now (given .exit)) r ⌝ }
 {
     let mut at = from;
@@ -251,9 +260,9 @@ pub enum Fit {
 }
 
 // Whether the first n operands are of the kinds that the n type fields from `from` on say.
-fn fits(bytes: &[u8], from: usize, to: usize, n: usize, given: &[u16; 24]) -> Fit
+fn fits(bytes: &[u8], from: usize, to: usize, n: usize, given: &[u16; OPERAND_NUMBERS]) -> Fit
     requires { ⌜ (from ≤ to) × (to ≤ length (now bytes)) ⌝ }
-    requires { ⌜ n ≤ 8 ⌝ }
+    requires { ⌜ n ≤ mostParameters ⌝ }
     ensures { λ r. ⌜ Fits (now (bytes .entry)) from to n (now (given .entry)) r ⌝ }
 {
     tell_given(*given);
@@ -275,7 +284,7 @@ fn fits(bytes: &[u8], from: usize, to: usize, n: usize, given: &[u16; 24]) -> Fi
 }
 
 // Whether the family whose field is at `at` takes k sizes and the first n operands gathered, and if so where its body begins.
-fn fitting(program: &[u8], at: usize, k: usize, n: usize, given: &[u16; 24]) -> Fit
+fn fitting(program: &[u8], at: usize, k: usize, n: usize, given: &[u16; OPERAND_NUMBERS]) -> Fit
     requires { ⌜ FamilyHead (now program) at ⌝ }
     ensures { λ r. ⌜ Fitting (now (program .entry)) at k n (now (given .entry)) r ⌝ }
 {
@@ -292,8 +301,8 @@ fn fitting(program: &[u8], at: usize, k: usize, n: usize, given: &[u16; 24]) -> 
 }
 
 // The parameter whose three numbers begin at i.
-fn parameter(given: &[u16; 24], i: usize) -> Parameter
-    requires { ⌜ i + 2 < 24 ⌝ }
+fn parameter(given: &[u16; OPERAND_NUMBERS], i: usize) -> Parameter
+    requires { ⌜ i + 2 < operandNumbers ⌝ }
     ensures { λ r. ⌜ ofParameter r ≡ gatheredOperand (getD (now (given .entry)) i 0) (getD (now (given .entry)) (i + 1) 0) (getD (now (given .entry)) (i + 2) 0) ⌝ }
 {
     let second = i + 1;
@@ -311,7 +320,7 @@ fn parameter(given: &[u16; 24], i: usize) -> Parameter
 }
 
 // The scope of the first `count` operands gathered.
-pub fn scope_of(given: &[u16; 24], count: u8) -> Scope
+pub fn scope_of(given: &[u16; OPERAND_NUMBERS], count: u8) -> Scope
     ensures { λ r. ⌜ Scopes (now (given .entry)) count r ⌝ }
 {
     tell_given(*given);
@@ -347,15 +356,15 @@ pub fn arguments(
     to: usize,
     program: &[u8],
     at: usize,
-    vars: &[i32; 20],
+    vars: &[i32; VALUES],
     many: usize,
     scope: Scope,
-    regs: &[u16; 765],
-    sizes: &mut [i32; 20],
-    given: &mut [u16; 24],
+    regs: &[u16; REGISTER_NUMBERS],
+    sizes: &mut [i32; VALUES],
+    given: &mut [u16; OPERAND_NUMBERS],
 ) -> Taken
     requires { ⌜ to ≤ length (now bytes) ⌝ }
-    requires { ⌜ many ≤ 20 ⌝ }
+    requires { ⌜ many ≤ mostValues ⌝ }
     requires { ⌜ FamilyHead (now program) at ⌝ }
     ensures { λ r. ⌜ Arguments (slice from to (now (bytes .entry))) (now (program .entry)) at (take many (now (vars .entry))) (operandsOf scope (now (regs .entry))) (now (sizes .exit)) (now (given .exit)) r ⌝ }
 {

@@ -15,6 +15,7 @@ use lib.Seq.{slice, take-suc-set}
 use lib.Signed.{ltZ}
 use Rattle.language.proofs.Integers.{integers, range-true}
 use Rattle.language.specs.Form.{inRange}
+use Rattle.language.specs.Limits.{mostParameters, mostWires}
 use Rattle.language.specs.Tree.{Place, ParameterType}
 use Rattle.language.specs.Read.{field, fields, readType, typesOf, due, choose, readQbit, qbitsOf}
 use Rattle.language.specs.Machine.{Meaning, wires, Run, Outcome, going, ended, stuck, give, endAt, noMeaning, laidOut, sizeOf, layout, after, _>>=_, _>>_}
@@ -48,20 +49,20 @@ natural-small (negsuc n) h = omega (integers, range-true)
 
 -- ---- one parameter
 
-laid-past : {A : Type 0} (p : Place) (n : ℕ) (then : Run A) → 65535 < n → endAt 23 p ≡ (laidOut p n >> then)
+laid-past : {A : Type 0} (p : Place) (n : ℕ) (then : Run A) → mostWires < n → endAt 23 p ≡ (laidOut p n >> then)
 unfolding laidOut _>>_ after
-laid-past p n then h = rw (lt-leb n 65535 h)
+laid-past p n then h = rw (lt-leb n mostWires h)
 
-laid-on : {A : Type 0} (p : Place) (n : ℕ) (then : Run A) → n ≤ 65535 → then ≡ (laidOut p n >> then)
+laid-on : {A : Type 0} (p : Place) (n : ℕ) (then : Run A) → n ≤ mostWires → then ≡ (laidOut p n >> then)
 unfolding laidOut _>>_ after
-laid-on p n then h = rw (le-leb n 65535 h)
+laid-on p n then h = rw (le-leb n mostWires h)
 
 module _ (next : ℕ) where
-  pub wire-past : 65535 < next + 1 → WireFrom next Past
+  pub wire-past : mostWires < next + 1 → WireFrom next Past
   unfolding placed WithinWires
   wire-past h = record { same = λ p rest. laid-past p (next + 1) _ h; within = tt }
 
-  pub wire-fits : (w : Wire) → w .0 ≡ next → next + 1 ≤ 65535 → WireFrom next (Fits (Single w) (next + 1))
+  pub wire-fits : (w : Wire) → w .0 ≡ next → next + 1 ≤ mostWires → WireFrom next (Fits (Single w) (next + 1))
   unfolding placed WithinWires parameterOf
   wire-fits w e h = record { same = λ p rest. rw e (laid-on p (next + 1) _ h); within = h }
 
@@ -71,11 +72,11 @@ module _ (next : ℕ) where
   register-negative (negsuc n) h = record { same = λ p rest. refl; within = tt }
 
   module _ (z : ℤ) (n : ℕ) (natural : z ≡ pos n) where
-    pub register-past : 65535 < next + n → RegisterFrom z next Past
+    pub register-past : mostWires < next + n → RegisterFrom z next Past
     unfolding placed WithinWires sizeOf _>>=_ after
     register-past h = record { same = λ p rest. rw natural (laid-past p (next + n) _ h); within = tt }
 
-    pub register-fits : (w : Wire) → w .0 ≡ next → next + n ≤ 65535 → RegisterFrom z next (Fits (Register w n) (next + n))
+    pub register-fits : (w : Wire) → w .0 ≡ next → next + n ≤ mostWires → RegisterFrom z next (Fits (Register w n) (next + n))
     unfolding placed WithinWires sizeOf _>>=_ after parameterOf
     register-fits w e h =
         let whole : clipped next n ≡ n = omega arith in
@@ -147,16 +148,16 @@ typesLeft l to count at i place = typesOf place (count - i) (fields at (slice at
 -- the parameters of a family, of which i are laid out, and their types end at `at`
 pub record Laying (l : List ℕ) (from to count : ℕ) (values : List ℤ) (params : List Parameter) (at next i : ℕ) : Type 0 where
   pub low : i ≤ count
-  pub eight : length params ≡ 8
-  pub few : next ≤ 65535
+  pub length-is : length params ≡ mostParameters
+  pub few : next ≤ mostWires
   pub same : (place : Place) → (layout values next (typesLeft l to count at i place) >>= (λ ms. give (laidSoFar params i ++ ms)))
       ≡ layout values 0 (typesOf place count (fields from (slice from to l)))
 
 module _ (l : List ℕ) (from to count : ℕ) (values : List ℤ) where
-  pub laying-start : (params : List Parameter) → length params ≡ 8 → Laying l from to count values params from 0 0
+  pub laying-start : (params : List Parameter) → length params ≡ mostParameters → Laying l from to count values params from 0 0
   laying-start params h = record {
     low = omega arith;
-    eight = h;
+    length-is = h;
     few = omega arith;
     same = λ place. rw sub-zero (give-on (layout values 0 (typesOf place count (fields from (slice from to l)))));
   }
@@ -213,17 +214,17 @@ module _ (l : List ℕ) (from to count : ℕ) (values : List ℤ) where
         unfolding cameOut placed _>>=_ after
         laying-stuck e = answers a.Stuck λ place. rw (here-is place, e) at (so-far .same place)
 
-        pub laying-next : (o : Operand) (wire : ℕ) → x ≡ Fits o wire → count ≤ 8 → Laying l from to count values (set params i (record { operand = o })) end wire (i + 1)
+        pub laying-next : (o : Operand) (wire : ℕ) → x ≡ Fits o wire → count ≤ mostParameters → Laying l from to count values (set params i (record { operand = o })) end wire (i + 1)
         unfolding placed withRest WithinWires
         laying-next o wire e fits =
-            let k = so-far .eight in
+            let k = so-far .length-is in
             let q : Parameter = record { operand = o } in
-            let inside : wire ≤ 65535 = rw e at (w .within) in
+            let inside : wire ≤ mostWires = rw e at (w .within) in
             let front : take (i + 1) (set params i q) ≡ take i params ++ (q ∷ []) = rw add-one (take-suc-set params i q (omega arith)) in
             let whole : laidSoFar (set params i q) (i + 1) ≡ laidSoFar params i ++ (parameterOf o ∷ []) = ap (map ofParameter) front ∙ map-append ofParameter (take i params) (q ∷ []) in
             record {
               low = omega arith;
-              eight = length-set params i q ∙ k;
+              length-is = length-set params i q ∙ k;
               few = inside;
               same = λ place.
                   let rest = layout values wire (typesLeft l to count end (i + 1) place) in

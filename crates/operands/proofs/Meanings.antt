@@ -25,7 +25,7 @@ use Rattle.operands.specs.declared.Parameter.{Parameter}
 use Rattle.operands.specs.declared.OperandMeaning.{OperandMeaning}
 use Rattle.operands.specs.declared.OperandMeaning.the-variants.{AWire, ABit, Wires, Bits, Over, Stuck}
 use Rattle.operands.specs.declared.Location.the-variants.{At, Nowhere}
-use Rattle.operands.specs.Meanings.{ofParameter, parameterOf, registerOf, registersOf, operandsOf, meaningTold, locationIn, clipped, locationOf, theWire, theBit}
+use Rattle.operands.specs.Meanings.{ofParameter, parameterOf, registerOf, registersOf, operandsOf, meaningTold, locationIn, locations, clipped, locationOf, theWire, theBit}
 
 pub register-at : (n : ℕ) (l : List ℕ) → 3 * n + 2 < length l → getElem? (registersOf l) n ≡ some (registerOf (getD l (3 * n) 0) (getD l (3 * n + 1) 0) (getD l (3 * n + 2) 0))
 unfolding registersOf
@@ -93,11 +93,11 @@ pub spot-past : (first size i : ℕ) → size ≤ i → Nowhere ≡ locationIn f
 unfolding locationIn
 spot-past first size i h = simp (le-ltb i (clipped first size) (omega arith))
 
-pub spot-high : (first size i : ℕ) → 65536 ≤ first + i → first < 65536 → Nowhere ≡ locationIn first size i
+pub spot-high : (first size i : ℕ) → locations ≤ first + i → first < locations → Nowhere ≡ locationIn first size i
 unfolding locationIn
 spot-high first size i h k = simp (le-ltb i (clipped first size) (omega arith))
 
-pub spot-at : (first size i : ℕ) → i < size → first + i < 65536 → At (first + i) ≡ locationIn first size i
+pub spot-at : (first size i : ℕ) → i < size → first + i < locations → At (first + i) ≡ locationIn first size i
 unfolding locationIn
 spot-at first size i h k = simp (lt-ltb i (clipped first size) (omega arith))
 

@@ -13,6 +13,7 @@ use lib.Dec.{eqb}
 use lib.IntN.{ℤ}
 use types.Run.{OneOf}
 use denote.Enum.Declared.{tagOf}
+use Rattle.language.specs.Limits.{deepest}
 use Rattle.language.specs.Tree.{Place, badIndex, badOperand, Operand}
 use Rattle.language.specs.Read.{field, fields, fieldsAfter, due, choose, readOperand, readWhole, readElement, elementOf, readIndex, outerIndex, Reader}
 use Rattle.language.specs.Machine.{Meaning, Run, Outcome, going, ended, stuck, State, begin, give, endAt, noMeaning, found, after, _>>=_, elementAt, meaningOf, evaluate, Direction, Condition, wireOf, asWire, bitOf, asBit}
@@ -84,21 +85,21 @@ module _ (tag : ℕ) (l : List ℕ) (values : List ℤ) (ms : List Meaning) wher
 
   module _ (t : tag ≡ 49) (h : length l ≡ 0 → ⊥) (n : ℕ) (e : n ≡ getD l 0 0) (x : OperandMeaning) (w : OperandIs ms n x) where
     element-is : (p q : Place) (d : Direction) (c : Condition) → meaningOf p (frameOf d c values ms) (readOperand (field q tag l))
-        ≡ elements (found (getElem? ms n)) (evaluate p values (due (readIndex 16) (badIndex 4 q) (fields (q + 4) (drop 1 l))))
+        ≡ elements (found (getElem? ms n)) (evaluate p values (due (readIndex deepest) (badIndex 4 q) (fields (q + 4) (drop 1 l))))
     unfolding readOperand choose readElement elementOf meaningOf elements
     element-is p q d c = rw t (go l h e)
       where
         go : (l : List ℕ) → (length l ≡ 0 → ⊥) → n ≡ getD l 0 0 → meaningOf p (frameOf d c values ms) (readElement q l)
-            ≡ elements (found (getElem? ms n)) (evaluate p values (due (readIndex 16) (badIndex 4 q) (fields (q + 4) (drop 1 l))))
+            ≡ elements (found (getElem? ms n)) (evaluate p values (due (readIndex deepest) (badIndex 4 q) (fields (q + 4) (drop 1 l))))
         go [] h e = absurd (h refl)
-        go (y ∷ l) h e = ap (λ (i : ℕ). elements (found (getElem? ms i)) (evaluate p values (due (readIndex 16) (badIndex 4 q) (fields (q + 4) l)))) (sym e)
+        go (y ∷ l) h e = ap (λ (i : ℕ). elements (found (getElem? ms i)) (evaluate p values (due (readIndex deepest) (badIndex 4 q) (fields (q + 4) l)))) (sym e)
 
     pub element-unnamed : x ≡ s.Stuck → FieldMeans tag l values ms s.Stuck
     unfolding meaningTold elements _>>=_ after
-    element-unnamed g p q d c = sym (element-is p q d c ∙ ap (λ (r : Run Meaning). elements r (evaluate p values (due (readIndex 16) (badIndex 4 q) (fields (q + 4) (drop 1 l))))) (sym (w p) ∙ ap (meaningTold p) g))
+    element-unnamed g p q d c = sym (element-is p q d c ∙ ap (λ (r : Run Meaning). elements r (evaluate p values (due (readIndex deepest) (badIndex 4 q) (fields (q + 4) (drop 1 l))))) (sym (w p) ∙ ap (meaningTold p) g))
 
     module _ (v : Value) (u : IndexAt l 1 values v) where
-      index-is : (p q : Place) → evaluate p values (due (readIndex 16) (badIndex 4 q) (fields (q + 4) (drop 1 l))) ≡ valueTold p v
+      index-is : (p q : Place) → evaluate p values (due (readIndex deepest) (badIndex 4 q) (fields (q + 4) (drop 1 l))) ≡ valueTold p v
       index-is p q = sym (u .same p q (q + 4))
 
       pub element-stuck : v ≡ Stuck → FieldMeans tag l values ms s.Stuck

@@ -7,6 +7,7 @@ use mathlib.Core.Option.{Option, none, some}
 use lib.Dec.{eqb, ltb}
 use lib.IntN.{ℤ, pos, negsuc}
 use lib.ListN.{length, getD, getElem?, take, drop}
+use Rattle.language.specs.Limits.{mostRegisters}
 use Rattle.language.specs.Tree.{Place, badOperand}
 use Rattle.language.specs.Tree as tree
 use Rattle.language.specs.Read.{Field, field, readOperand, due, fields}
@@ -27,15 +28,23 @@ use Rattle.operands.specs.declared.WireMeaning.{WireMeaning}
 use Rattle.operands.specs.declared.WireMeaning.the-variants.{Is, Over as wOver, Stuck as wStuck}
 use Rattle.operands.specs.declared.Location.the-variants.{At, Nowhere}
 
+-- a table of registers has three numbers for each
+abbrev pub registerNumbers : ℕ
+registerNumbers = 3 * mostRegisters
+
+-- locations that a number of two bytes can tell apart
+abbrev pub locations : ℕ
+locations = 65_536
+
 abbrev pub theWire : ℕ → machine.Wire
 theWire n = record { number = n }
 
 abbrev pub theBit : ℕ → machine.Bit
 theBit n = record { number = n }
 
--- a register's size, no larger than what a location's number can say
+-- a register's size, no larger than its first location leaves
 abbrev pub clipped : ℕ → ℕ → ℕ
-clipped first size = min size (65536 - first)
+clipped first size = min size (locations - first)
 
 unfoldable pub parameterOf : Operand → Meaning
 parameterOf (Single w) = aWire (theWire (w .0))

@@ -5,12 +5,23 @@ ghost use Prim.Native.Nat.{ℕ, _+_, _*_, _<_, _≤_};
 ghost use lib.ListN.{length, getD};
 ghost use lib.Seq.{slice};
 ghost use Rattle.language.specs.Form.{inRange};
+ghost use Rattle.language.specs.Limits.{mostRegisters, mostParameters};
+ghost use Rattle.indexes.specs.Values.{mostValues};
 ghost use lib.IntN.{ℤ};
 ghost use lib.ListN.{getElem?, take};
 ghost use mathlib.Core.List.{[], _∷_, _++_, map};
-ghost use Rattle.operands.specs.Meanings.{ofParameter, registerOf, registersOf, operandsOf, OperandIs, locationIn, locationOf, ElementIs, FieldMeans, AsWire, WireAt, AsBit, BitAt};
+ghost use Rattle.operands.specs.Meanings.{registerNumbers, ofParameter, registerOf, registersOf, operandsOf, OperandIs, locationIn, locationOf, ElementIs, FieldMeans, AsWire, WireAt, AsBit, BitAt};
 use fields::Header;
+use indexes::VALUES;
 use indexes::Value;
+use limits::MOST_PARAMETERS;
+use limits::MOST_REGISTERS;
+
+// A table of registers has three numbers for each.
+pub const REGISTER_NUMBERS: usize = 3 * MOST_REGISTERS;
+
+// Locations that a number of two bytes can tell apart.
+const LOCATIONS: usize = 65_536;
 
 // A quantum location.
 pub struct Wire(pub u16);
@@ -30,7 +41,7 @@ pub struct Parameter {
 
 // The operands in scope: the first `count` of a family's parameters, or at the top of the registers of a table.
 pub struct Scope {
-    pub params: [Parameter; 8],
+    pub params: [Parameter; MOST_PARAMETERS],
     pub count: u8,
     pub top: bool,
 }
@@ -52,13 +63,13 @@ pub enum Location {
 }
 
 // A table tells how long it is.
-fn tell_table(regs: [u16; 765])
-    ensures { λ _. ⌜ length regs ≡ 765 ⌝ }
+fn tell_table(regs: [u16; REGISTER_NUMBERS])
+    ensures { λ _. ⌜ length regs ≡ registerNumbers ⌝ }
 {}
 
 // The register n of the first `count` in a table that has three numbers for each: 0 or 1 for a quantum or a classical one, its
 // first location, its size.
-fn register(regs: &[u16; 765], count: u8, n: usize) -> OperandMeaning
+fn register(regs: &[u16; REGISTER_NUMBERS], count: u8, n: usize) -> OperandMeaning
     ensures { λ r. ⌜ OperandIs (registersOf (take (3 * count) (now (regs .entry)))) n r ⌝ }
 {
     tell_table(*regs);
@@ -76,8 +87,8 @@ fn register(regs: &[u16; 765], count: u8, n: usize) -> OperandMeaning
 
 // Puts a register into the table, behind the `count` that it has: 0 or 1 for a quantum or a classical one, its first location
 // and its size.
-pub fn declare(regs: &mut [u16; 765], count: usize, kind: u16, first: u16, size: u16)
-    requires { ⌜ count < 255 ⌝ }
+pub fn declare(regs: &mut [u16; REGISTER_NUMBERS], count: usize, kind: u16, first: u16, size: u16)
+    requires { ⌜ count < mostRegisters ⌝ }
     ensures { λ _. ⌜ registersOf (take (3 * (count + 1)) (now (regs .exit))) ≡ registersOf (take (3 * count) (now (regs .entry))) ++ (registerOf kind first size ∷ []) ⌝ }
 {
     tell_table(*regs);
@@ -90,9 +101,19 @@ pub fn declare(regs: &mut [u16; 765], count: usize, kind: u16, first: u16, size:
 }
 
 // An array tells how long it is.
-fn tell(ps: [Parameter; 8])
-    ensures { λ _. ⌜ length ps ≡ 8 ⌝ }
+fn tell(ps: [Parameter; MOST_PARAMETERS])
+    ensures { λ _. ⌜ length ps ≡ mostParameters ⌝ }
 {}
+
+// What fills the parameters of a scope before any is known.
+pub fn no_parameters() -> [Parameter; MOST_PARAMETERS]
+    ensures { λ r. ⌜ length r ≡ mostParameters ⌝ }
+{
+    let none = Parameter {
+        operand: Operand::Single(Wire(0)),
+    };
+    [none; MOST_PARAMETERS]
+}
 
 // What the parameter n stands for.
 fn bound(scope: Scope, n: usize) -> OperandMeaning
@@ -103,7 +124,7 @@ fn bound(scope: Scope, n: usize) -> OperandMeaning
     if fields::wide(scope.count) <= n {
         return OperandMeaning::Stuck;
     }
-    if 8 <= n {
+    if MOST_PARAMETERS <= n {
         return OperandMeaning::Stuck;
     }
     let q = ps[n];
@@ -115,7 +136,7 @@ fn bound(scope: Scope, n: usize) -> OperandMeaning
 }
 
 // What the operand number n stands for.
-fn named(scope: Scope, regs: &[u16; 765], n: usize) -> OperandMeaning
+fn named(scope: Scope, regs: &[u16; REGISTER_NUMBERS], n: usize) -> OperandMeaning
     ensures { λ r. ⌜ OperandIs (operandsOf scope (now (regs .entry))) n r ⌝ }
 {
     if scope.top {
@@ -124,21 +145,15 @@ fn named(scope: Scope, regs: &[u16; 765], n: usize) -> OperandMeaning
     bound(scope, n)
 }
 
-fn long(x: u16) -> usize
-    ensures { λ r. ⌜ (r ≡ x) × (r < 65536) ⌝ }
-{
-    x as usize
-}
-
 // The location i of a register.
 fn locate(first: u16, size: u16, i: usize) -> Location
     ensures { λ r. ⌜ r ≡ locationIn first size i ⌝ }
 {
-    if long(size) <= i {
+    if fields::long(size) <= i {
         return Location::Nowhere;
     }
-    let n = long(first) + i;
-    if 65536 <= n {
+    let n = fields::long(first) + i;
+    if LOCATIONS <= n {
         return Location::Nowhere;
     }
     Location::At(n as u16)
@@ -186,23 +201,23 @@ pub fn meaning(
     from: usize,
     to: usize,
     tag: u8,
-    vars: &[i32; 20],
+    vars: &[i32; VALUES],
     many: usize,
     scope: Scope,
-    regs: &[u16; 765],
+    regs: &[u16; REGISTER_NUMBERS],
 ) -> OperandMeaning
     requires { ⌜ (from ≤ to) × (to ≤ length (now bytes)) ⌝ }
-    requires { ⌜ many ≤ 20 ⌝ }
+    requires { ⌜ many ≤ mostValues ⌝ }
     ensures { λ r. ⌜ FieldMeans tag (slice from to (now (bytes .entry))) (take many (now (vars .entry))) (operandsOf scope (now (regs .entry))) r ⌝ }
 {
     if from == to {
         return OperandMeaning::Stuck;
     }
     let s = named(scope, regs, fields::wide(bytes[from]));
-    if tag == 48 {
+    if tag == fields::WHOLE {
         return s;
     }
-    if tag != 49 {
+    if tag != fields::ELEMENT {
         return OperandMeaning::Stuck;
     }
     let at = from + 1;
@@ -243,13 +258,13 @@ pub fn wire_at(
     bytes: &[u8],
     at: usize,
     to: usize,
-    vars: &[i32; 20],
+    vars: &[i32; VALUES],
     many: usize,
     scope: Scope,
-    regs: &[u16; 765],
+    regs: &[u16; REGISTER_NUMBERS],
 ) -> WireMeaning
     requires { ⌜ to ≤ length (now bytes) ⌝ }
-    requires { ⌜ many ≤ 20 ⌝ }
+    requires { ⌜ many ≤ mostValues ⌝ }
     ensures { λ r. ⌜ WireAt (slice at to (now (bytes .entry))) 0 (take many (now (vars .entry))) (operandsOf scope (now (regs .entry))) r ⌝ }
 {
     let Header::Whole(tag, end) = fields::header_at(bytes, at, to) else {
@@ -257,7 +272,7 @@ pub fn wire_at(
     };
     let from = at + 3;
     // a whole operand is read in place, and the scope is not copied
-    if tag == 48 && from < end {
+    if tag == fields::WHOLE && from < end {
         return as_wire(named(scope, regs, fields::wide(bytes[from])));
     }
     as_wire(meaning(bytes, from, end, tag, vars, many, scope, regs))
@@ -288,13 +303,13 @@ pub fn bit_at(
     bytes: &[u8],
     at: usize,
     to: usize,
-    vars: &[i32; 20],
+    vars: &[i32; VALUES],
     many: usize,
     scope: Scope,
-    regs: &[u16; 765],
+    regs: &[u16; REGISTER_NUMBERS],
 ) -> BitMeaning
     requires { ⌜ to ≤ length (now bytes) ⌝ }
-    requires { ⌜ many ≤ 20 ⌝ }
+    requires { ⌜ many ≤ mostValues ⌝ }
     ensures { λ r. ⌜ BitAt (slice at to (now (bytes .entry))) 0 (take many (now (vars .entry))) (operandsOf scope (now (regs .entry))) r ⌝ }
 {
     let Header::Whole(tag, end) = fields::header_at(bytes, at, to) else {
