@@ -15,7 +15,7 @@ use denote.Enum.Declared.{tagOf}
 use Rattle.language.specs.Tree.{Operand, badOperand, Argument, index, operand, badArgument}
 use Rattle.language.specs.Read.{Field, field, choose, due, outerIndex, isIndexTag, isOperandTag, Reader, readWhole, readElement, readOperand, readArgument, readCall}
 use Rattle.language.specs.Form.{Form, putIn}
-use Rattle.language.specs.Check.{Checked, good, refused, _>>=_, _>>_, Kind, Signature, checkOperand, callForms, callOperands, taken, inScope, checkStatement}
+use Rattle.language.specs.Check.{Checked, good, refused, _>>=_, _>>_, Kind, Signature, checkOperand, callForms, callOperands, taken, inScope, checkCall, checkStatement}
 use Rattle.language.proofs.Integers.{clash}
 use Rattle.fields.specs.Header.{fieldsAt}
 use Rattle.fields.proofs.Reading.{View, ends, cuts, goes, view, fields-end}
@@ -121,7 +121,7 @@ module _ (s : C.Scope) (at : ℕ) (content : List ℕ) where
     matched f = callForms s at (f .variables) args >>= λ forms. callOperands s at forms (f .parameters) (drop (f .variables) args)
 
     call-is : called ≡ (inScope at (getElem? (s .families) n) >>= matched)
-    unfolding checkStatement readCall fieldsAt
+    unfolding checkStatement checkCall readCall fieldsAt
     call-is =
         let q : at + 3 + 1 ≡ at + 4 = omega arith in
         ap (λ (l : List ℕ). checkStatement (readCall at l) s) (e ∙ ap (λ (k : ℕ). n ∷ slice k next p) q)

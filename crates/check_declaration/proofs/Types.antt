@@ -10,9 +10,9 @@ use borrow.Author.Tests.{ne-eqb}
 use types.Run.{OneOf}
 use denote.Enum.Declared.{tagOf}
 use Rattle.language.specs.Tree.{badIndex, badType}
-use Rattle.language.specs.Form.{Form, built, showing}
+use Rattle.language.specs.Form.{Form, built}
 use Rattle.language.specs.Read.{Field, field, choose, due, ending, qbitsOf, outerIndex, readType, readQbit, badHeader, typesOf}
-use Rattle.language.specs.Check.{Checked, good, refused, _>>=_, _>>_, Kind, qubit, quantum, Signature, formOf, byShowing, mustShow, kindOf, noLeftover, kindsOf}
+use Rattle.language.specs.Check.{Checked, good, refused, _>>=_, _>>_, Kind, qubit, quantum, Signature, formOf, mustShow, kindOf, noLeftover, kindsOf}
 use Rattle.fields.proofs.Reading.{Wholly, one-byte, slice-none}
 use Rattle.fields.specs.Header.{fieldsAt}
 use Rattle.forms.specs.Flat.{Kept, asForm, Short, widened}
@@ -64,9 +64,9 @@ module _ (fs : List Signature) (ks : List Kind) (m : ℕ) (p : List ℕ) (at nex
     unfolding noLeftover _>>_
     type-long h k = sym (type-end ∙ ap (λ (x : T.Ending). noLeftover at x >> (mustShow at (scopeWith fs ks m []) (built (asForm l)) >> good (quantum (asForm l)))) (more-left p end next h k))
 
-    module _ (h : next ≤ end) (t : Read) (d : partTold t ≡ byShowing at (showing m [] (built (asForm l)))) where
+    module _ (h : next ≤ end) (t : Read) (d : partTold t ≡ mustShow at (scopeWith fs ks m []) (built (asForm l))) where
       type-shown : typed ≡ (partTold t >> good (quantum (asForm l)))
-      unfolding noLeftover _>>_ mustShow
+      unfolding noLeftover _>>_
       type-shown =
           type-end ∙ ap (λ (x : T.Ending). noLeftover at x >> (mustShow at (scopeWith fs ks m []) (built (asForm l)) >> good (quantum (asForm l)))) (none-left p end next h)
           ∙ ap (λ (c : Checked (Unit {0})). c >> good (quantum (asForm l))) (sym d)

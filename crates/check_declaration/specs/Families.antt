@@ -1,11 +1,9 @@
 -- The two numbers of a family.
 use mathlib.Core.List.{List, [], _∷_}
-use mathlib.Core.Bool.{_&&_}
 use Prim.Native.Nat.{ℕ, _+_, _≤_, _<_}
-use lib.Dec.{leb, ltb}
 use Rattle.language.specs.Limits.{mostFamilies, mostVariables, mostParameters}
 use Rattle.language.specs.Tree.{Place, Number, number, missing}
-use Rattle.language.specs.Check.{Checked, good, refused, _>>=_, _>>_, require, checkNumber}
+use Rattle.language.specs.Check.{Checked, good, refused, checkCounts}
 use Rattle.check_declaration.specs.declared.Counts.{Counts}
 use Rattle.check_declaration.specs.declared.Counts.the-variants.{Both, Bad}
 
@@ -19,10 +17,9 @@ secondIn [] = missing
 secondIn (m ∷ []) = missing
 secondIn (m ∷ p ∷ rest) = number p
 
--- the two numbers of a family, after so many families
-abbrev pub countsMeant : Place → ℕ → List ℕ → Checked (ℕ × ℕ)
-countsMeant q families content =
-    require 6 q (ltb families mostFamilies) >> (checkNumber q (firstIn content) >>= λ m. (require 6 q (leb m mostVariables) >> (checkNumber q (secondIn content) >>= λ p. (require 6 q (leb 1 p && leb p mostParameters) >> good (m, p)))))
+-- the two numbers of the family at q with this content, after so many families
+abbrev pub countsIn : Place → ℕ → List ℕ → Checked (ℕ × ℕ)
+countsIn q families content = checkCounts q families (firstIn content) (secondIn content)
 
 unfoldable pub countsTold : Counts → Checked (ℕ × ℕ)
 countsTold (Both m p) = good (m, p)

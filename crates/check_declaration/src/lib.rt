@@ -7,13 +7,13 @@ ghost use lib.Seq.{slice};
 ghost use Rattle.language.specs.Tree.{badType};
 ghost use Rattle.language.specs.Read.{due, qbitsOf, readType, typesOf};
 ghost use Rattle.language.specs.Check.{Kind, Signature, kindOf, kindsOf};
-ghost use Rattle.language.specs.Limits.{mostWires, mostVariables};
+ghost use Rattle.language.specs.Limits.{mostVariables, furthest};
 ghost use Rattle.fields.specs.Header.{fieldsAt};
 ghost use Rattle.check_index.specs.Answers.{EndsAt, Passes, PastCount};
 ghost use Rattle.check_operand.specs.Tables.{scopeWith};
-ghost use Rattle.check_declaration.specs.Registers.{numberTold, registerMeant, RegisterSet};
+ghost use Rattle.check_declaration.specs.Registers.{numberTold, registerIn, RegisterSet};
 ghost use Rattle.check_declaration.specs.Types.{sizeTold, typeTold, TypePast, OperandTable, Apart, rowTold, rowsTold, tableRows};
-ghost use Rattle.check_declaration.specs.Families.{countsTold, countsMeant, BothRight};
+ghost use Rattle.check_declaration.specs.Families.{countsTold, countsIn, BothRight};
 use check_index::DEEPEST;
 use check_index::FORM_NUMBERS;
 use check_index::Form;
@@ -180,7 +180,7 @@ pub fn parameter_types(
 // The two numbers of the family at `at`, whose field ends at `next`, after so many families.
 pub fn family_counts(program: &[u8], at: usize, next: usize, families: usize) -> Counts
     requires { ⌜ (at + 3 ≤ next) × (next ≤ length (now program)) ⌝ }
-    ensures { λ r. ⌜ countsTold r ≡ countsMeant at families (slice (at + 3) next (now (program .entry))) ⌝ }
+    ensures { λ r. ⌜ countsTold r ≡ countsIn at families (slice (at + 3) next (now (program .entry))) ⌝ }
     ensures { λ r. ⌜ BothRight at next families r ⌝ }
 {
     if MOST_FAMILIES <= families {
@@ -208,11 +208,19 @@ pub fn family_counts(program: &[u8], at: usize, next: usize, families: usize) ->
     Counts::Both(m, p)
 }
 
-// The size of the register at `at`, whose field ends at `next`, after `count` registers with `total` qubits or bits.
-fn register_size(program: &[u8], at: usize, next: usize, count: usize, total: usize) -> Read
+// The size of the register at `at`, whose field ends at `next`, after `count` registers with `total` qubits or bits, of which there may be at most `most`.
+fn register_size(
+    program: &[u8],
+    at: usize,
+    next: usize,
+    count: usize,
+    total: usize,
+    most: usize,
+) -> Read
     requires { ⌜ (at + 3 ≤ next) × (next ≤ length (now program)) ⌝ }
-    requires { ⌜ total ≤ mostWires ⌝ }
-    ensures { λ r. ⌜ numberTold r ≡ registerMeant at count total (slice (at + 3) next (now (program .entry))) ⌝ }
+    requires { ⌜ total ≤ most ⌝ }
+    requires { ⌜ most ≤ furthest ⌝ }
+    ensures { λ r. ⌜ numberTold r ≡ registerIn at count total most (slice (at + 3) next (now (program .entry))) ⌝ }
 {
     if MOST_REGISTERS <= count {
         return Read::Refused(6, at);
@@ -222,7 +230,7 @@ fn register_size(program: &[u8], at: usize, next: usize, count: usize, total: us
         return Read::Refused(4, at);
     }
     let n = fields::two_bytes(program, from);
-    if MOST_WIRES < total + n {
+    if most < total + n {
         return Read::Refused(7, at);
     }
     if next - from != 2 {
@@ -231,7 +239,7 @@ fn register_size(program: &[u8], at: usize, next: usize, count: usize, total: us
     Read::Upto(n)
 }
 
-// The register of a kind at `at`, whose field ends at `next`, after `count` registers with `total` qubits or bits, put into its row.
+// The register of a kind at `at`, put into its row; the rest is as for its size.
 pub fn register(
     program: &[u8],
     at: usize,
@@ -239,16 +247,18 @@ pub fn register(
     kind: u8,
     count: usize,
     total: usize,
+    most: usize,
     kinds: &mut [u8],
     sizes: &mut [Size],
 ) -> Read
     requires { ⌜ (at + 3 ≤ next) × (next ≤ length (now program)) ⌝ }
-    requires { ⌜ total ≤ mostWires ⌝ }
+    requires { ⌜ total ≤ most ⌝ }
+    requires { ⌜ most ≤ furthest ⌝ }
     requires { ⌜ OperandTable (now kinds) (now sizes) ⌝ }
-    ensures { λ r. ⌜ numberTold r ≡ registerMeant at count total (slice (at + 3) next (now (program .entry))) ⌝ }
-    ensures { λ r. ⌜ RegisterSet r kind count total (now (kinds .entry)) (now (sizes .entry)) (now (kinds .exit)) (now (sizes .exit)) ⌝ }
+    ensures { λ r. ⌜ numberTold r ≡ registerIn at count total most (slice (at + 3) next (now (program .entry))) ⌝ }
+    ensures { λ r. ⌜ RegisterSet r kind count total most (now (kinds .entry)) (now (sizes .entry)) (now (kinds .exit)) (now (sizes .exit)) ⌝ }
 {
-    let r = register_size(program, at, next, count, total);
+    let r = register_size(program, at, next, count, total, most);
     let Read::Upto(size) = r else {
         return r;
     };

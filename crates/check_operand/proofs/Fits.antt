@@ -6,7 +6,7 @@ use Prim.Native.Nat.{ℕ}
 use lib.Dec.{eqb}
 use lib.IntN.{ℤ}
 use borrow.Author.Tests.{ne-eqb, eq-eqb}
-use Rattle.language.specs.Form.{Form, Built, built, outOfRange, differenceOf, _thenBuild_, Loop, showing}
+use Rattle.language.specs.Form.{Form, Built, built, outOfRange, differenceOf, _thenBuild_}
 use Rattle.language.specs.Check.{good, refused, Kind, qubit, quantum, classical, byShowing, mustShow, wholeFits, elementSize}
 use Rattle.forms.specs.Flat.{asForm, builtOf}
 use Rattle.forms.proofs.Laws.{show-outside}
@@ -15,9 +15,9 @@ use Rattle.check_operand.specs.Operands.{wantedOf}
 use Rattle.check_operand.specs.declared.Wanted.the-variants.{Wire, Bit, Register}
 use Rattle.language.specs.Check as C
 
-pub shown-outside : (p m : ℕ) (ls : List Loop) → refused 11 p ≡ byShowing p (showing m ls outOfRange)
-unfolding byShowing
-shown-outside p m ls = sym (ap (byShowing p) (show-outside m ls))
+pub shown-outside : (p : ℕ) (s : C.Scope) → refused 11 p ≡ mustShow p s outOfRange
+unfolding byShowing mustShow
+shown-outside p s = sym (ap (byShowing p) (show-outside (s .variables) (s .loops)))
 
 -- what is built where a difference was refused, or made
 pub not-made : (l : List ℤ) {t : Bool} {b : Built} → builtOf t l ≡ b → t ≡ false → b ≡ outOfRange
@@ -43,8 +43,8 @@ module _ (p : ℕ) (s : C.Scope) (b : ℕ) (f : Form) where
   unfolding wantedOf wholeFits
   bit-bad l k = refl
 
-  pub register-good : (t : Bool) (l : List ℤ) → b ≡ 1 → byShowing p (showing (s .variables) (s .loops) (builtOf t l thenBuild differenceOf f)) ≡ wholeFits p s (wantedOf (Register t) l) (kindBy b f)
-  unfolding wantedOf wholeFits kindBy mustShow
+  pub register-good : (t : Bool) (l : List ℤ) → b ≡ 1 → mustShow p s (builtOf t l thenBuild differenceOf f) ≡ wholeFits p s (wantedOf (Register t) l) (kindBy b f)
+  unfolding wantedOf wholeFits kindBy
   register-good t l e = sym (ap (λ (k : ℕ). wholeFits p s (C.register (builtOf t l)) (kindBy k f)) e)
 
   pub register-bad : (t : Bool) (l : List ℤ) → (b ≡ 1 → ⊥) → refused 9 p ≡ wholeFits p s (wantedOf (Register t) l) (kindBy b f)

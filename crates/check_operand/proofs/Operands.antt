@@ -12,19 +12,17 @@ use types.Run.{OneOf}
 use denote.Enum.Declared.{tagOf}
 use Rattle.language.specs.Tree.{badIndex, badOperand}
 use Rattle.language.specs.Read.{Field, field, badHeader, choose, ending, due, outerIndex, readWhole, readElement, elementOf, readOperand}
-use Rattle.language.specs.Form.{Form, Built, built, outOfRange, constantForm, differenceOf, _thenBuild_, Loop, showing}
-use Rattle.language.specs.Check.{Checked, refused, _>>=_, _>>_, noLeftover, inScope, formOf, Kind, Signature, byShowing, mustShow, wholeFits, elementSize, roomAfter, checkOperand}
+use Rattle.language.specs.Form.{Form, Built, built, outOfRange, constantForm, differenceOf, _thenBuild_}
+use Rattle.language.specs.Check.{Checked, refused, _>>=_, _>>_, noLeftover, inScope, formOf, Kind, mustShow, wholeFits, elementSize, roomAfter, checkWithin, checkOperand}
 use Rattle.fields.specs.Header.{fieldsAt}
 use Rattle.fields.proofs.Reading.{Wholly}
 use Rattle.forms.specs.Flat.{asForm}
 use Rattle.check_index.proofs.Read.{the-type}
 use Rattle.check_index.specs.Answers.{formTold, PastField, partTold}
-use Rattle.check_operand.specs.Tables.{kindBy, scopeWith}
-use Rattle.check_operand.specs.Operands.{wantedOf, sizeKnown, withinShown}
-use Rattle.check_operand.specs.declared.Wanted.{Wanted}
+use Rattle.check_operand.specs.Operands.{sizeKnown}
 use Rattle.check_index.specs.declared.Read.{Read}
 use Rattle.check_index.specs.declared.Read.the-variants.{Upto, Refused}
-use Rattle.check_index.proofs.Answers.{more-left, none-left, then-goes, then-stops, form-stops, told-then, drop-two}
+use Rattle.check_index.proofs.Answers.{not-first, more-left, none-left, form-stops, told-then, drop-two, part-stops, part-went}
 use Rattle.language.specs.Tree as T
 use Rattle.language.specs.Check as C
 
@@ -59,12 +57,14 @@ module _ (s : C.Scope) (d : C.Due) (at : ℕ) (content : List ℕ) where
       unfolding noLeftover ending _>>_
       whole-good z = sym (whole-some ∙ ap (λ (l : List ℕ). noLeftover at (ending l) >> wholeFits at s d k) z)
 
-module _ (at m : ℕ) (ls : List Loop) (f size : Form) (r : Read) (e : partTold r ≡ byShowing at (showing m ls (built f))) where
-  pub within-stops : OneOf (1 ∷ []) (tagOf the-type r) → partTold r ≡ withinShown at m ls f size
-  within-stops h = then-stops r (byShowing at (showing m ls (roomAfter size f))) h ∙ ap (λ (c : Checked (Unit {0})). c >> byShowing at (showing m ls (roomAfter size f))) e
+module _ (at : ℕ) (s : C.Scope) (size f : Form) (r : Read) (e : partTold r ≡ mustShow at s (built f)) where
+  pub within-stops : OneOf (1 ∷ []) (tagOf the-type r) → partTold r ≡ checkWithin at s size f
+  unfolding checkWithin
+  within-stops h = part-stops r (mustShow at s (built f)) (mustShow at s (roomAfter size f)) e h
 
-  pub within-goes : OneOf (0 ∷ []) (tagOf the-type r) → byShowing at (showing m ls (roomAfter size f)) ≡ withinShown at m ls f size
-  within-goes h = sym (ap (λ (c : Checked (Unit {0})). c >> byShowing at (showing m ls (roomAfter size f))) (sym e) ∙ then-goes r (byShowing at (showing m ls (roomAfter size f))) h)
+  pub within-goes : OneOf (0 ∷ []) (tagOf the-type r) → mustShow at s (roomAfter size f) ≡ checkWithin at s size f
+  unfolding checkWithin
+  within-goes h = sym (part-went r (mustShow at s (built f)) (mustShow at s (roomAfter size f)) e h)
 
 pub room-none : (size i : Form) → differenceOf size (constantForm (pos 1)) ≡ outOfRange → roomAfter size i ≡ outOfRange
 unfolding roomAfter _thenBuild_
@@ -84,7 +84,7 @@ module _ (s : C.Scope) (d : C.Due) (at : ℕ) (content : List ℕ) where
     inside = fieldsAt p (at + 4) next
 
     abbrev sized : Kind → Form → Checked (Unit {0})
-    sized k f = elementSize at d k >>= λ size. (mustShow at s (built f) >> mustShow at s (roomAfter size f))
+    sized k f = elementSize at d k >>= λ size. checkWithin at s size f
 
     abbrev typed : Kind → Checked (Unit {0})
     typed k = formOf s (due outerIndex (badIndex 4 at) inside) >>= λ f. (noLeftover at (ending (drop 1 inside)) >> sized k f)
@@ -121,18 +121,23 @@ module _ (s : C.Scope) (d : C.Due) (at : ℕ) (content : List ℕ) where
         unfolding noLeftover _>>_
         element-good h = sym (element-end ∙ ap (λ (x : T.Ending). noLeftover at x >> sized k (asForm l)) (none-left p end next h))
 
--- the kind of an element
-module _ (fs : List Signature) (ks : List Kind) (m : ℕ) (ls : List Loop) (at : ℕ) (w : Wanted) (z : List ℤ) (b : ℕ) (size f : Form) where
-  abbrev pub sizing : Checked (Unit {0})
-  sizing = elementSize at (wantedOf w z) (kindBy b size) >>= λ size. (mustShow at (scopeWith fs ks m ls) (built f) >> mustShow at (scopeWith fs ks m ls) (roomAfter size f))
-
-  pub kind-tested : (k : Read) → sizeKnown k size ≡ elementSize at (wantedOf w z) (kindBy b size) → (partTold k >> withinShown at m ls f size) ≡ sizing
-  unfolding sizeKnown partTold mustShow _>>=_ _>>_
-  kind-tested k e = by k ∙ ap (λ (c : Checked Form). c >>= λ size. (mustShow at (scopeWith fs ks m ls) (built f) >> mustShow at (scopeWith fs ks m ls) (roomAfter size f))) e
+-- an element, from the answer on its kind
+module _ (s : C.Scope) (d : C.Due) (at : ℕ) (k : Kind) (size f : Form) (r : Read) (e : sizeKnown r size ≡ elementSize at d k) where
+  pub kind-stops : OneOf (1 ∷ []) (tagOf the-type r) → partTold r ≡ (elementSize at d k >>= λ size. checkWithin at s size f)
+  unfolding sizeKnown partTold _>>=_
+  kind-stops h = by r h ∙ ap (λ (c : Checked Form). c >>= λ size. checkWithin at s size f) e
     where
-      by : (k : Read) → (partTold k >> withinShown at m ls f size) ≡ (sizeKnown k size >>= λ size. (mustShow at (scopeWith fs ks m ls) (built f) >> mustShow at (scopeWith fs ks m ls) (roomAfter size f)))
-      by (Upto n) = refl
-      by (Refused n q) = refl
+      by : (r : Read) → OneOf (1 ∷ []) (tagOf the-type r) → partTold r ≡ (sizeKnown r size >>= λ size. checkWithin at s size f)
+      by (Upto n) h = not-first h
+      by (Refused n p) h = refl
+
+  pub kind-goes : OneOf (0 ∷ []) (tagOf the-type r) → checkWithin at s size f ≡ (elementSize at d k >>= λ size. checkWithin at s size f)
+  unfolding sizeKnown _>>=_
+  kind-goes h = by r h ∙ ap (λ (c : Checked Form). c >>= λ size. checkWithin at s size f) e
+    where
+      by : (r : Read) → OneOf (0 ∷ []) (tagOf the-type r) → checkWithin at s size f ≡ (sizeKnown r size >>= λ size. checkWithin at s size f)
+      by (Upto n) h = refl
+      by (Refused n p) h = absurd (let z : _≡_ {A = ℕ} 1 0 = h in omega arith)
 
 module _ (s : C.Scope) (d : C.Due) (p : List ℕ) (at to place : ℕ) where
   abbrev pub operandMeant : Checked (Unit {0})

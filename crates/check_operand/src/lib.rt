@@ -8,14 +8,14 @@ ghost use lib.Seq.{slice};
 ghost use lib.IntN.{ℤ, pos};
 ghost use Rattle.language.specs.Tree.{badOperand};
 ghost use Rattle.language.specs.Read.{due, readOperand, readWhole, readElement};
-ghost use Rattle.language.specs.Form.{Form, built, differenceOf, _thenBuild_, showing};
-ghost use Rattle.language.specs.Check.{Kind, Signature, elementSize, byShowing, wire, wholeFits, checkOperand};
+ghost use Rattle.language.specs.Form.{Form, built, differenceOf, _thenBuild_};
+ghost use Rattle.language.specs.Check.{Kind, Signature, elementSize, mustShow, wire, wholeFits, checkWithin, checkOperand};
 ghost use Rattle.language.specs.Limits.{allVariables};
 ghost use Rattle.fields.specs.Header.{fieldsAt};
 ghost use Rattle.forms.specs.Flat.{Kept, Short, widened, asForm, builtOf};
 ghost use Rattle.forms.specs.Rows.{Rows, loopsOf};
 ghost use Rattle.check_operand.specs.Tables.{kindBy, TablesRight, scopeWith, scopeAt};
-ghost use Rattle.check_operand.specs.Operands.{sizeKnown, firstRefusal, withinShown, wantedOf, SizeRight, oneWire, twoOperands};
+ghost use Rattle.check_operand.specs.Operands.{sizeKnown, wantedOf, SizeRight, oneWire, twoOperands};
 ghost use Rattle.check_index.specs.Answers.{partTold, Upon, Passes};
 ghost use Rattle.check_index.specs.Indexes.{formNumbers};
 use check_index::DEEPEST;
@@ -63,7 +63,7 @@ pub fn must_show(
     requires { ⌜ variables + loops ≤ allVariables ⌝ }
     requires { ⌜ Rows (now lows) loops ⌝ }
     requires { ⌜ Rows (now highs) loops ⌝ }
-    ensures { λ r. ⌜ partTold r ≡ byShowing at (showing variables (loopsOf loops (now (lows .entry)) (now (highs .entry))) (built (asForm (now (f .entry))))) ⌝ }
+    ensures { λ r. ⌜ ((fs : List Signature) (ks : List Kind) → partTold r ≡ mustShow at (scopeWith fs ks variables (loopsOf loops (now (lows .entry)) (now (highs .entry)))) (built (asForm (now (f .entry))))) ⌝ }
     ensures { λ r. ⌜ Upon next r ⌝ }
 {
     match forms::show(f, variables, loops, lows, highs) {
@@ -89,7 +89,7 @@ fn within(
     requires { ⌜ variables + loops ≤ allVariables ⌝ }
     requires { ⌜ Rows (now lows) loops ⌝ }
     requires { ⌜ Rows (now highs) loops ⌝ }
-    ensures { λ r. ⌜ partTold r ≡ withinShown at variables (loopsOf loops (now (lows .entry)) (now (highs .entry))) (asForm (now (f .entry))) (asForm (widened (now (size .entry)))) ⌝ }
+    ensures { λ r. ⌜ ((fs : List Signature) (ks : List Kind) → partTold r ≡ checkWithin at (scopeWith fs ks variables (loopsOf loops (now (lows .entry)) (now (highs .entry)))) (asForm (widened (now (size .entry)))) (asForm (now (f .entry)))) ⌝ }
     ensures { λ r. ⌜ Upon next r ⌝ }
 {
     let mut g = *f;
@@ -127,7 +127,7 @@ fn large_enough(
     requires { ⌜ variables + loops ≤ allVariables ⌝ }
     requires { ⌜ Rows (now lows) loops ⌝ }
     requires { ⌜ Rows (now highs) loops ⌝ }
-    ensures { λ r. ⌜ partTold r ≡ byShowing at (showing variables (loopsOf loops (now (lows .entry)) (now (highs .entry))) (builtOf known (now (size .entry)) thenBuild differenceOf (asForm (widened (now (own .entry)))))) ⌝ }
+    ensures { λ r. ⌜ ((fs : List Signature) (ks : List Kind) → partTold r ≡ mustShow at (scopeWith fs ks variables (loopsOf loops (now (lows .entry)) (now (highs .entry)))) (builtOf known (now (size .entry)) thenBuild differenceOf (asForm (widened (now (own .entry)))))) ⌝ }
     ensures { λ r. ⌜ Upon next r ⌝ }
 {
     if known {
@@ -201,17 +201,6 @@ fn element_kind(wanted: Wanted, kind: u8, at: usize, next: usize) -> Read
             Read::Upto(next)
         }
         Wanted::Register(_) => Read::Refused(9, at),
-    }
-}
-
-// The first refusal of two tests of the same field, if there is one.
-fn first_refusal(first: Read, second: Read) -> Read
-    ensures { λ r. ⌜ partTold r ≡ firstRefusal (partTold first) (partTold second) ⌝ }
-    ensures { λ r. ⌜ ((n : ℕ) → Upon n first → Upon n second → Upon n r) ⌝ }
-{
-    match first {
-        Read::Upto(_) => second,
-        Read::Refused(n, p) => Read::Refused(n, p),
     }
 }
 
@@ -298,8 +287,10 @@ fn element(
         return Read::Refused(4, at);
     }
     let kind = element_kind(wanted, kinds[row], at, next);
-    let shown = within(&f, &sizes[row], at, next, s.variables, s.loops, lows, highs);
-    first_refusal(kind, shown)
+    let Read::Upto(_) = kind else {
+        return kind;
+    };
+    within(&f, &sizes[row], at, next, s.variables, s.loops, lows, highs)
 }
 
 // The operand that is due at `at` in the field at `place` whose content ends at `to`.

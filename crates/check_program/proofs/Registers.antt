@@ -6,17 +6,17 @@ use native.Mathlib.Omega.{arith}
 use native.Mathlib.Nat.{zero-add}
 use lib.IntN.{ℤ, pos}
 use lib.ListN.{length}
+use Rattle.language.specs.Limits.{mostWires, mostBits}
 use Rattle.language.specs.Tree.{qreg, creg}
 use Rattle.language.specs.Read.{readRegister}
 use Rattle.language.specs.Form.{constantForm}
 use Rattle.language.specs.Check.{Checked, good, refused, _>>=_, Declared, withQubits, withBits, checkTop}
 use Rattle.check_operand.specs.Tables.{kindBy, kindAt, kindsAt, tabulated}
 use Rattle.check_call.specs.Calls.{signatureAt}
-use Rattle.check_declaration.specs.Registers.{numberTold, registerMeant, RegisterRow, RegisterSet}
+use Rattle.check_declaration.specs.Registers.{numberTold, registerIn, RegisterRow, RegisterSet}
 use Rattle.check_index.specs.declared.Read.{Read}
 use Rattle.check_index.specs.declared.Read.the-variants.{Upto, Refused}
 use Rattle.check_operand.proofs.Tables.{row-more, length-rows}
-use Rattle.check_declaration.proofs.Registers.{qreg-is, creg-is}
 use Rattle.check_program.specs.Declarations.{declaredIn, DeclaredRight, stepTold}
 use Rattle.check_program.specs.declared.SoFar.{SoFar}
 use Rattle.check_program.specs.declared.Step.the-variants.{Going, Stopped}
@@ -38,23 +38,25 @@ module _ (t : SoFar) (families : List (List ℕ)) (kinds : List ℕ) (sizes : Li
   registers-now : length (now .registers) ≡ t .registers
   registers-now = length-rows (λ j. kindAt j kinds sizes) (t .registers) 0
 
-  qreg-meant : checkTop (readRegister qreg at content) now ≡ (registerMeant at (t .registers) (t .qubits) content >>= λ n. good (withQubits now n))
-  qreg-meant = qreg-is at content now ∙ ap (λ (k : ℕ). registerMeant at k (t .qubits) content >>= λ n. good (withQubits now n)) registers-now
+  qreg-meant : checkTop (readRegister qreg at content) now ≡ (registerIn at (t .registers) (t .qubits) mostWires content >>= λ n. good (withQubits now n))
+  unfolding readRegister checkTop
+  qreg-meant = ap (λ (k : ℕ). registerIn at k (t .qubits) mostWires content >>= λ n. good (withQubits now n)) registers-now
 
-  creg-meant : checkTop (readRegister creg at content) now ≡ (registerMeant at (t .registers) (t .bits) content >>= λ n. good (withBits now n))
-  creg-meant = creg-is at content now ∙ ap (λ (k : ℕ). registerMeant at k (t .bits) content >>= λ n. good (withBits now n)) registers-now
+  creg-meant : checkTop (readRegister creg at content) now ≡ (registerIn at (t .registers) (t .bits) mostBits content >>= λ n. good (withBits now n))
+  unfolding readRegister checkTop
+  creg-meant = ap (λ (k : ℕ). registerIn at k (t .bits) mostBits content >>= λ n. good (withBits now n)) registers-now
 
   module _ (r : Read) where
-    pub qreg-stops : (n q : ℕ) (k₁ : List ℕ) (s₁ : List (List ℤ)) → r ≡ Refused n q → numberTold r ≡ registerMeant at (t .registers) (t .qubits) content → stepTold (Stopped n q) families k₁ s₁ ≡ checkTop (readRegister qreg at content) now
+    pub qreg-stops : (n q : ℕ) (k₁ : List ℕ) (s₁ : List (List ℤ)) → r ≡ Refused n q → numberTold r ≡ registerIn at (t .registers) (t .qubits) mostWires content → stepTold (Stopped n q) families k₁ s₁ ≡ checkTop (readRegister qreg at content) now
     unfolding stepTold
     qreg-stops n q k₁ s₁ u e = number-stops r n q _ (withQubits now) u e ∙ sym qreg-meant
 
-    pub creg-stops : (n q : ℕ) (k₁ : List ℕ) (s₁ : List (List ℤ)) → r ≡ Refused n q → numberTold r ≡ registerMeant at (t .registers) (t .bits) content → stepTold (Stopped n q) families k₁ s₁ ≡ checkTop (readRegister creg at content) now
+    pub creg-stops : (n q : ℕ) (k₁ : List ℕ) (s₁ : List (List ℤ)) → r ≡ Refused n q → numberTold r ≡ registerIn at (t .registers) (t .bits) mostBits content → stepTold (Stopped n q) families k₁ s₁ ≡ checkTop (readRegister creg at content) now
     unfolding stepTold
     creg-stops n q k₁ s₁ u e = number-stops r n q _ (withBits now) u e ∙ sym creg-meant
 
 -- one register more
-module _ (t : SoFar) (families : List (List ℕ)) (n kind total : ℕ) {k₀ : List ℕ} {s₀ : List (List ℤ)} {k₁ : List ℕ} {s₁ : List (List ℤ)} (h : DeclaredRight t families k₀ s₀) (r : RegisterRow n kind (t .registers) total k₀ s₀ k₁ s₁) where
+module _ (t : SoFar) (families : List (List ℕ)) (n kind total most : ℕ) {k₀ : List ℕ} {s₀ : List (List ℤ)} {k₁ : List ℕ} {s₁ : List (List ℤ)} (h : DeclaredRight t families k₀ s₀) (r : RegisterRow n kind (t .registers) total most k₀ s₀ k₁ s₁) where
   families-same : tabulated (signatureAt families k₁ s₁) (t .families) 0 ≡ tabulated (signatureAt families k₀ s₀) (t .families) 0
   families-same = families-above t families h (t .registers) (r .room) (r .apart)
 
@@ -76,21 +78,21 @@ module _ (t : SoFar) (families : List (List ℕ)) (n kind total : ℕ) {k₀ : L
       (λ i. record { families = families-same i; registers = registers-more i; qubits = t .qubits; bits = t .bits + n })
       ∙ ap (λ (k : ℕ). record { families = tabulated (signatureAt families k₀ s₀) (t .families) 0; registers = kindsAt (t .registers) 0 k₀ s₀ ++ (kindBy k (constantForm (pos n)) ∷ []); qubits = t .qubits; bits = t .bits + n }) e
 
-  pub holds-register : (q b : ℕ) → q ≤ 65535 → b ≤ 65535 → DeclaredRight (record { families = t .families; rows = t .rows; registers = t .registers + 1; qubits = q; bits = b }) families k₁ s₁
+  pub holds-register : (q b : ℕ) → q ≤ mostWires → b ≤ mostBits → DeclaredRight (record { families = t .families; rows = t .rows; registers = t .registers + 1; qubits = q; bits = b }) families k₁ s₁
   holds-register q b x y =
       let z = r .room in
       record { table = r .apart .table; long = h .long; familiesFit = h .familiesFit; registersFit = omega arith; qubitsFit = x; bitsFit = y; leastRows = h .leastRows; rowsFit = h .rowsFit; each = h .each; behind = h .behind }
 
 module _ (t : SoFar) (families : List (List ℕ)) (k₀ : List ℕ) (s₀ : List (List ℤ)) (at : ℕ) (content : List ℕ) (r : Read) (n : ℕ) (u : r ≡ Upto n) (h : DeclaredRight t families k₀ s₀) where
-  pub register-row : (kind count total : ℕ) (k₁ : List ℕ) (s₁ : List (List ℤ)) → RegisterSet r kind count total k₀ s₀ k₁ s₁ → RegisterRow n kind count total k₀ s₀ k₁ s₁
-  register-row kind count total k₁ s₁ s = rw u at s
+  pub register-row : (kind count total most : ℕ) (k₁ : List ℕ) (s₁ : List (List ℤ)) → RegisterSet r kind count total most k₀ s₀ k₁ s₁ → RegisterRow n kind count total most k₀ s₀ k₁ s₁
+  register-row kind count total most k₁ s₁ s = rw u at s
 
-  pub qreg-goes : {k₁ : List ℕ} {s₁ : List (List ℤ)} → RegisterRow n 1 (t .registers) (t .qubits) k₀ s₀ k₁ s₁ → numberTold r ≡ registerMeant at (t .registers) (t .qubits) content
+  pub qreg-goes : {k₁ : List ℕ} {s₁ : List (List ℤ)} → RegisterRow n 1 (t .registers) (t .qubits) mostWires k₀ s₀ k₁ s₁ → numberTold r ≡ registerIn at (t .registers) (t .qubits) mostWires content
       → stepTold (Going (record { families = t .families; rows = t .rows; registers = t .registers + 1; qubits = t .qubits + n; bits = t .bits })) families k₁ s₁ ≡ checkTop (readRegister qreg at content) (declaredIn t families k₀ s₀)
   unfolding stepTold
-  qreg-goes s e = ap good (with-qubits t families n 1 (t .qubits) h s refl) ∙ number-goes r n _ (withQubits (declaredIn t families k₀ s₀)) u e ∙ sym (qreg-meant t families k₀ s₀ at content)
+  qreg-goes s e = ap good (with-qubits t families n 1 (t .qubits) mostWires h s refl) ∙ number-goes r n _ (withQubits (declaredIn t families k₀ s₀)) u e ∙ sym (qreg-meant t families k₀ s₀ at content)
 
-  pub creg-goes : {k₁ : List ℕ} {s₁ : List (List ℤ)} → RegisterRow n 2 (t .registers) (t .bits) k₀ s₀ k₁ s₁ → numberTold r ≡ registerMeant at (t .registers) (t .bits) content
+  pub creg-goes : {k₁ : List ℕ} {s₁ : List (List ℤ)} → RegisterRow n 2 (t .registers) (t .bits) mostBits k₀ s₀ k₁ s₁ → numberTold r ≡ registerIn at (t .registers) (t .bits) mostBits content
       → stepTold (Going (record { families = t .families; rows = t .rows; registers = t .registers + 1; qubits = t .qubits; bits = t .bits + n })) families k₁ s₁ ≡ checkTop (readRegister creg at content) (declaredIn t families k₀ s₀)
   unfolding stepTold
-  creg-goes s e = ap good (with-bits t families n 2 (t .bits) h s refl) ∙ number-goes r n _ (withBits (declaredIn t families k₀ s₀)) u e ∙ sym (creg-meant t families k₀ s₀ at content)
+  creg-goes s e = ap good (with-bits t families n 2 (t .bits) mostBits h s refl) ∙ number-goes r n _ (withBits (declaredIn t families k₀ s₀)) u e ∙ sym (creg-meant t families k₀ s₀ at content)

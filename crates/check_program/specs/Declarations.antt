@@ -7,7 +7,7 @@ use lib.ListN.{length, getD, drop}
 use Rattle.language.specs.Limits.{mostFamilies, mostRegisters, mostWires, mostBits, mostParameters}
 use Rattle.language.specs.Tree.{Place}
 use Rattle.language.specs.Read.{Field, typesOf, statementsBy, outerStatement}
-use Rattle.language.specs.Check.{Checked, good, refused, _>>=_, _>>_, Kind, Declared, familyScope, kindsOf, checkStatements}
+use Rattle.language.specs.Check.{Checked, good, refused, Kind, Declared, checkFamily}
 use Rattle.check_operand.specs.Tables.{kindsAt, tabulated}
 use Rattle.check_call.specs.Calls.{signatureAt, FamilyRight}
 use Rattle.check_program.specs.declared.SoFar.{SoFar}
@@ -45,6 +45,6 @@ abbrev pub StepRight : Step → List (List ℕ) → List ℕ → List (List ℤ)
 StepRight (Going t) families kinds sizes = DeclaredRight t families kinds sizes
 StepRight (Stopped n p) families kinds sizes = Unit {0}
 
--- the kinds of a family's parameters, where its types and its body are right
-abbrev pub bodyMeant : Declared → Place → (m p : ℕ) → List Field → Checked (List Kind)
-bodyMeant d q m p fs = kindsOf (familyScope d m []) (typesOf q p fs) >>= λ ks. (checkStatements (statementsBy outerStatement (drop p fs)) (familyScope d m ks) >> good ks)
+-- the kinds of the parameters of the family at q, of m index variables and p parameters, with these fields in it
+abbrev pub familyIn : Declared → Place → (m p : ℕ) → List Field → Checked (List Kind)
+familyIn d q m p fs = checkFamily d m (typesOf q p fs) (statementsBy outerStatement (drop p fs))

@@ -10,7 +10,7 @@ ghost use Rattle.language.specs.Result.{verdict, checkResult};
 ghost use Rattle.language.specs.Limits.{mostFamilies, mostVariables, mostParameters};
 ghost use Rattle.fields.specs.Header.{fieldsAt};
 ghost use Rattle.check_declaration.specs.Types.{Apart, rowsTold};
-ghost use Rattle.check_program.specs.Declarations.{bodyMeant, declaredIn, DeclaredRight, stepTold, StepRight, noneSoFar};
+ghost use Rattle.check_program.specs.Declarations.{familyIn, declaredIn, DeclaredRight, stepTold, StepRight, noneSoFar};
 ghost use Rattle.check_program.specs.Answers.{resultTold};
 use check_call::FamilyRow;
 use check_declaration::Counts;
@@ -67,7 +67,7 @@ fn family_body(
     requires { ⌜ p ≤ mostParameters ⌝ }
     requires { ⌜ t .families < mostFamilies ⌝ }
     requires { ⌜ DeclaredRight t (now families) (now kinds) (now sizes) ⌝ }
-    ensures { λ r. ⌜ rowsTold r p (t .rows) (now (kinds .exit)) (now (sizes .exit)) ≡ bodyMeant (declaredIn t (now (families .entry)) (now (kinds .entry)) (now (sizes .entry))) at m p (fieldsAt (now (program .entry)) (at + 5) next) ⌝ }
+    ensures { λ r. ⌜ rowsTold r p (t .rows) (now (kinds .exit)) (now (sizes .exit)) ≡ familyIn (declaredIn t (now (families .entry)) (now (kinds .entry)) (now (sizes .entry))) at m p (fieldsAt (now (program .entry)) (at + 5) next) ⌝ }
     ensures { λ _. ⌜ Apart (t .rows) p (now (kinds .entry)) (now (sizes .entry)) (now (kinds .exit)) (now (sizes .exit)) ⌝ }
 {
     let from = at + 5;
@@ -162,6 +162,7 @@ fn quantum_register(
         check_operand::QUANTUM,
         n,
         total,
+        limits::MOST_WIRES,
         kinds,
         sizes,
     ) {
@@ -204,6 +205,7 @@ fn classical_register(
         check_operand::CLASSICAL,
         n,
         total,
+        limits::MOST_BITS,
         kinds,
         sizes,
     ) {

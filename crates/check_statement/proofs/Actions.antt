@@ -10,8 +10,8 @@ use borrow.Author.Tests.{ne-eqb, le-leb, lt-leb}
 use types.Run.{OneOf}
 use denote.Enum.Declared.{tagOf}
 use Rattle.language.specs.Tree.{badOperand}
-use Rattle.language.specs.Read.{Field, field, choose, due, ending, readOperand, readStatement, statementsBy, readIf, ifOf, readTop, measureOf, resetOf}
-use Rattle.language.specs.Check.{Checked, good, refused, _>>_, require, noLeftover, checkOperand, checkStatement, checkStatements, Declared, topScope, checkTop}
+use Rattle.language.specs.Read.{Field, field, choose, due, readOperand, readStatement, statementsBy, readIf, ifOf, readTop, measureOf, resetOf}
+use Rattle.language.specs.Check.{Checked, good, refused, _>>_, require, checkOperand, checkStatement, checkStatements, Declared, topScope, checkTop}
 use Rattle.fields.specs.Header.{fieldsAt}
 use Rattle.check_index.proofs.Read.{the-type}
 use Rattle.check_index.specs.Answers.{partTold}
@@ -26,17 +26,6 @@ pub kept-is : (r : Read) (d : Declared) → declaredTold r d ≡ (partTold r >> 
 unfolding declaredTold partTold _>>_
 kept-is (Upto n) d = refl
 kept-is (Refused n p) d = refl
-
-chain : {B : Type 0} (x y : Checked (Unit {0})) (z : Checked B) → ((x >> y) >> z) ≡ (x >> (y >> z))
-unfolding _>>_
-chain (good u) y z = refl
-chain (refused n p) y z = refl
-
-three : {B : Type 0} (x y z : Checked (Unit {0})) (w : Checked B) → ((x >> (y >> z)) >> w) ≡ (x >> (y >> (z >> w)))
-unfolding _>>_
-three (good u) (good v) z w = refl
-three (good u) (refused n p) z w = refl
-three (refused n p) y z w = refl
 
 -- an answer for the first part of a top field
 pub kept-stops : (r : Read) (d : Declared) (x : Checked (Unit {0})) (next : Checked Declared) → partTold r ≡ x → OneOf (1 ∷ []) (tagOf the-type r) → declaredTold r d ≡ (x >> next)
@@ -53,15 +42,11 @@ module _ (d : Declared) (at next tag : ℕ) (p : List ℕ) where
 
   pub top-measure : tag ≡ 4 → (twoOperands (topScope d) C.bit at (fieldsAt p (at + 3) next) >> good d) ≡ topped
   unfolding readTop choose measureOf checkTop fieldsAt
-  top-measure e =
-      three (checkOperand (topScope d) C.wire (due readOperand (badOperand 4 at) (fieldsAt p (at + 3) next))) (checkOperand (topScope d) C.bit (due readOperand (badOperand 4 at) (drop 1 (fieldsAt p (at + 3) next)))) (noLeftover at (ending (drop 2 (fieldsAt p (at + 3) next)))) (good d)
-      ∙ sym (ap (λ (t : ℕ). checkTop (readTop (field at t (slice (at + 3) next p))) d) e)
+  top-measure e = sym (ap (λ (t : ℕ). checkTop (readTop (field at t (slice (at + 3) next p))) d) e)
 
   pub top-reset : tag ≡ 5 → (oneWire (topScope d) at (fieldsAt p (at + 3) next) >> good d) ≡ topped
   unfolding readTop choose resetOf checkTop fieldsAt
-  top-reset e =
-      chain (checkOperand (topScope d) C.wire _) _ (good d)
-      ∙ sym (ap (λ (t : ℕ). checkTop (readTop (field at t (slice (at + 3) next p))) d) e)
+  top-reset e = sym (ap (λ (t : ℕ). checkTop (readTop (field at t (slice (at + 3) next p))) d) e)
 
   pub top-if : tag ≡ 6 → checkTop (readIf at (slice (at + 3) next p)) d ≡ topped
   unfolding readTop choose

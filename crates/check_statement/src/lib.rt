@@ -12,7 +12,7 @@ ghost use Rattle.fields.specs.Header.{fieldsAt};
 ghost use Rattle.check_index.specs.Indexes.{scopeOf};
 ghost use Rattle.check_index.specs.Answers.{partTold};
 ghost use Rattle.check_operand.specs.Tables.{TablesRight};
-ghost use Rattle.check_statement.specs.Statements.{StatementSays, loopTold, loopMeant, LoopPast, declaredTold};
+ghost use Rattle.check_statement.specs.Statements.{StatementSays, loopTold, boundsDue, LoopPast, declaredTold};
 ghost use Rattle.check_call.specs.Calls.{FamiliesRight, scopeFull};
 use check_call::FamilyRow;
 use check_call::call;
@@ -57,7 +57,7 @@ fn loop_forms(
 ) -> Read
     requires { ⌜ (at + 3 ≤ next) × (next ≤ length (now program)) ⌝ }
     requires { ⌜ variables ≤ allVariables ⌝ }
-    ensures { λ r. ⌜ loopTold r (now (low .exit)) (now (high .exit)) ≡ loopMeant (scopeOf variables) at (fieldsAt (now (program .entry)) (at + 3) next) ⌝ }
+    ensures { λ r. ⌜ loopTold r (now (low .exit)) (now (high .exit)) ≡ boundsDue (scopeOf variables) at (fieldsAt (now (program .entry)) (at + 3) next) ⌝ }
     ensures { λ r. ⌜ LoopPast (now (program .entry)) (at + 3) next r (now (low .exit)) (now (high .exit)) ⌝ }
 {
     let from = at + 3;

@@ -14,7 +14,7 @@ use lib.ListN.{set}
 use Rattle.language.specs.Tree.{badIndex}
 use Rattle.language.specs.Read.{due, readIndex, readArgument}
 use Rattle.language.specs.Form.{Form}
-use Rattle.language.specs.Check.{Checked, good, _>>=_, Kind, Signature, callForms, mustShow}
+use Rattle.language.specs.Check.{Checked, good, _>>=_, Kind, Signature, callForms}
 use Rattle.fields.specs.Header.{fieldsAt}
 use Rattle.forms.specs.Rows.{Rows, loopsOf, formsOf}
 use Rattle.forms.proofs.Laws.{fewer}
@@ -117,7 +117,6 @@ enum-told-3 c =
 
 -- src/lib.rt:62:13
 returns-2 : tie.Need-returns-2 Inv-loop μ-loop
-unfolding mustShow
 returns-2 c =
     let a = c .before .before .before .before .before .before .before .before .before .before .before .before .before .args in
     let p = now (a .program) in
@@ -130,7 +129,7 @@ returns-2 c =
     let u = past-upto p (i .from) (a .to) (c .before .before .before .before .before .before .before .index .result) l next (c .before .before .before .before .before .r .given .1) (c .before .before .before .before .before .before .before .index .ensures .1) in
     let new = set (i .forms) (i .i) l in (
       λ fs ks. list-stops (c .before .before .must-show .result) (a .m) new (λ rest. good (formsOf (i .i) (i .forms) ++ rest)) (c .before .match2 .keys2)
-          ∙ ap (λ (c : Checked (List Form)). c >>= λ rest. good (formsOf (i .i) (i .forms) ++ rest)) (show-none (scopeWith fs ks (a .s .variables) ls) (a .place) (a .m - (i .i + 1)) (a .m) p (i .from) (a .to) (c .before .before .before .before .before .before .before .before .before .before .before .before .before .pre .0) (c .before .before .before .before .before .before .before .index .result) l (c .before .before .before .before .before .before .before .index .ensures .0 ∙ scope-forms fs ks (a .s .variables) (a .s .loops) (now (a .lows)) (now (a .highs)) x) next (c .before .before .before .before .before .r .given .1) (u .0) (c .before .before .must-show .result) (c .before .before .must-show .ensures .0) new (c .before .match2 .keys2)
+          ∙ ap (λ (c : Checked (List Form)). c >>= λ rest. good (formsOf (i .i) (i .forms) ++ rest)) (show-none (scopeWith fs ks (a .s .variables) ls) (a .place) (a .m - (i .i + 1)) (a .m) p (i .from) (a .to) (c .before .before .before .before .before .before .before .before .before .before .before .before .before .pre .0) (c .before .before .before .before .before .before .before .index .result) l (c .before .before .before .before .before .before .before .index .ensures .0 ∙ scope-forms fs ks (a .s .variables) (a .s .loops) (now (a .lows)) (now (a .highs)) x) next (c .before .before .before .before .before .r .given .1) (u .0) (c .before .before .must-show .result) (c .before .before .must-show .ensures .0 fs ks) new (c .before .match2 .keys2)
           ∙ ap (λ (n : ℕ). callForms (scopeWith fs ks (a .s .variables) ls) (a .place) n (map readArgument (fieldsAt p (i .from) (a .to)))) (sym e))
           ∙ sym (i .inv .3 fs ks),
       (beyond-stops p (a .at) (a .to) (a .m) (c .before .before .must-show .result) (c .before .match2 .keys2), rows-set (i .forms) 4 (i .i) l (i .inv .1) (u .1)),
@@ -148,7 +147,6 @@ loop-less c =
 
 -- src/lib.rt:52:5
 loop-again : tie.Need-loop-again Inv-loop μ-loop
-unfolding mustShow
 loop-again c =
     let a = c .before .before .before .before .before .before .before .before .before .before .before .before .before .args in
     let p = now (a .program) in
@@ -167,7 +165,7 @@ loop-again c =
       beyond-more p (a .at) (a .to) (i .i) (i .from) next (i .inv .2) (u .0),
       (λ fs ks. i .inv .3 fs ks
           ∙ ap (λ (n : ℕ). callForms (scopeWith fs ks (a .s .variables) ls) (a .place) n (map readArgument (fieldsAt p (i .from) (a .to))) >>= λ rest. good (formsOf (i .i) (i .forms) ++ rest)) e
-          ∙ ap (λ (c : Checked (List Form)). c >>= λ rest. good (formsOf (i .i) (i .forms) ++ rest)) (show-good (scopeWith fs ks (a .s .variables) ls) (a .place) (a .m - (i .i + 1)) (a .m) p (i .from) (a .to) (c .before .before .before .before .before .before .before .before .before .before .before .before .before .pre .0) (c .before .before .before .before .before .before .before .index .result) l (c .before .before .before .before .before .before .before .index .ensures .0 ∙ scope-forms fs ks (a .s .variables) (a .s .loops) (now (a .lows)) (now (a .highs)) x) next (c .before .before .before .before .before .r .given .1) (u .0) (c .before .before .must-show .result) (c .before .before .must-show .ensures .0) (c .before .match2 .keys1))
+          ∙ ap (λ (c : Checked (List Form)). c >>= λ rest. good (formsOf (i .i) (i .forms) ++ rest)) (show-good (scopeWith fs ks (a .s .variables) ls) (a .place) (a .m - (i .i + 1)) (a .m) p (i .from) (a .to) (c .before .before .before .before .before .before .before .before .before .before .before .before .before .pre .0) (c .before .before .before .before .before .before .before .index .result) l (c .before .before .before .before .before .before .before .index .ensures .0 ∙ scope-forms fs ks (a .s .variables) (a .s .loops) (now (a .lows)) (now (a .highs)) x) next (c .before .before .before .before .before .r .given .1) (u .0) (c .before .before .must-show .result) (c .before .before .must-show .ensures .0 fs ks) (c .before .match2 .keys1))
           ∙ more-forms (callForms (scopeWith fs ks (a .s .variables) ls) (a .place) (a .m - (i .i + 1)) (map readArgument (fieldsAt p next (a .to)))) (i .i) (i .forms) l (omega arith)),
     )
 

@@ -12,7 +12,7 @@ use denote.Ref.{now}
 use lib.Seq.{slice}
 use Rattle.fields.proofs.Reading.{one-byte, slice-none}
 use Rattle.check_declaration.specs.Families.{countsTold}
-use Rattle.check_declaration.proofs.Families.{counts-many, counts-none, counts-over, counts-one, counts-zero, counts-eight, counts-good}
+use Rattle.check_declaration.proofs.Families.{counts-many, counts-none, counts-over, counts-one, counts-zero, counts-above, counts-good}
 
 -- src/lib.rt:187:9
 returns : tie.Need-returns
@@ -118,7 +118,7 @@ returns-6 c =
     let n = c .before .before .wide2 .result in
     let rest = slice (a .at + 4 + 1) (a .next) p in
     let z = one-byte (a .at + 4) (a .next) p (c .before .before .before .before .if4 .left) (c .before .before .before .before .before .before .before .before .before .before .before .pre .1) ∙ ap (λ (k : ℕ). k ∷ rest) (sym (c .before .before .wide2 .ensures .0)) in
-    (counts-eight (a .at) (a .families) content (c .before .before .before .before .before .before .before .before .before .if1 .left) m more e (c .before .before .before .before .before .if3 .left) n rest z (c .before .if5 .left) (c .if6 .taken), tt)
+    (counts-above (a .at) (a .families) content (c .before .before .before .before .before .before .before .before .before .if1 .left) m more e (c .before .before .before .before .before .if3 .left) n rest z (c .before .if5 .left) (c .if6 .taken), tt)
 
 -- src/lib.rt:181:1
 returns-7 : tie.Need-returns-7

@@ -10,13 +10,15 @@ use mathlib.Core.Path.{sym, ap, _∙_}
 use Prim.Native.Nat.{_+_, _<_}
 use native.Mathlib.Omega.{arith}
 use denote.Ref.{now}
+use lib.IntN.{pos}
 use lib.Seq.{slice}
 use borrow.Author.Needs.{needs}
 use Rattle.language.specs.Form.{constantForm}
-use Rattle.language.proofs.Integers.{small, small-range}
+use Rattle.language.proofs.Integers.{range-yes, range-back}
 use Rattle.forms.specs.Flat.{asForm}
 use Rattle.check_operand.specs.Tables.{kindBy}
 use Rattle.check_declaration.proofs.Sizes.{constant-narrow}
+use Rattle.check_declaration.specs.Types.{tableRows}
 use Rattle.check_declaration.specs.Registers.{numberTold}
 use Rattle.check_declaration.proofs.Registers.{size-fits, register-stops}
 use Rattle.check_declaration.proofs.Tables.{apart-both, row-both}
@@ -39,7 +41,7 @@ returns c =
     let a = c .before .before .before .before .before .args in
     let p = now (a .program) in
     let content = slice (a .at + 3) (a .next) p in
-    (c .before .before .register-size .ensures, register-stops (c .before .before .register-size .result) (a .kind) (a .count) (a .total) (now (a .kinds)) (now (a .sizes)) (now (a .kinds)) (now (a .sizes)) (c .before .match .keys2))
+    (c .before .before .register-size .ensures, register-stops (c .before .before .register-size .result) (a .kind) (a .count) (a .total) (a .most) (now (a .kinds)) (now (a .sizes)) (now (a .kinds)) (now (a .sizes)) (c .before .match .keys2))
 
 -- src/lib.rt:256:33
 cast-set-constant : tie.Need-cast-set-constant
@@ -48,11 +50,11 @@ cast-set-constant c =
     let p = now (a .program) in
     let content = slice (a .at + 3) (a .next) p in
     let n = c .before .before .r .given .0 .0 in
-    let f = size-fits (c .before .before .before .before .register-size .result) n (a .at) (a .count) (a .total) content (c .before .before .r .given .1) (c .before .before .before .before .register-size .ensures) in
+    let f = size-fits (c .before .before .before .before .register-size .result) n (a .at) (a .count) (a .total) (a .most) content (c .before .before .r .given .1) (c .before .before .before .before .register-size .ensures) in
     let room = f .room in
     let fits = f .fits in
-    let long = c .before .before .before .before .before .before .before .pre .1 .1 .kindsLong in
-    let rows = c .before .before .before .before .before .before .before .pre .1 .1 .sizesLong in
+    let long = c .before .before .before .before .before .before .before .pre .1 .1 .1 .kindsLong in
+    let rows = c .before .before .before .before .before .before .before .pre .1 .1 .1 .sizesLong in
     search needs
 
 -- src/lib.rt:256:5
@@ -62,12 +64,14 @@ set-constant-requires c κs =
     let p = now (a .program) in
     let content = slice (a .at + 3) (a .next) p in
     let n = c .before .before .r .given .0 .0 in
-    let f = size-fits (c .before .before .before .before .register-size .result) n (a .at) (a .count) (a .total) content (c .before .before .r .given .1) (c .before .before .before .before .register-size .ensures) in
+    let f = size-fits (c .before .before .before .before .register-size .result) n (a .at) (a .count) (a .total) (a .most) content (c .before .before .r .given .1) (c .before .before .before .before .register-size .ensures) in
     let room = f .room in
     let fits = f .fits in
-    let long = c .before .before .before .before .before .before .before .pre .1 .1 .kindsLong in
-    let rows = c .before .before .before .before .before .before .before .pre .1 .1 .sizesLong in
-    rw (small n (omega arith)) (small-range n (omega arith))
+    let long = c .before .before .before .before .before .before .before .pre .1 .1 .1 .kindsLong in
+    let rows = c .before .before .before .before .before .before .before .pre .1 .1 .1 .sizesLong in
+    let far = c .before .before .before .before .before .before .before .pre .1 .1 .0 in
+    let fine = range-yes (pos n) (omega arith) in
+    rw (range-back fine) fine
 
 -- src/lib.rt:258:5
 store-requires : tie.Need-store-requires
@@ -82,25 +86,25 @@ slice-write-kinds c =
     let p = now (a .program) in
     let content = slice (a .at + 3) (a .next) p in
     let n = c .before .before .before .before .before .before .r .given .0 .0 in
-    let f = size-fits (c .before .before .before .before .before .before .before .before .register-size .result) n (a .at) (a .count) (a .total) content (c .before .before .before .before .before .before .r .given .1) (c .before .before .before .before .before .before .before .before .register-size .ensures) in
+    let f = size-fits (c .before .before .before .before .before .before .before .before .register-size .result) n (a .at) (a .count) (a .total) (a .most) content (c .before .before .before .before .before .before .r .given .1) (c .before .before .before .before .before .before .before .before .register-size .ensures) in
     let room = f .room in
     let fits = f .fits in
-    let long = c .before .before .before .before .before .before .before .before .before .before .before .pre .1 .1 .kindsLong in
-    let rows = c .before .before .before .before .before .before .before .before .before .before .before .pre .1 .1 .sizesLong in
+    let long = c .before .before .before .before .before .before .before .before .before .before .before .pre .1 .1 .1 .kindsLong in
+    let rows = c .before .before .before .before .before .before .before .before .before .before .before .pre .1 .1 .1 .sizesLong in
     omega arith
 
 -- src/lib.rt:260:5
-mul-t20 : tie.Need-mul-t20
-mul-t20 c =
+mul-t21 : tie.Need-mul-t21
+mul-t21 c =
     let a = c .before .before .before .before .before .before .before .before .before .before .before .args in
     let p = now (a .program) in
     let content = slice (a .at + 3) (a .next) p in
     let n = c .before .before .before .before .before .before .r .given .0 .0 in
-    let f = size-fits (c .before .before .before .before .before .before .before .before .register-size .result) n (a .at) (a .count) (a .total) content (c .before .before .before .before .before .before .r .given .1) (c .before .before .before .before .before .before .before .before .register-size .ensures) in
+    let f = size-fits (c .before .before .before .before .before .before .before .before .register-size .result) n (a .at) (a .count) (a .total) (a .most) content (c .before .before .before .before .before .before .r .given .1) (c .before .before .before .before .before .before .before .before .register-size .ensures) in
     let room = f .room in
     let fits = f .fits in
-    let long = c .before .before .before .before .before .before .before .before .before .before .before .pre .1 .1 .kindsLong in
-    let rows = c .before .before .before .before .before .before .before .before .before .before .before .pre .1 .1 .sizesLong in
+    let long = c .before .before .before .before .before .before .before .before .before .before .before .pre .1 .1 .1 .kindsLong in
+    let rows = c .before .before .before .before .before .before .before .before .before .before .before .pre .1 .1 .1 .sizesLong in
     omega arith
 
 -- src/lib.rt:260:5
@@ -110,11 +114,11 @@ slice-set-from-sizes c =
     let p = now (a .program) in
     let content = slice (a .at + 3) (a .next) p in
     let n = c .before .before .before .before .before .before .r .given .0 .0 in
-    let f = size-fits (c .before .before .before .before .before .before .before .before .register-size .result) n (a .at) (a .count) (a .total) content (c .before .before .before .before .before .before .r .given .1) (c .before .before .before .before .before .before .before .before .register-size .ensures) in
+    let f = size-fits (c .before .before .before .before .before .before .before .before .register-size .result) n (a .at) (a .count) (a .total) (a .most) content (c .before .before .before .before .before .before .r .given .1) (c .before .before .before .before .before .before .before .before .register-size .ensures) in
     let room = f .room in
     let fits = f .fits in
-    let long = c .before .before .before .before .before .before .before .before .before .before .before .pre .1 .1 .kindsLong in
-    let rows = c .before .before .before .before .before .before .before .before .before .before .before .pre .1 .1 .sizesLong in
+    let long = c .before .before .before .before .before .before .before .before .before .before .before .pre .1 .1 .1 .kindsLong in
+    let rows = c .before .before .before .before .before .before .before .before .before .before .before .pre .1 .1 .1 .sizesLong in
     omega arith
 
 -- src/lib.rt:235:1
@@ -132,20 +136,21 @@ returns-2 c =
     let p = now (a .program) in
     let content = slice (a .at + 3) (a .next) p in
     let n = c .before .before .before .before .before .before .r .given .0 .0 in
-    let f = size-fits (c .before .before .before .before .before .before .before .before .register-size .result) n (a .at) (a .count) (a .total) content (c .before .before .before .before .before .before .r .given .1) (c .before .before .before .before .before .before .before .before .register-size .ensures) in
+    let f = size-fits (c .before .before .before .before .before .before .before .before .register-size .result) n (a .at) (a .count) (a .total) (a .most) content (c .before .before .before .before .before .before .r .given .1) (c .before .before .before .before .before .before .before .before .register-size .ensures) in
     let room = f .room in
     let fits = f .fits in
-    let long = c .before .before .before .before .before .before .before .before .before .before .before .pre .1 .1 .kindsLong in
-    let rows = c .before .before .before .before .before .before .before .before .before .before .before .pre .1 .1 .sizesLong in
-    let h : a .count < 2295 = omega arith in
+    let long = c .before .before .before .before .before .before .before .before .before .before .before .pre .1 .1 .1 .kindsLong in
+    let rows = c .before .before .before .before .before .before .before .before .before .before .before .pre .1 .1 .1 .sizesLong in
+    let far = c .before .before .before .before .before .before .before .before .before .before .before .pre .1 .1 .0 in
+    let h : a .count < tableRows = omega arith in
     let l = c .store .last .0 in
-    let value = ap asForm (c .store .ensures .0) ∙ c .before .before .before .set-constant .ensures .0 ∙ ap constantForm (small n (omega arith)) in (
+    let value = ap asForm (c .store .ensures .0) ∙ c .before .before .before .set-constant .ensures .0 ∙ ap constantForm (range-back (range-yes (pos n) (omega arith))) in (
       sym (ap numberTold (c .before .before .before .before .before .before .r .given .1)) ∙ c .before .before .before .before .before .before .before .before .register-size .ensures,
       record {
         room = room;
         fits = fits;
-        apart = apart-both (a .count) (now (a .kinds)) (now (a .sizes)) (c .before .before .before .before .before .before .before .before .before .before .before .pre .1 .1) h (a .kind) l (c .store .ensures .1);
-        row = row-both (a .count) (now (a .kinds)) (now (a .sizes)) (c .before .before .before .before .before .before .before .before .before .before .before .pre .1 .1) h (a .kind) l (c .store .ensures .1) ∙ ap (kindBy (a .kind)) value;
+        apart = apart-both (a .count) (now (a .kinds)) (now (a .sizes)) (c .before .before .before .before .before .before .before .before .before .before .before .pre .1 .1 .1) h (a .kind) l (c .store .ensures .1);
+        row = row-both (a .count) (now (a .kinds)) (now (a .sizes)) (c .before .before .before .before .before .before .before .before .before .before .before .pre .1 .1 .1) h (a .kind) l (c .store .ensures .1) ∙ ap (kindBy (a .kind)) value;
       },
     )
 
@@ -161,7 +166,7 @@ register-spec =
     set-constant-requires
     store-requires
     slice-write-kinds
-    mul-t20
+    mul-t21
     slice-set-from-sizes
     same-length
     same-length-2

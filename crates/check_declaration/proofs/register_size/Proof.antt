@@ -26,7 +26,7 @@ returns c =
     let from = a .at + 3 in
     let content = slice from (a .next) p in
     let long = length-slice from (a .next) p (c .before .before .pre .0 .1) in
-    size-many-registers (a .at) (a .count) (a .total) content (c .if1 .taken)
+    size-many-registers (a .at) (a .count) (a .total) (a .most) content (c .if1 .taken)
 
 -- src/lib.rt:220:16
 add-from : tie.Need-add-from
@@ -45,7 +45,7 @@ returns-2 c =
     let from = a .at + 3 in
     let content = slice from (a .next) p in
     let long = length-slice from (a .next) p (c .before .before .before .pre .0 .1) in
-    size-short (a .at) (a .count) (a .total) content (c .before .if1 .left) (omega arith)
+    size-short (a .at) (a .count) (a .total) (a .most) content (c .before .if1 .left) (omega arith)
 
 -- src/lib.rt:224:9
 two-bytes-requires : tie.Need-two-bytes-requires
@@ -71,7 +71,7 @@ returns-3 c =
     let len = length-slice (from + 1 + 1) (a .next) p (c .before .before .before .before .before .pre .0 .1) in
     let n : c .before .two-bytes .result ≡ twoBytes x y = c .before .two-bytes .ensures .0 in
     let t = c .if3 .taken in
-    size-past (a .at) (a .count) (a .total) content (c .before .before .before .if1 .left) x y more e (rw n at t)
+    size-past (a .at) (a .count) (a .total) (a .most) content (c .before .before .before .if1 .left) x y more e (rw n at t)
 
 -- src/lib.rt:228:8
 sub-if4 : tie.Need-sub-if4
@@ -94,7 +94,7 @@ returns-4 c =
     let n : c .before .before .two-bytes .result ≡ twoBytes x y = c .before .before .two-bytes .ensures .0 in
     let t = c .before .if3 .left in
     let z = c .if4 .taken in
-    size-left (a .at) (a .count) (a .total) content (c .before .before .before .before .if1 .left) x y more e (rw n at t) (λ q. z (omega arith))
+    size-left (a .at) (a .count) (a .total) (a .most) content (c .before .before .before .before .if1 .left) x y more e (rw n at t) (λ q. z (omega arith))
 
 -- src/lib.rt:212:1
 returns-5 : tie.Need-returns-5
@@ -113,7 +113,7 @@ returns-5 c =
     let n : c .before .before .two-bytes .result ≡ twoBytes x y = c .before .before .two-bytes .ensures .0 in
     let t = c .before .if3 .left in
     let z = c .if4 .left in
-    ap good n ∙ size-good (a .at) (a .count) (a .total) content (c .before .before .before .before .if1 .left) x y more e (rw n at t) (slice-none (from + 1 + 1) (a .next) p (omega arith))
+    ap good n ∙ size-good (a .at) (a .count) (a .total) (a .most) content (c .before .before .before .before .if1 .left) x y more e (rw n at t) (slice-none (from + 1 + 1) (a .next) p (omega arith))
 
 pub register-size-spec : {M : Type 1} → statement M
 register-size-spec =

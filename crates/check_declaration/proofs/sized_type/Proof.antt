@@ -84,7 +84,7 @@ returns-3 c =
     let l = c .before .before .before .before .before .before .before .before .before .before .before .index .last .1 .1 .1 .1 .1 .1 .0 in
     let end = c .before .before .before .before .before .before .before .before .before .r .given .0 .0 in
     let v = past-upto p (a .at + 3) (a .next) (c .before .before .before .before .before .before .before .before .before .before .before .index .result) l end (c .before .before .before .before .before .before .before .before .before .r .given .1) (c .before .before .before .before .before .before .before .before .before .before .before .index .ensures .1) in
-    (λ fs ks. type-not fs ks (a .m) p (a .at) (a .next) (c .before .before .before .before .before .before .before .before .before .before .before .index .result) l (c .before .before .before .before .before .before .before .before .before .before .before .index .ensures .0) end (c .before .before .before .before .before .before .before .before .before .r .given .1) (v .0) (c .before .before .before .before .before .before .before .if1 .left) (c .before .before .must-show .result) (c .before .before .must-show .ensures .0) l (c .before .match2 .keys2), ends-stops (a .next) (c .before .before .must-show .result) l (c .before .match2 .keys2))
+    (λ fs ks. type-not fs ks (a .m) p (a .at) (a .next) (c .before .before .before .before .before .before .before .before .before .before .before .index .result) l (c .before .before .before .before .before .before .before .before .before .before .before .index .ensures .0) end (c .before .before .before .before .before .before .before .before .before .r .given .1) (v .0) (c .before .before .before .before .before .before .before .if1 .left) (c .before .before .must-show .result) (c .before .before .must-show .ensures .0 fs ks) l (c .before .match2 .keys2), ends-stops (a .next) (c .before .before .must-show .result) l (c .before .match2 .keys2))
 
 -- src/lib.rt:53:1
 returns-4 : tie.Need-returns-4
@@ -95,7 +95,7 @@ returns-4 c =
     let l = c .before .before .before .before .before .before .before .before .before .before .before .index .last .1 .1 .1 .1 .1 .1 .0 in
     let end = c .before .before .before .before .before .before .before .before .before .r .given .0 .0 in
     let v = past-upto p (a .at + 3) (a .next) (c .before .before .before .before .before .before .before .before .before .before .before .index .result) l end (c .before .before .before .before .before .before .before .before .before .r .given .1) (c .before .before .before .before .before .before .before .before .before .before .before .index .ensures .1) in
-    (λ fs ks. type-good fs ks (a .m) p (a .at) (a .next) (c .before .before .before .before .before .before .before .before .before .before .before .index .result) l (c .before .before .before .before .before .before .before .before .before .before .before .index .ensures .0) end (c .before .before .before .before .before .before .before .before .before .r .given .1) (v .0) (c .before .before .before .before .before .before .before .if1 .left) (c .before .before .must-show .result) (c .before .before .must-show .ensures .0) (c .before .match2 .keys1), (refl, v .1))
+    (λ fs ks. type-good fs ks (a .m) p (a .at) (a .next) (c .before .before .before .before .before .before .before .before .before .before .before .index .result) l (c .before .before .before .before .before .before .before .before .before .before .before .index .ensures .0) end (c .before .before .before .before .before .before .before .before .before .r .given .1) (v .0) (c .before .before .before .before .before .before .before .if1 .left) (c .before .before .must-show .result) (c .before .before .must-show .ensures .0 fs ks) (c .before .match2 .keys1), (refl, v .1))
 
 pub sized-type-spec : {M : Type 1} → statement M
 sized-type-spec =

@@ -5,6 +5,7 @@ use Rattle.check_operand.proofs.whole.Reads as reads
 use Rattle.check_operand.proofs.whole.Lts as lts
 use Rattle.check_operand.proofs.whole_fits.Reads as whole-fits-reads
 use Rattle.fields.proofs.wide.Reads as wide-reads
+use borrow.Author.Needs.{needs}
 use mathlib.Core.Path.{_≡_, ap, _∙_}
 use Prim.Native.Nat.{ℕ, _+_}
 use native.Mathlib.Omega.{arith}
@@ -21,11 +22,12 @@ use Rattle.forms.proofs.Laws.{fewer}
 use Rattle.check_operand.proofs.Operands.{whole-none, whole-beyond, whole-long, whole-good}
 use Rattle.check_operand.proofs.Tables.{kinds-get, kinds-none}
 
--- src/lib.rt:237:16
+-- src/lib.rt:226:16
 add-from : tie.Need-add-from
-add-from c = search needs
+add-from c =
+    search needs
 
--- src/lib.rt:239:9
+-- src/lib.rt:228:9
 returns : tie.Need-returns
 unfolding partTold
 returns c =
@@ -36,15 +38,17 @@ returns c =
     let d = wantedOf (a .wanted) (now (a .size)) in
     (λ fs. whole-none (scopeAt fs (a .s) (now (a .kinds)) (now (a .sizes)) (now (a .lows)) (now (a .highs))) d (a .at) (slice from (a .next) p) (slice-none from (a .next) p (c .if1 .taken)), tt)
 
--- src/lib.rt:241:26
+-- src/lib.rt:230:26
 shared-slice-read-wide : tie.Need-shared-slice-read-wide
-shared-slice-read-wide c = search needs
+shared-slice-read-wide c =
+    search needs
 
--- src/lib.rt:241:9
+-- src/lib.rt:230:9
 wide-requires : tie.Need-wide-requires
-wide-requires c κs = search needs
+wide-requires c κs =
+    search needs
 
--- src/lib.rt:243:9
+-- src/lib.rt:232:9
 returns-2 : tie.Need-returns-2
 unfolding partTold
 returns-2 c =
@@ -60,11 +64,12 @@ returns-2 c =
     let h = length-slice (from + 1) (a .next) p (c .before .before .before .before .before .before .before .pre .0 .1) in
     (λ fs. whole-beyond (scopeAt fs (a .s) (now (a .kinds)) (now (a .sizes)) (now (a .lows)) (now (a .highs))) d (a .at) (slice from (a .next) p) n more e (kinds-none (a .s .count) (a .s .first) n (now (a .kinds)) (now (a .sizes)) (let q = c .if2 .taken in omega arith)), tt)
 
--- src/lib.rt:245:8
+-- src/lib.rt:234:8
 sub-if3 : tie.Need-sub-if3
-sub-if3 c = search needs
+sub-if3 c =
+    search needs
 
--- src/lib.rt:246:9
+-- src/lib.rt:235:9
 returns-3 : tie.Need-returns-3
 unfolding partTold
 returns-3 c =
@@ -83,11 +88,12 @@ returns-3 c =
     let t = c .if3 .taken in
     (λ fs. whole-long (scopeAt fs (a .s) (now (a .kinds)) (now (a .sizes)) (now (a .lows)) (now (a .highs))) d (a .at) (slice from (a .next) p) n more e k get (λ z. t (omega arith)), tt)
 
--- src/lib.rt:248:15
+-- src/lib.rt:237:15
 add-row : tie.Need-add-row
-add-row c = search needs
+add-row c =
+    search needs
 
--- src/lib.rt:252:9
+-- src/lib.rt:241:9
 shared-slice-read-whole-fits : tie.Need-shared-slice-read-whole-fits
 shared-slice-read-whole-fits c =
     let r = c .before .before .before .before .before .before .before .before .before .before .pre .1 .1 in
@@ -96,7 +102,7 @@ shared-slice-read-whole-fits c =
     let q = c .before .before .before .if2 .left in
     omega (arith, c .before .before .before .before .before .before .before .before .before .before .good)
 
--- src/lib.rt:253:9
+-- src/lib.rt:242:9
 mul-whole-fits : tie.Need-mul-whole-fits
 mul-whole-fits c =
     let r = c .before .before .before .before .before .before .before .before .before .before .pre .1 .1 in
@@ -105,7 +111,7 @@ mul-whole-fits c =
     let q = c .before .before .before .if2 .left in
     omega (arith, c .before .before .before .before .before .before .before .before .before .before .good)
 
--- src/lib.rt:253:9
+-- src/lib.rt:242:9
 shared-slice-element-whole-fits : tie.Need-shared-slice-element-whole-fits
 shared-slice-element-whole-fits c =
     let r = c .before .before .before .before .before .before .before .before .before .before .pre .1 .1 in
@@ -114,7 +120,7 @@ shared-slice-element-whole-fits c =
     let q = c .before .before .before .if2 .left in
     omega (arith, c .before .before .before .before .before .before .before .before .before .before .good)
 
--- src/lib.rt:249:5
+-- src/lib.rt:238:5
 whole-fits-requires : tie.Need-whole-fits-requires
 whole-fits-requires c κs =
     let r = c .before .before .before .before .before .before .before .before .before .before .before .pre .1 .1 in
@@ -122,7 +128,7 @@ whole-fits-requires c κs =
     let g = r .nested in
     (c .before .before .before .before .before .before .before .before .before .before .before .pre .1 .0, (r .sizeRows .each (c .before .before .before .before .before .before .before .before .before .before .before .args .s .first + c .before .before .before .before .before .before .wide .result) (let q = c .before .before .before .before .if2 .left in let b = r .kindRows in omega arith), (omega arith, (fewer (r .lowRows) g, fewer (r .highRows) g))))
 
--- src/lib.rt:219:1
+-- src/lib.rt:208:1
 returns-4 : tie.Need-returns-4
 returns-4 c =
     let a = c .before .before .before .before .before .before .before .before .before .before .before .before .args in

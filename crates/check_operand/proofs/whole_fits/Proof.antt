@@ -4,6 +4,7 @@ use Rattle.check_operand.proofs.whole_fits.Tie as tie
 use Rattle.check_operand.proofs.whole_fits.Reads as reads
 use Rattle.check_operand.proofs.whole_fits.Lts as lts
 use Rattle.check_operand.proofs.large_enough.Reads as large-enough-reads
+use borrow.Author.Needs.{needs}
 use mathlib.Core.Path.{refl, sym, ap, _∙_}
 use denote.Ref.{now}
 use Rattle.language.specs.Check.{wholeFits}
@@ -17,7 +18,8 @@ use Rattle.check_operand.proofs.Fits.{wire-good, wire-bad, bit-bad, reg
 
 -- src/lib.rt:167:16
 enum-told : tie.Need-enum-told
-enum-told c = search needs
+enum-told c =
+    search needs
 
 -- src/lib.rt:168:17
 returns : tie.Need-returns
@@ -31,11 +33,13 @@ returns c =
 
 -- src/lib.rt:172:24
 enum-told-2 : tie.Need-enum-told-2
-enum-told-2 c = search needs
+enum-told-2 c =
+    search needs
 
 -- src/lib.rt:173:26
 enum-known-wanted : tie.Need-enum-known-wanted
-enum-known-wanted c = search needs
+enum-known-wanted c =
+    search needs
 
 -- src/lib.rt:175:17
 large-enough-requires : tie.Need-large-enough-requires
@@ -49,7 +53,7 @@ returns-2 c =
     let ls = loopsOf (a .loops) (now (a .lows)) (now (a .highs)) in
     let f = asForm (widened (now (a .own))) in
     let l = now (a .size) in
-    (λ fs ks. c .large-enough .ensures .0 ∙ register-good (a .at) (scopeWith fs ks (a .variables) ls) (a .kind) f (c .before .before .before .wanted .given .0 .0) l (c .before .if2 .taken) ∙ ap (λ (w : Wanted). wholeFits (a .at) (scopeWith fs ks (a .variables) ls) (wantedOf w l) (kindBy (a .kind) f)) (sym (c .before .before .before .wanted .given .1)), c .large-enough .ensures .1)
+    (λ fs ks. c .large-enough .ensures .0 fs ks ∙ register-good (a .at) (scopeWith fs ks (a .variables) ls) (a .kind) f (c .before .before .before .wanted .given .0 .0) l (c .before .if2 .taken) ∙ ap (λ (w : Wanted). wholeFits (a .at) (scopeWith fs ks (a .variables) ls) (wantedOf w l) (kindBy (a .kind) f)) (sym (c .before .before .before .wanted .given .1)), c .large-enough .ensures .1)
 
 -- src/lib.rt:145:1
 returns-3 : tie.Need-returns-3

@@ -10,12 +10,13 @@ use native.Mathlib.Omega.{arith}
 use borrow.Author.Needs.{needs}
 use denote.Ref.{now}
 use lib.Seq.{slice}
+use Rattle.language.specs.Limits.{mostBits}
 use Rattle.check_program.proofs.Registers.{creg-stops, creg-goes, register-row, holds-register}
 
 -- src/lib.rt:200:11
 register-requires : tie.Need-register-requires
 register-requires c κs =
-    (c .before .before .before .before .pre .0, (c .before .before .before .before .pre .1 .bitsFit, c .before .before .before .before .pre .1 .table))
+    (c .before .before .before .before .pre .0, (c .before .before .before .before .pre .1 .bitsFit, (omega arith, c .before .before .before .before .pre .1 .table)))
 
 -- src/lib.rt:210:23
 enum-known-k : tie.Need-enum-known-k
@@ -33,11 +34,11 @@ add-registers c =
     let a = c .before .before .before .before .before .before .before .before .before .before .before .args in
     let h = c .before .before .before .before .before .before .before .before .before .before .before .pre .1 in
     let content = slice (a .at + 3) (a .next) (now (a .program)) in
-    let kinds = c .before .before .before .before .before .before .register .last .1 .1 .1 .1 .1 .1 .0 in
-    let sizes = c .before .before .before .before .before .before .register .last .1 .1 .1 .1 .1 .1 .1 .0 in
+    let kinds = c .before .before .before .before .before .before .register .last .1 .1 .1 .1 .1 .1 .1 .0 in
+    let sizes = c .before .before .before .before .before .before .register .last .1 .1 .1 .1 .1 .1 .1 .1 .0 in
     let n = c .before .size .given .0 .0 in
     let u = c .before .size .given .1 in
-    let w = register-row (a .t) (now (a .families)) (now (a .kinds)) (now (a .sizes)) (a .at) content (c .before .before .before .before .before .before .register .result) n u h 2 (a .t .registers) (a .t .bits) kinds sizes (c .before .before .before .before .before .before .register .ensures .1) in
+    let w = register-row (a .t) (now (a .families)) (now (a .kinds)) (now (a .sizes)) (a .at) content (c .before .before .before .before .before .before .register .result) n u h 2 (a .t .registers) (a .t .bits) mostBits kinds sizes (c .before .before .before .before .before .before .register .ensures .1) in
     let room = w .room in
     let fits = w .fits in
     omega arith
@@ -48,11 +49,11 @@ add-bits c =
     let a = c .before .before .before .before .before .before .before .before .before .before .before .args in
     let h = c .before .before .before .before .before .before .before .before .before .before .before .pre .1 in
     let content = slice (a .at + 3) (a .next) (now (a .program)) in
-    let kinds = c .before .before .before .before .before .before .register .last .1 .1 .1 .1 .1 .1 .0 in
-    let sizes = c .before .before .before .before .before .before .register .last .1 .1 .1 .1 .1 .1 .1 .0 in
+    let kinds = c .before .before .before .before .before .before .register .last .1 .1 .1 .1 .1 .1 .1 .0 in
+    let sizes = c .before .before .before .before .before .before .register .last .1 .1 .1 .1 .1 .1 .1 .1 .0 in
     let n = c .before .size .given .0 .0 in
     let u = c .before .size .given .1 in
-    let w = register-row (a .t) (now (a .families)) (now (a .kinds)) (now (a .sizes)) (a .at) content (c .before .before .before .before .before .before .register .result) n u h 2 (a .t .registers) (a .t .bits) kinds sizes (c .before .before .before .before .before .before .register .ensures .1) in
+    let w = register-row (a .t) (now (a .families)) (now (a .kinds)) (now (a .sizes)) (a .at) content (c .before .before .before .before .before .before .register .result) n u h 2 (a .t .registers) (a .t .bits) mostBits kinds sizes (c .before .before .before .before .before .before .register .ensures .1) in
     let room = w .room in
     let fits = w .fits in
     omega arith
@@ -73,8 +74,8 @@ returns c =
     let a = c .before .before .before .before .before .before .before .before .before .before .before .args in
     let h = c .before .before .before .before .before .before .before .before .before .before .before .pre .1 in
     let content = slice (a .at + 3) (a .next) (now (a .program)) in
-    let kinds = c .before .before .before .before .before .before .register .last .1 .1 .1 .1 .1 .1 .0 in
-    let sizes = c .before .before .before .before .before .before .register .last .1 .1 .1 .1 .1 .1 .1 .0 in
+    let kinds = c .before .before .before .before .before .before .register .last .1 .1 .1 .1 .1 .1 .1 .0 in
+    let sizes = c .before .before .before .before .before .before .register .last .1 .1 .1 .1 .1 .1 .1 .1 .0 in
     (creg-stops (a .t) (now (a .families)) (now (a .kinds)) (now (a .sizes)) (a .at) content (c .before .before .before .before .before .before .register .result) (c .before .k .given .0 .0) (c .before .k .given .0 .1 .0) kinds sizes (c .before .k .given .1) (c .before .before .before .before .before .before .register .ensures .0), tt)
 
 -- src/lib.rt:184:1
@@ -83,11 +84,11 @@ same-length-3 c =
     let a = c .before .before .before .before .before .before .before .before .before .before .before .args in
     let h = c .before .before .before .before .before .before .before .before .before .before .before .pre .1 in
     let content = slice (a .at + 3) (a .next) (now (a .program)) in
-    let kinds = c .before .before .before .before .before .before .register .last .1 .1 .1 .1 .1 .1 .0 in
-    let sizes = c .before .before .before .before .before .before .register .last .1 .1 .1 .1 .1 .1 .1 .0 in
+    let kinds = c .before .before .before .before .before .before .register .last .1 .1 .1 .1 .1 .1 .1 .0 in
+    let sizes = c .before .before .before .before .before .before .register .last .1 .1 .1 .1 .1 .1 .1 .1 .0 in
     let n = c .before .size .given .0 .0 in
     let u = c .before .size .given .1 in
-    let w = register-row (a .t) (now (a .families)) (now (a .kinds)) (now (a .sizes)) (a .at) content (c .before .before .before .before .before .before .register .result) n u h 2 (a .t .registers) (a .t .bits) kinds sizes (c .before .before .before .before .before .before .register .ensures .1) in
+    let w = register-row (a .t) (now (a .families)) (now (a .kinds)) (now (a .sizes)) (a .at) content (c .before .before .before .before .before .before .register .result) n u h 2 (a .t .registers) (a .t .bits) mostBits kinds sizes (c .before .before .before .before .before .before .register .ensures .1) in
     let room = w .room in
     let fits = w .fits in
     w .apart .table .kindsLong ∙ sym (h .table .kindsLong)
@@ -98,11 +99,11 @@ same-length-4 c =
     let a = c .before .before .before .before .before .before .before .before .before .before .before .args in
     let h = c .before .before .before .before .before .before .before .before .before .before .before .pre .1 in
     let content = slice (a .at + 3) (a .next) (now (a .program)) in
-    let kinds = c .before .before .before .before .before .before .register .last .1 .1 .1 .1 .1 .1 .0 in
-    let sizes = c .before .before .before .before .before .before .register .last .1 .1 .1 .1 .1 .1 .1 .0 in
+    let kinds = c .before .before .before .before .before .before .register .last .1 .1 .1 .1 .1 .1 .1 .0 in
+    let sizes = c .before .before .before .before .before .before .register .last .1 .1 .1 .1 .1 .1 .1 .1 .0 in
     let n = c .before .size .given .0 .0 in
     let u = c .before .size .given .1 in
-    let w = register-row (a .t) (now (a .families)) (now (a .kinds)) (now (a .sizes)) (a .at) content (c .before .before .before .before .before .before .register .result) n u h 2 (a .t .registers) (a .t .bits) kinds sizes (c .before .before .before .before .before .before .register .ensures .1) in
+    let w = register-row (a .t) (now (a .families)) (now (a .kinds)) (now (a .sizes)) (a .at) content (c .before .before .before .before .before .before .register .result) n u h 2 (a .t .registers) (a .t .bits) mostBits kinds sizes (c .before .before .before .before .before .before .register .ensures .1) in
     let room = w .room in
     let fits = w .fits in
     w .apart .table .sizesLong ∙ sym (h .table .sizesLong)
@@ -113,14 +114,14 @@ returns-2 c =
     let a = c .before .before .before .before .before .before .before .before .before .before .before .args in
     let h = c .before .before .before .before .before .before .before .before .before .before .before .pre .1 in
     let content = slice (a .at + 3) (a .next) (now (a .program)) in
-    let kinds = c .before .before .before .before .before .before .register .last .1 .1 .1 .1 .1 .1 .0 in
-    let sizes = c .before .before .before .before .before .before .register .last .1 .1 .1 .1 .1 .1 .1 .0 in
+    let kinds = c .before .before .before .before .before .before .register .last .1 .1 .1 .1 .1 .1 .1 .0 in
+    let sizes = c .before .before .before .before .before .before .register .last .1 .1 .1 .1 .1 .1 .1 .1 .0 in
     let n = c .before .size .given .0 .0 in
     let u = c .before .size .given .1 in
-    let w = register-row (a .t) (now (a .families)) (now (a .kinds)) (now (a .sizes)) (a .at) content (c .before .before .before .before .before .before .register .result) n u h 2 (a .t .registers) (a .t .bits) kinds sizes (c .before .before .before .before .before .before .register .ensures .1) in
+    let w = register-row (a .t) (now (a .families)) (now (a .kinds)) (now (a .sizes)) (a .at) content (c .before .before .before .before .before .before .register .result) n u h 2 (a .t .registers) (a .t .bits) mostBits kinds sizes (c .before .before .before .before .before .before .register .ensures .1) in
     let room = w .room in
     let fits = w .fits in
-    (creg-goes (a .t) (now (a .families)) (now (a .kinds)) (now (a .sizes)) (a .at) content (c .before .before .before .before .before .before .register .result) n u h w (c .before .before .before .before .before .before .register .ensures .0), holds-register (a .t) (now (a .families)) n 2 (a .t .bits) h w (a .t .qubits) (a .t .bits + n) (h .qubitsFit) fits)
+    (creg-goes (a .t) (now (a .families)) (now (a .kinds)) (now (a .sizes)) (a .at) content (c .before .before .before .before .before .before .register .result) n u h w (c .before .before .before .before .before .before .register .ensures .0), holds-register (a .t) (now (a .families)) n 2 (a .t .bits) mostBits h w (a .t .qubits) (a .t .bits + n) (h .qubitsFit) fits)
 
 pub classical-register-spec : {M : Type 1} → statement M
 classical-register-spec =

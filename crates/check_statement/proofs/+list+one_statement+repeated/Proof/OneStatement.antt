@@ -7,6 +7,8 @@ use mathlib.Core.Path.{sym, _∙_}
 use native.Mathlib.Omega.{arith}
 use borrow.Author.Needs.{needs}
 use denote.Ref.{now}
+use Rattle.language.specs.Read.{gateOf, cxOf}
+use Rattle.language.specs.Check.{checkStatement}
 use Rattle.fields.specs.Header.{fieldsAt}
 use Rattle.check_index.specs.Answers.{partTold}
 use Rattle.check_operand.specs.Tables.{tabulated}
@@ -106,7 +108,7 @@ module _ (t : ℕ) where
 
   -- src/lib.rt:104:1
   pub returns-2 : lts.Need-returns-2 (calls t) (at t) Post
-  unfolding fieldsAt
+  unfolding checkStatement gateOf fieldsAt
   returns-2 c =
       let a = c .before .before .before .before .before .before .before .before .before .args in
       let p = now (a .program) in
@@ -116,7 +118,7 @@ module _ (t : ℕ) where
 
   -- src/lib.rt:104:1
   pub returns-3 : lts.Need-returns-3 (calls t) (at t) Post
-  unfolding fieldsAt
+  unfolding checkStatement cxOf fieldsAt
   returns-3 c =
       let a = c .before .before .before .before .before .before .before .before .before .args in
       let p = now (a .program) in
@@ -135,7 +137,7 @@ module _ (t : ℕ) where
 
   -- src/lib.rt:104:1
   pub returns-5 : lts.Need-returns-5 (calls t) (at t) Post
-  unfolding fieldsAt
+  unfolding checkStatement fieldsAt
   returns-5 c =
       let a = c .before .before .before .before .before .before .before .args in
       let p = now (a .program) in
@@ -155,7 +157,7 @@ module _ (t : ℕ) where
 
   -- src/lib.rt:104:1
   pub returns-7 : lts.Need-returns-7 (calls t) (at t) Post
-  unfolding partTold
+  unfolding partTold checkStatement
   returns-7 c =
       let a = c .before .before .before .before .before .before .args in
       let p = now (a .program) in
