@@ -14,16 +14,16 @@ ghost use Rattle.check_operand.specs.Tables.{kindBy, TablesRight, kindsAt, scop
 ghost use Rattle.check_index.specs.Answers.{partTold, Upon, PastCount};
 ghost use Rattle.check_operand.specs.Operands.{wantedOf, SizeRight};
 ghost use Rattle.check_call.specs.Calls.{FamiliesRight, scopeFull, takenBy, formsTold, LoopsRight};
-use check_index::DEEPEST;
-use check_index::FORM_NUMBERS;
-use check_index::Form;
-use check_index::MOST_VARIABLES;
 use check_index::Read;
-use check_index::Size;
 use check_operand::QUANTUM;
 use check_operand::QUBIT;
 use check_operand::Visible;
 use check_operand::Wanted;
+use forms::FORM_NUMBERS;
+use forms::Form;
+use forms::Size;
+use limits::DEEPEST;
+use limits::MOST_VARIABLES;
 
 // A row of the table of families: how many index variables, how many parameters, and the first row of their kinds.
 pub type FamilyRow = [usize; 3];

@@ -14,24 +14,17 @@ ghost use Rattle.check_operand.specs.Tables.{scopeWith};
 ghost use Rattle.check_declaration.specs.Registers.{numberTold, registerIn, RegisterSet};
 ghost use Rattle.check_declaration.specs.Types.{sizeTold, typeTold, TypePast, OperandTable, Apart, rowTold, rowsTold, tableRows};
 ghost use Rattle.check_declaration.specs.Families.{countsTold, countsIn, BothRight};
-use check_index::DEEPEST;
-use check_index::FORM_NUMBERS;
-use check_index::Form;
-use check_index::MOST_VARIABLES;
 use check_index::Read;
-use check_index::SIZE_NUMBERS;
-use check_index::Size;
 use fields::Header;
-
-pub const MOST_FAMILIES: usize = 255;
-
-pub const MOST_REGISTERS: usize = 255;
-
-// Qubits, or bits, of a program.
-pub const MOST_WIRES: usize = 65_535;
-
-// Parameters of a family.
-pub const MOST_PARAMETERS: usize = 8;
+use forms::FORM_NUMBERS;
+use forms::Form;
+use forms::SIZE_NUMBERS;
+use forms::Size;
+use limits::DEEPEST;
+use limits::MOST_FAMILIES;
+use limits::MOST_PARAMETERS;
+use limits::MOST_REGISTERS;
+use limits::MOST_VARIABLES;
 
 // The rows of the table of operands: one for each register, and then those of the families' parameters, as they come.
 pub const TABLE_ROWS: usize = MOST_REGISTERS + MOST_FAMILIES * MOST_PARAMETERS;

@@ -1,8 +1,7 @@
 -- What the code's tags, operations and counts of variables stand for.
 use mathlib.Core.Path.{_≡_}
 use mathlib.Core.List.{List, []}
-use Prim.Native.Nat.{ℕ, _+_}
-use Rattle.language.specs.Limits.{allVariables}
+use Prim.Native.Nat.{ℕ}
 use Rattle.language.specs.Tree.{Index, badIndex}
 use Rattle.language.specs.Read.{Field, field, Reader, ofFields, readLiteral, readVariable, operationOf, indexBy}
 use Rattle.language.specs.Check.{Scope}
@@ -11,10 +10,6 @@ use Rattle.check_index.specs.declared.Operation.the-variants.{Sum, Diffe
 use Rattle.check_index.specs.declared.IndexTag.{IndexTag}
 use Rattle.check_index.specs.declared.IndexTag.the-variants.{Literal, Variable, Both, Other}
 use Rattle.language.specs.Tree as T
-
--- the numbers of a form: the constant, and a coefficient for each variable
-abbrev pub formNumbers : ℕ
-formNumbers = allVariables + 1
 
 unfoldable pub treeOperation : Operation → T.Operation
 treeOperation Sum = T.sum

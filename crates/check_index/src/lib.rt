@@ -13,29 +13,9 @@ ghost use Rattle.forms.specs.Flat.{Kept, asForm};
 ghost use Rattle.check_index.specs.Indexes.{IndexSays, treeOperation, scopeOf};
 ghost use Rattle.check_index.specs.Answers.{formTold, EndsAt, Past};
 use fields::Header;
+use forms::FORM_NUMBERS;
+use forms::Form;
 use forms::Product;
-
-// Index variables of a family.
-pub const MOST_VARIABLES: usize = 4;
-
-// Loops open at once.
-pub const MOST_LOOPS: usize = 8;
-
-// Index variables in scope at once.
-pub const ALL_VARIABLES: usize = MOST_VARIABLES + MOST_LOOPS;
-
-// Levels of nested statements, and of nested indexes.
-pub const DEEPEST: usize = 16;
-
-// The numbers of a form: the constant, and a coefficient for each variable.
-pub const FORM_NUMBERS: usize = ALL_VARIABLES + 1;
-
-// The numbers of a size in a table: the constant, and a coefficient for each variable of a family.
-pub const SIZE_NUMBERS: usize = MOST_VARIABLES + 1;
-
-pub type Form = [i64; FORM_NUMBERS];
-
-pub type Size = [i64; SIZE_NUMBERS];
 
 // The tags of index fields, from the first to the last.
 const FIRST_TAG: u8 = 64;

@@ -12,19 +12,18 @@ ghost use Rattle.language.specs.Form.{Form, built, differenceOf, _thenBuild_};
 ghost use Rattle.language.specs.Check.{Kind, Signature, elementSize, mustShow, wire, wholeFits, checkWithin, checkOperand};
 ghost use Rattle.language.specs.Limits.{allVariables};
 ghost use Rattle.fields.specs.Header.{fieldsAt};
-ghost use Rattle.forms.specs.Flat.{Kept, Short, widened, asForm, builtOf};
+ghost use Rattle.forms.specs.Flat.{formNumbers, Kept, Short, widened, asForm, builtOf};
 ghost use Rattle.forms.specs.Rows.{Rows, loopsOf};
 ghost use Rattle.check_operand.specs.Tables.{kindBy, TablesRight, scopeWith, scopeAt};
 ghost use Rattle.check_operand.specs.Operands.{sizeKnown, wantedOf, SizeRight, oneWire, twoOperands};
 ghost use Rattle.check_index.specs.Answers.{partTold, Upon, Passes};
-ghost use Rattle.check_index.specs.Indexes.{formNumbers};
-use check_index::DEEPEST;
-use check_index::FORM_NUMBERS;
-use check_index::Form;
 use check_index::Read;
-use check_index::Size;
 use fields::Header;
+use forms::FORM_NUMBERS;
+use forms::Form;
+use forms::Size;
 use forms::Verdict;
+use limits::DEEPEST;
 
 // The kinds in a table of operands: a Qbit parameter; a quantum register or Qbit[I] parameter; a classical register.
 pub const QUBIT: u8 = 0;

@@ -14,20 +14,20 @@ ghost use Rattle.check_program.specs.Declarations.{familyIn, declaredIn,
 ghost use Rattle.check_program.specs.Answers.{resultTold};
 use check_call::FamilyRow;
 use check_declaration::Counts;
-use check_declaration::MOST_FAMILIES;
-use check_declaration::MOST_REGISTERS;
 use check_declaration::TABLE_ROWS;
-use check_index::DEEPEST;
-use check_index::FORM_NUMBERS;
-use check_index::MOST_LOOPS;
 use check_index::Read;
-use check_index::SIZE_NUMBERS;
-use check_index::Size;
 use check_operand::Visible;
 use fields::Header;
-
-// Bytes of a program.
-const LONGEST_PROGRAM: usize = 65_535;
+use forms::FORM_NUMBERS;
+use forms::SIZE_NUMBERS;
+use forms::Size;
+use limits::DEEPEST;
+use limits::LONGEST_PROGRAM;
+use limits::MOST_BITS;
+use limits::MOST_FAMILIES;
+use limits::MOST_LOOPS;
+use limits::MOST_REGISTERS;
+use limits::MOST_WIRES;
 
 // How much is declared so far: families, registers, qubits and bits; and how many rows of the table of operands are in use.
 pub struct SoFar {
@@ -162,7 +162,7 @@ fn quantum_register(
         check_operand::QUANTUM,
         n,
         total,
-        limits::MOST_WIRES,
+        MOST_WIRES,
         kinds,
         sizes,
     ) {
@@ -205,7 +205,7 @@ fn classical_register(
         check_operand::CLASSICAL,
         n,
         total,
-        limits::MOST_BITS,
+        MOST_BITS,
         kinds,
         sizes,
     ) {

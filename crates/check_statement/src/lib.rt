@@ -16,17 +16,17 @@ ghost use Rattle.check_statement.specs.Statements.{StatementSays, loopTo
 ghost use Rattle.check_call.specs.Calls.{FamiliesRight, scopeFull};
 use check_call::FamilyRow;
 use check_call::call;
-use check_index::DEEPEST;
-use check_index::FORM_NUMBERS;
-use check_index::Form;
-use check_index::MOST_LOOPS;
 use check_index::Read;
-use check_index::Size;
 use check_operand::Visible;
 use check_operand::Wanted;
 use check_operand::one_wire;
 use check_operand::two_wires;
 use fields::Header;
+use forms::FORM_NUMBERS;
+use forms::Form;
+use forms::Size;
+use limits::DEEPEST;
+use limits::MOST_LOOPS;
 
 // Levels of the statements in a conditional, which stands at the top.
 const IN_CONDITIONAL: usize = DEEPEST - 1;
