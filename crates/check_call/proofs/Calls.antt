@@ -9,19 +9,19 @@ use lib.Dec.{eqb, leb}
 use lib.IntN.{ℤ}
 use lib.ListN.{length, drop, getElem?, drop-of-length-le}
 use lib.Seq.{slice}
-use borrow.Author.Tests.{eqb-true, ne-eqb, le-leb, lt-leb, leb-true}
+use borrow.Author.Tests.{eqb-true, le-leb, lt-leb, leb-true}
 use types.Run.{OneOf}
 use denote.Enum.Declared.{tagOf}
 use Rattle.language.specs.Tree.{Operand, badOperand, Argument, index, operand, badArgument}
 use Rattle.language.specs.Read.{Field, field, choose, due, outerIndex, isIndexTag, isOperandTag, Reader, readWhole, readElement, readOperand, readArgument, readCall}
-use Rattle.language.specs.Form.{Form, putIn}
+use Rattle.language.specs.Form.{Form}
 use Rattle.language.specs.Check.{Checked, good, refused, _>>=_, _>>_, Kind, Signature, checkOperand, callForms, callOperands, taken, inScope, checkCall, checkStatement}
 use Rattle.language.proofs.Integers.{clash}
 use Rattle.fields.specs.Header.{fieldsAt}
 use Rattle.fields.proofs.Reading.{View, ends, cuts, goes, view, fields-end}
 use Rattle.forms.specs.Rows.{formsOf}
 use Rattle.check_index.proofs.Read.{the-type}
-use Rattle.check_operand.specs.Tables.{kindBy, tabulated}
+use Rattle.check_operand.specs.Tables.{tabulated}
 use Rattle.check_index.specs.Answers.{partTold, Beyond}
 use Rattle.check_call.specs.Calls.{formsTold}
 use Rattle.check_index.specs.declared.Read.{Read}
@@ -29,19 +29,6 @@ use Rattle.check_index.specs.declared.Read.the-variants.{Upto, Refused}
 use Rattle.check_index.proofs.Answers.{not-first}
 use Rattle.check_operand.proofs.Tables.{length-rows}
 use Rattle.language.specs.Check as C
-
-module _ (forms : List Form) (b : ℕ) (f : Form) where
-  pub taken-wire : b ≡ 0 → C.wire ≡ taken forms (kindBy b f)
-  unfolding taken kindBy
-  taken-wire e = sym (ap (λ (k : ℕ). taken forms (kindBy k f)) e)
-
-  pub taken-register : b ≡ 1 → C.register (putIn f forms) ≡ taken forms (kindBy b f)
-  unfolding taken kindBy
-  taken-register e = sym (ap (λ (k : ℕ). taken forms (kindBy k f)) e)
-
-  pub taken-bit : (b ≡ 0 → ⊥) → (b ≡ 1 → ⊥) → C.bit ≡ taken forms (kindBy b f)
-  unfolding taken kindBy
-  taken-bit x y = sym (rw (ne-eqb b 0 x, ne-eqb b 1 y))
 
 not-operand : (p tag : ℕ) (content : List ℕ) → isOperandTag tag ≡ false → readOperand (field p tag content) ≡ badOperand 3 p
 unfolding readOperand choose

@@ -13,10 +13,6 @@ use Rattle.check_index.specs.declared.Read.{Read}
 use Rattle.check_index.specs.declared.Read.the-variants.{Upto, Refused}
 use Rattle.language.specs.Check as C
 
--- `taken` of the definitions, whose name a function of the code has too
-abbrev pub takenBy : List Form → C.Kind → C.Due
-takenBy forms k = C.taken forms k
-
 -- the open loops in the tables
 pub record LoopsRight (s : Visible) (lows highs : List (List ℤ)) : Type 0 where
   pub few : s .variables ≤ mostVariables

@@ -5,18 +5,16 @@ ghost use Prim.Native.Nat.{_+_, _≤_};
 ghost use lib.ListN.{length};
 ghost use lib.Seq.{slice};
 ghost use Rattle.language.specs.Read.{readArgument, readCall};
-ghost use Rattle.language.specs.Check.{Kind, Signature, callForms, callOperands, checkStatement};
+ghost use Rattle.language.specs.Check.{Kind, Signature, taken, callForms, callOperands, checkStatement};
 ghost use Rattle.language.specs.Limits.{mostVariables};
 ghost use Rattle.fields.specs.Header.{fieldsAt};
 ghost use Rattle.forms.specs.Flat.{Short, widened, asForm};
 ghost use Rattle.forms.specs.Rows.{Rows, loopsOf, formsOf};
-ghost use Rattle.check_operand.specs.Tables.{kindBy, TablesRight, kindsAt, scopeWith, scopeAt};
+ghost use Rattle.check_operand.specs.Tables.{kindIn, TablesRight, kindsAt, scopeWith, scopeAt};
 ghost use Rattle.check_index.specs.Answers.{partTold, Upon, PastCount};
 ghost use Rattle.check_operand.specs.Operands.{wantedOf, SizeRight};
-ghost use Rattle.check_call.specs.Calls.{FamiliesRight, scopeFull, takenBy, formsTold, LoopsRight};
+ghost use Rattle.check_call.specs.Calls.{FamiliesRight, scopeFull, formsTold, LoopsRight};
 use check_index::Read;
-use check_operand::QUANTUM;
-use check_operand::QUBIT;
 use check_operand::Visible;
 use check_operand::Wanted;
 use forms::FORM_NUMBERS;
@@ -67,21 +65,24 @@ fn call_forms(
 }
 
 // What a parameter of a kind and an own size takes, with a call's m forms put in; the size goes to `size`.
-fn taken(kind: u8, own: &Size, forms: &[Form; MOST_VARIABLES], m: usize, size: &mut Form) -> Wanted
+fn taken_by(
+    kind: kinds::Kind,
+    own: &Size,
+    forms: &[Form; MOST_VARIABLES],
+    m: usize,
+    size: &mut Form,
+) -> Wanted
     requires { ⌜ Short (now own) ⌝ }
     requires { ⌜ m ≤ mostVariables ⌝ }
     requires { ⌜ Rows (now forms) mostVariables ⌝ }
-    ensures { λ r. ⌜ wantedOf r (now (size .exit)) ≡ takenBy (formsOf m (now (forms .entry))) (kindBy kind (asForm (widened (now (own .entry))))) ⌝ }
+    ensures { λ r. ⌜ wantedOf r (now (size .exit)) ≡ taken (formsOf m (now (forms .entry))) (kindIn kind (asForm (widened (now (own .entry))))) ⌝ }
     ensures { λ r. ⌜ SizeRight r (now (size .exit)) ⌝ }
 {
-    if kind == QUBIT {
-        return Wanted::Wire;
+    match kind {
+        kinds::Kind::Qubit => Wanted::Wire,
+        kinds::Kind::Quantum => Wanted::Register(forms::put_in(size, own, forms, m)),
+        kinds::Kind::Classical => Wanted::Bit,
     }
-    if kind == QUANTUM {
-        let known = forms::put_in(size, own, forms, m);
-        return Wanted::Register(known);
-    }
-    Wanted::Bit
 }
 
 // A call's operands from `at` on, for `count` parameters whose kinds and sizes stand from the row `first` on, and nothing after them.
@@ -112,7 +113,8 @@ fn call_operands(
     for j in 0..count {
         let row = first + j;
         let mut size = [0i64; FORM_NUMBERS];
-        let wanted = taken(kinds[row], &sizes[row], forms, m, &mut size);
+        let kind = check_operand::kind_by(kinds[row]);
+        let wanted = taken_by(kind, &sizes[row], forms, m, &mut size);
         let r = check_operand::operand(
             program,
             from,

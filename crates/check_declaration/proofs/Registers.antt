@@ -13,6 +13,7 @@ use denote.Enum.Declared.{tagOf}
 use Rattle.language.specs.Limits.{mostRegisters}
 use Rattle.language.specs.Read.{ending, twoBytes, registerSize, registerEnd}
 use Rattle.language.specs.Check.{Checked, good, refused, _>>=_, _>>_, require, noLeftover, checkNumber, checkRegister}
+use Rattle.kinds.specs.declared.Kind.{Kind}
 use Rattle.check_index.proofs.Read.{the-type}
 use Rattle.check_declaration.specs.Registers.{registerIn, numberTold, RegisterSet}
 use Rattle.check_index.specs.declared.Read.{Read}
@@ -84,6 +85,6 @@ pub size-fits : (r : Read) (n p count total most : ℕ) (content : List ℕ) →
 unfolding numberTold checkRegister
 size-fits r n p count total most content u e = many p count total most n (ltb count mostRegisters) refl (checkNumber p (registerSize content)) (C.noLeftover p (registerEnd content)) (sym (ap numberTold u) ∙ e)
 
-pub register-stops : (r : Read) (kind count total most : ℕ) (k₀ : List ℕ) (s₀ : List (List ℤ)) (k₁ : List ℕ) (s₁ : List (List ℤ)) → OneOf (1 ∷ []) (tagOf the-type r) → RegisterSet r kind count total most k₀ s₀ k₁ s₁
+pub register-stops : (r : Read) (kind : Kind) (count total most : ℕ) (k₀ : List ℕ) (s₀ : List (List ℤ)) (k₁ : List ℕ) (s₁ : List (List ℤ)) → OneOf (1 ∷ []) (tagOf the-type r) → RegisterSet r kind count total most k₀ s₀ k₁ s₁
 register-stops (Upto n) kind count total most k₀ s₀ k₁ s₁ h = not-first h
 register-stops (Refused n p) kind count total most k₀ s₀ k₁ s₁ h = tt

@@ -20,14 +20,16 @@ use Rattle.check_index.proofs.Read.{the-type}
 use Rattle.check_index.proofs.Answers.{more-left, none-left, not-first, then-goes}
 use Rattle.check_index.specs.Answers.{PastField, EndsAt, formTold, partTold}
 use Rattle.check_index.specs.Indexes.{scopeOf}
-use Rattle.check_operand.specs.Tables.{scopeWith, kindBy, kindAt, kindsAt, tabulated}
-use Rattle.check_declaration.specs.Types.{sizeTold, typeTold, TypePast, OperandTable, Apart, rowTold, rowsTold}
+use Rattle.kinds.specs.Numbers.{numberOf}
+use Rattle.kinds.specs.declared.Kind.the-variants.{Qubit, Quantum}
+use Rattle.check_operand.specs.Tables.{scopeWith, kindIn, kindAt, kindsAt, tabulated}
+use Rattle.check_declaration.specs.Types.{tableRows, sizeTold, typeTold, TypePast, OperandTable, Apart, rowTold, rowsTold}
 use Rattle.check_index.specs.declared.Read.{Read}
 use Rattle.check_index.specs.declared.Read.the-variants.{Upto, Refused}
 use Rattle.check_operand.proofs.Tables.{same-forms, row-more}
 use Rattle.check_declaration.specs.declared.TypeRead.{TypeRead}
 use Rattle.check_declaration.specs.declared.TypeRead.the-variants.{Single, Many, Bad}
-use Rattle.check_declaration.proofs.Tables.{row-kind, row-both, rows-below}
+use Rattle.check_declaration.proofs.Tables.{row-kind, row-both, rows-below, numbered}
 use Rattle.language.specs.Tree as T
 use Rattle.language.specs.Check as C
 
@@ -182,14 +184,14 @@ all-kinds s place fs ks = ap good (append-nil ks)
     append-nil [] = refl
     append-nil (x ∷ xs) = ap (λ (y : List Kind). x ∷ y) (append-nil xs)
 
-module _ (r : TypeRead) (n q : ℕ) (l : List ℤ) (row : ℕ) (kinds : List ℕ) (sizes : List (List ℤ)) (t : OperandTable kinds sizes) (h : row < 2295) where
-  pub typed-single : r ≡ Single n → rowTold (Upto n) row (set kinds row 0) sizes ≡ typeTold r l
-  unfolding rowTold typeTold kindBy
-  typed-single e = ap good (row-kind row kinds sizes t h 0) ∙ sym (ap (λ (x : TypeRead). typeTold x l) e)
+module _ (r : TypeRead) (n q : ℕ) (l : List ℤ) (row : ℕ) (kinds : List ℕ) (sizes : List (List ℤ)) (t : OperandTable kinds sizes) (h : row < tableRows) where
+  pub typed-single : (b : ℕ) → b ≡ numberOf Qubit → r ≡ Single n → rowTold (Upto n) row (set kinds row b) sizes ≡ typeTold r l
+  unfolding rowTold typeTold kindIn
+  typed-single b u e = ap good (row-kind row kinds sizes t h b ∙ numbered Qubit b _ u) ∙ sym (ap (λ (x : TypeRead). typeTold x l) e)
 
-  pub typed-many : (short : List ℤ) → r ≡ Many n → Short short → widened short ≡ l → rowTold (Upto n) row (set kinds row 1) (set sizes row short) ≡ typeTold r l
-  unfolding rowTold typeTold kindBy
-  typed-many short e k w = ap good (row-both row kinds sizes t h 1 short k ∙ ap (λ (x : List ℤ). quantum (asForm x)) w) ∙ sym (ap (λ (x : TypeRead). typeTold x l) e)
+  pub typed-many : (b : ℕ) → b ≡ numberOf Quantum → (short : List ℤ) → r ≡ Many n → Short short → widened short ≡ l → rowTold (Upto n) row (set kinds row b) (set sizes row short) ≡ typeTold r l
+  unfolding rowTold typeTold kindIn
+  typed-many b u short e k w = ap good (row-both row kinds sizes t h b short k ∙ numbered Quantum b _ u ∙ ap (λ (x : List ℤ). quantum (asForm x)) w) ∙ sym (ap (λ (x : TypeRead). typeTold x l) e)
 
   pub typed-bad : r ≡ Bad n q → rowTold (Refused n q) row kinds sizes ≡ typeTold r l
   unfolding rowTold typeTold

@@ -7,9 +7,10 @@ use Rattle.language.specs.Limits.{mostRegisters}
 use Rattle.language.specs.Read.{registerSize, registerEnd}
 use Rattle.language.specs.Check.{Checked, good, refused, checkRegister}
 use Rattle.language.specs.Form.{constantForm}
+use Rattle.kinds.specs.declared.Kind.{Kind}
 use Rattle.check_index.specs.declared.Read.{Read}
 use Rattle.check_index.specs.declared.Read.the-variants.{Upto, Refused}
-use Rattle.check_operand.specs.Tables.{kindBy, kindAt}
+use Rattle.check_operand.specs.Tables.{kindIn, kindAt}
 use Rattle.check_declaration.specs.Types.{Apart}
 
 -- the size of the register at p with this content, after so many registers and qubits or bits, of which there may be at most so many
@@ -21,12 +22,12 @@ numberTold (Upto n) = good n
 numberTold (Refused n p) = refused n p
 
 -- the row of a register, and that no other changes
-pub record RegisterRow (size kind count total most : ℕ) (kinds : List ℕ) (sizes : List (List ℤ)) (kinds' : List ℕ) (sizes' : List (List ℤ)) : Type 0 where
+pub record RegisterRow (size : ℕ) (kind : Kind) (count total most : ℕ) (kinds : List ℕ) (sizes : List (List ℤ)) (kinds' : List ℕ) (sizes' : List (List ℤ)) : Type 0 where
   pub room : count < mostRegisters
   pub fits : total + size ≤ most
   pub apart : Apart count 1 kinds sizes kinds' sizes'
-  pub row : kindAt count kinds' sizes' ≡ kindBy kind (constantForm (pos size))
+  pub row : kindAt count kinds' sizes' ≡ kindIn kind (constantForm (pos size))
 
-abbrev pub RegisterSet : Read → (kind count total most : ℕ) → List ℕ → List (List ℤ) → List ℕ → List (List ℤ) → Type 0
+abbrev pub RegisterSet : Read → Kind → (count total most : ℕ) → List ℕ → List (List ℤ) → List ℕ → List (List ℤ) → Type 0
 RegisterSet (Upto n) kind count total most kinds sizes kinds' sizes' = RegisterRow n kind count total most kinds sizes kinds' sizes'
 RegisterSet (Refused n p) kind count total most kinds sizes kinds' sizes' = Unit {0}

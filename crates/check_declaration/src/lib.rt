@@ -124,13 +124,13 @@ fn typed_row(
     let mut f = [0i64; FORM_NUMBERS];
     match parameter_type(program, at, to, place, m, &mut f) {
         TypeRead::Single(next) => {
-            kinds[row] = check_operand::QUBIT;
+            kinds[row] = kinds::number(kinds::Kind::Qubit);
             Read::Upto(next)
         }
         TypeRead::Many(next) => {
             let mut size = [0i64; SIZE_NUMBERS];
             forms::store(&mut size, &f);
-            kinds[row] = check_operand::QUANTUM;
+            kinds[row] = kinds::number(kinds::Kind::Quantum);
             sizes[row] = size;
             Read::Upto(next)
         }
@@ -237,7 +237,7 @@ pub fn register(
     program: &[u8],
     at: usize,
     next: usize,
-    kind: u8,
+    kind: kinds::Kind,
     count: usize,
     total: usize,
     most: usize,
@@ -259,7 +259,7 @@ pub fn register(
     forms::set_constant(&mut f, size as i64);
     let mut short = [0i64; SIZE_NUMBERS];
     forms::store(&mut short, &f);
-    kinds[count] = kind;
+    kinds[count] = kinds::number(kind);
     sizes[count] = short;
     Read::Upto(size)
 }

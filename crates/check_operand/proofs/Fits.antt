@@ -1,18 +1,21 @@
 -- What is shown, and which kinds fit. Assumes nothing.
 use mathlib.Core.Path.{_≡_, refl, sym, ap, _∙_}
-use mathlib.Core.List.{List}
-use mathlib.Core.Bool.{Bool, true, false, cond}
+use mathlib.Core.List.{List, [], _∷_}
+use mathlib.Core.Bool.{Bool, true, false}
 use Prim.Native.Nat.{ℕ}
-use lib.Dec.{eqb}
 use lib.IntN.{ℤ}
-use borrow.Author.Tests.{ne-eqb, eq-eqb}
+use types.Run.{OneOf, miss}
+use denote.Enum.Declared.{tagOf}
 use Rattle.language.specs.Form.{Form, Built, built, outOfRange, differenceOf, _thenBuild_}
-use Rattle.language.specs.Check.{good, refused, Kind, qubit, quantum, classical, byShowing, mustShow, wholeFits, elementSize}
+use Rattle.language.specs.Check.{good, refused, Kind, byShowing, mustShow, wholeFits, elementSize}
+use Rattle.kinds.proofs.Kind.{the-type}
+use Rattle.kinds.specs.declared.Kind.the-variants.{Qubit, Quantum, Classical}
 use Rattle.forms.specs.Flat.{asForm, builtOf}
 use Rattle.forms.proofs.Laws.{show-outside}
-use Rattle.check_operand.specs.Tables.{kindBy}
+use Rattle.check_operand.specs.Tables.{kindIn}
 use Rattle.check_operand.specs.Operands.{wantedOf}
 use Rattle.check_operand.specs.declared.Wanted.the-variants.{Wire, Bit, Register}
+use Rattle.kinds.specs.declared.Kind as K
 use Rattle.language.specs.Check as C
 
 pub shown-outside : (p : ℕ) (s : C.Scope) → refused 11 p ≡ mustShow p s outOfRange
@@ -26,61 +29,54 @@ not-made l e q = sym e ∙ ap (λ (t : Bool). builtOf t l) q
 pub is-made : (l : List ℤ) {t : Bool} {b : Built} → builtOf t l ≡ b → t ≡ true → b ≡ built (asForm l)
 is-made l e q = sym e ∙ ap (λ (t : Bool). builtOf t l) q
 
-module _ (p : ℕ) (s : C.Scope) (b : ℕ) (f : Form) where
-  pub wire-good : (l : List ℤ) → b ≡ 0 → good tt ≡ wholeFits p s (wantedOf Wire l) (kindBy b f)
-  unfolding wantedOf wholeFits kindBy
-  wire-good l e = sym (ap (λ (k : Kind). wholeFits p s C.wire k) (ap (λ (t : Bool). cond t qubit (cond (eqb b 1) (quantum f) (classical f))) (eq-eqb b 0 e)))
+-- an operand of the kind k taken whole
+module _ (p : ℕ) (s : C.Scope) (f : Form) (l : List ℤ) where
+  pub wire-good : good tt ≡ wholeFits p s (wantedOf Wire l) (kindIn Qubit f)
+  unfolding wantedOf wholeFits kindIn
+  wire-good = refl
 
-  pub wire-bad : (l : List ℤ) → (b ≡ 0 → ⊥) → refused 9 p ≡ wholeFits p s (wantedOf Wire l) (kindBy b f)
-  unfolding wantedOf wholeFits kindBy
-  wire-bad l e = sym (ap (λ (t : Bool). wholeFits p s C.wire (cond t qubit (cond (eqb b 1) (quantum f) (classical f)))) (ne-eqb b 0 e) ∙ by (eqb b 1))
-    where
-      by : (t : Bool) → wholeFits p s C.wire (cond t (quantum f) (classical f)) ≡ refused 9 p
-      by true = refl
-      by false = refl
+  pub wire-bad : (k : K.Kind) → OneOf (1 ∷ 2 ∷ []) (tagOf the-type k) → refused 9 p ≡ wholeFits p s (wantedOf Wire l) (kindIn k f)
+  unfolding wantedOf wholeFits kindIn
+  wire-bad Qubit h = absurd (miss (1 ∷ 2 ∷ []) 0 tt h)
+  wire-bad Quantum h = refl
+  wire-bad Classical h = refl
 
-  pub bit-bad : (l : List ℤ) (k : Kind) → refused 9 p ≡ wholeFits p s (wantedOf Bit l) k
+  pub bit-bad : (k : Kind) → refused 9 p ≡ wholeFits p s (wantedOf Bit l) k
   unfolding wantedOf wholeFits
-  bit-bad l k = refl
+  bit-bad k = refl
 
-  pub register-good : (t : Bool) (l : List ℤ) → b ≡ 1 → mustShow p s (builtOf t l thenBuild differenceOf f) ≡ wholeFits p s (wantedOf (Register t) l) (kindBy b f)
-  unfolding wantedOf wholeFits kindBy
-  register-good t l e = sym (ap (λ (k : ℕ). wholeFits p s (C.register (builtOf t l)) (kindBy k f)) e)
+  pub register-good : (t : Bool) → mustShow p s (builtOf t l thenBuild differenceOf f) ≡ wholeFits p s (wantedOf (Register t) l) (kindIn Quantum f)
+  unfolding wantedOf wholeFits kindIn
+  register-good t = refl
 
-  pub register-bad : (t : Bool) (l : List ℤ) → (b ≡ 1 → ⊥) → refused 9 p ≡ wholeFits p s (wantedOf (Register t) l) (kindBy b f)
-  unfolding wantedOf wholeFits kindBy
-  register-bad t l e = sym (ap (λ (u : Bool). wholeFits p s (C.register (builtOf t l)) (cond (eqb b 0) qubit (cond u (quantum f) (classical f)))) (ne-eqb b 1 e) ∙ by (eqb b 0))
-    where
-      by : (u : Bool) → wholeFits p s (C.register (builtOf t l)) (cond u qubit (classical f)) ≡ refused 9 p
-      by true = refl
-      by false = refl
+  pub register-bad : (t : Bool) (k : K.Kind) → OneOf (0 ∷ 2 ∷ []) (tagOf the-type k) → refused 9 p ≡ wholeFits p s (wantedOf (Register t) l) (kindIn k f)
+  unfolding wantedOf wholeFits kindIn
+  register-bad t Qubit h = refl
+  register-bad t Quantum h = absurd (miss (0 ∷ 2 ∷ []) 1 tt h)
+  register-bad t Classical h = refl
 
--- the kind of an operand whose element is due
-module _ (p b : ℕ) (f : Form) (l : List ℤ) where
-  pub element-wire : b ≡ 1 → good f ≡ elementSize p (wantedOf Wire l) (kindBy b f)
-  unfolding wantedOf elementSize kindBy
-  element-wire e = sym (ap (λ (k : ℕ). elementSize p C.wire (kindBy k f)) e)
+-- the kind k of an operand whose element is due
+module _ (p : ℕ) (f : Form) (l : List ℤ) where
+  pub element-wire : good f ≡ elementSize p (wantedOf Wire l) (kindIn Quantum f)
+  unfolding wantedOf elementSize kindIn
+  element-wire = refl
 
-  pub element-no-wire : (b ≡ 1 → ⊥) → refused 9 p ≡ elementSize p (wantedOf Wire l) (kindBy b f)
-  unfolding wantedOf elementSize kindBy
-  element-no-wire e = sym (ap (λ (u : Bool). elementSize p C.wire (cond (eqb b 0) qubit (cond u (quantum f) (classical f)))) (ne-eqb b 1 e) ∙ by (eqb b 0))
-    where
-      by : (t : Bool) → elementSize p C.wire (cond t qubit (classical f)) ≡ refused 9 p
-      by true = refl
-      by false = refl
+  pub element-no-wire : (k : K.Kind) → OneOf (0 ∷ 2 ∷ []) (tagOf the-type k) → refused 9 p ≡ elementSize p (wantedOf Wire l) (kindIn k f)
+  unfolding wantedOf elementSize kindIn
+  element-no-wire Qubit h = refl
+  element-no-wire Quantum h = absurd (miss (0 ∷ 2 ∷ []) 1 tt h)
+  element-no-wire Classical h = refl
 
-  pub element-qubit : b ≡ 0 → refused 9 p ≡ elementSize p (wantedOf Bit l) (kindBy b f)
-  unfolding wantedOf elementSize kindBy
-  element-qubit e = sym (ap (λ (k : ℕ). elementSize p C.bit (kindBy k f)) e)
+  pub element-bit : good f ≡ elementSize p (wantedOf Bit l) (kindIn Classical f)
+  unfolding wantedOf elementSize kindIn
+  element-bit = refl
 
-  pub element-quantum : b ≡ 1 → refused 9 p ≡ elementSize p (wantedOf Bit l) (kindBy b f)
-  unfolding wantedOf elementSize kindBy
-  element-quantum e = sym (ap (λ (k : ℕ). elementSize p C.bit (kindBy k f)) e)
+  pub element-no-bit : (k : K.Kind) → OneOf (0 ∷ 1 ∷ []) (tagOf the-type k) → refused 9 p ≡ elementSize p (wantedOf Bit l) (kindIn k f)
+  unfolding wantedOf elementSize kindIn
+  element-no-bit Qubit h = refl
+  element-no-bit Quantum h = refl
+  element-no-bit Classical h = absurd (miss (0 ∷ 1 ∷ []) 2 tt h)
 
-  pub element-bit : (b ≡ 0 → ⊥) → (b ≡ 1 → ⊥) → good f ≡ elementSize p (wantedOf Bit l) (kindBy b f)
-  unfolding wantedOf elementSize kindBy
-  element-bit x y = sym (rw (ne-eqb b 0 x, ne-eqb b 1 y))
-
-  pub element-register : (t : Bool) → refused 9 p ≡ elementSize p (wantedOf (Register t) l) (kindBy b f)
+  pub element-register : (t : Bool) (k : Kind) → refused 9 p ≡ elementSize p (wantedOf (Register t) l) k
   unfolding wantedOf elementSize
-  element-register t = refl
+  element-register t k = refl

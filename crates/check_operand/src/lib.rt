@@ -11,10 +11,11 @@ ghost use Rattle.language.specs.Read.{due, readOperand, readWhole, readElement}
 ghost use Rattle.language.specs.Form.{Form, built, differenceOf, _thenBuild_};
 ghost use Rattle.language.specs.Check.{Kind, Signature, elementSize, mustShow, wire, wholeFits, checkWithin, checkOperand};
 ghost use Rattle.language.specs.Limits.{allVariables};
+ghost use Rattle.kinds.specs.Numbers.{kindWith};
 ghost use Rattle.fields.specs.Header.{fieldsAt};
 ghost use Rattle.forms.specs.Flat.{formNumbers, Kept, Short, widened, asForm, builtOf};
 ghost use Rattle.forms.specs.Rows.{Rows, loopsOf};
-ghost use Rattle.check_operand.specs.Tables.{kindBy, TablesRight, scopeWith, scopeAt};
+ghost use Rattle.check_operand.specs.Tables.{kindIn, TablesRight, scopeWith, scopeAt};
 ghost use Rattle.check_operand.specs.Operands.{sizeKnown, wantedOf, SizeRight, oneWire, twoOperands};
 ghost use Rattle.check_index.specs.Answers.{partTold, Upon, Passes};
 use check_index::Read;
@@ -24,13 +25,6 @@ use forms::Form;
 use forms::Size;
 use forms::Verdict;
 use limits::DEEPEST;
-
-// The kinds in a table of operands: a Qbit parameter; a quantum register or Qbit[I] parameter; a classical register.
-pub const QUBIT: u8 = 0;
-
-pub const QUANTUM: u8 = 1;
-
-pub const CLASSICAL: u8 = 2;
 
 // What is in scope: how many families, the rows of the table of operands, and how many index variables and open loops.
 pub struct Visible {
@@ -46,6 +40,13 @@ pub enum Wanted {
     Wire,
     Bit,
     Register(bool),
+}
+
+// The kind that a number in the table of operands stands for.
+pub fn kind_by(number: u8) -> kinds::Kind
+    ensures { λ r. ⌜ r ≡ kindWith number ⌝ }
+{
+    kinds::with_number(number as u16)
 }
 
 // Shows f, which is then of no use, to be 0 or more, for the field from `at` to `next`.
@@ -144,7 +145,7 @@ fn large_enough(
 fn whole_fits(
     wanted: Wanted,
     size: &Form,
-    kind: u8,
+    kind: kinds::Kind,
     own: &Size,
     at: usize,
     next: usize,
@@ -158,47 +159,38 @@ fn whole_fits(
     requires { ⌜ variables + loops ≤ allVariables ⌝ }
     requires { ⌜ Rows (now lows) loops ⌝ }
     requires { ⌜ Rows (now highs) loops ⌝ }
-    ensures { λ r. ⌜ ((fs : List Signature) (ks : List Kind) → partTold r ≡ wholeFits at (scopeWith fs ks variables (loopsOf loops (now (lows .entry)) (now (highs .entry)))) (wantedOf wanted (now (size .entry))) (kindBy kind (asForm (widened (now (own .entry)))))) ⌝ }
+    ensures { λ r. ⌜ ((fs : List Signature) (ks : List Kind) → partTold r ≡ wholeFits at (scopeWith fs ks variables (loopsOf loops (now (lows .entry)) (now (highs .entry)))) (wantedOf wanted (now (size .entry))) (kindIn kind (asForm (widened (now (own .entry)))))) ⌝ }
     ensures { λ r. ⌜ Upon next r ⌝ }
 {
     match wanted {
-        Wanted::Wire => {
-            if kind == QUBIT {
-                return Read::Upto(next);
-            }
-            Read::Refused(9, at)
-        }
+        Wanted::Wire => match kind {
+            kinds::Kind::Qubit => Read::Upto(next),
+            _ => Read::Refused(9, at),
+        },
         Wanted::Bit => Read::Refused(9, at),
-        Wanted::Register(known) => {
-            if kind == QUANTUM {
-                return large_enough(known, size, own, at, next, variables, loops, lows, highs);
+        Wanted::Register(known) => match kind {
+            kinds::Kind::Quantum => {
+                large_enough(known, size, own, at, next, variables, loops, lows, highs)
             }
-            Read::Refused(9, at)
-        }
+            _ => Read::Refused(9, at),
+        },
     }
 }
 
 // Whether an element of an operand of a kind is what is due, for the field from `at` to `next`.
-fn element_kind(wanted: Wanted, kind: u8, at: usize, next: usize) -> Read
-    ensures { λ r. ⌜ ((f : Form) (l : List ℤ) → sizeKnown r f ≡ elementSize at (wantedOf wanted l) (kindBy kind f)) ⌝ }
+fn element_kind(wanted: Wanted, kind: kinds::Kind, at: usize, next: usize) -> Read
+    ensures { λ r. ⌜ ((f : Form) (l : List ℤ) → sizeKnown r f ≡ elementSize at (wantedOf wanted l) (kindIn kind f)) ⌝ }
     ensures { λ r. ⌜ Upon next r ⌝ }
 {
     match wanted {
-        Wanted::Wire => {
-            if kind == QUANTUM {
-                return Read::Upto(next);
-            }
-            Read::Refused(9, at)
-        }
-        Wanted::Bit => {
-            if kind == QUBIT {
-                return Read::Refused(9, at);
-            }
-            if kind == QUANTUM {
-                return Read::Refused(9, at);
-            }
-            Read::Upto(next)
-        }
+        Wanted::Wire => match kind {
+            kinds::Kind::Quantum => Read::Upto(next),
+            _ => Read::Refused(9, at),
+        },
+        Wanted::Bit => match kind {
+            kinds::Kind::Classical => Read::Upto(next),
+            _ => Read::Refused(9, at),
+        },
         Wanted::Register(_) => Read::Refused(9, at),
     }
 }
@@ -234,10 +226,11 @@ fn whole(
         return Read::Refused(4, at);
     }
     let row = s.first + n;
+    let kind = kind_by(kinds[row]);
     whole_fits(
         wanted,
         size,
-        kinds[row],
+        kind,
         &sizes[row],
         at,
         next,
@@ -285,9 +278,10 @@ fn element(
     if end < next {
         return Read::Refused(4, at);
     }
-    let kind = element_kind(wanted, kinds[row], at, next);
-    let Read::Upto(_) = kind else {
-        return kind;
+    let kind = kind_by(kinds[row]);
+    let fits = element_kind(wanted, kind, at, next);
+    let Read::Upto(_) = fits else {
+        return fits;
     };
     within(&f, &sizes[row], at, next, s.variables, s.loops, lows, highs)
 }

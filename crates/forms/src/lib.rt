@@ -208,13 +208,7 @@ pub fn none_negative(f: &Form) -> bool
 }
 
 // f with its term in the variable v replaced by a bound of the loop n. The loops' low and high forms lie in two slices.
-pub fn substitute(
-    f: &mut Form,
-    v: usize,
-    lows: &[Form],
-    highs: &[Form],
-    n: usize,
-) -> bool
+pub fn substitute(f: &mut Form, v: usize, lows: &[Form], highs: &[Form], n: usize) -> bool
     requires { ⌜ Kept (now f) ⌝ }
     requires { ⌜ v < allVariables ⌝ }
     requires { ⌜ Rows (now lows) (n + 1) ⌝ }
@@ -235,13 +229,7 @@ pub fn substitute(
 }
 
 // Shows f to be 0 or more, under so many family variables and open loops. What f holds afterwards is of no use.
-pub fn show(
-    f: &mut Form,
-    variables: usize,
-    loops: usize,
-    lows: &[Form],
-    highs: &[Form],
-) -> Verdict
+pub fn show(f: &mut Form, variables: usize, loops: usize, lows: &[Form], highs: &[Form]) -> Verdict
     requires { ⌜ Kept (now f) ⌝ }
     requires { ⌜ variables + loops ≤ allVariables ⌝ }
     requires { ⌜ Rows (now lows) loops ⌝ }
