@@ -11,9 +11,9 @@ ghost use Rattle.fields.specs.Header.{fieldsAt};
 ghost use Rattle.forms.specs.Flat.{Short, widened, asForm};
 ghost use Rattle.forms.specs.Rows.{Rows, loopsOf, formsOf};
 ghost use Rattle.check_operand.specs.Tables.{kindIn, TablesRight, kindsAt, scopeWith, scopeAt};
-ghost use Rattle.check_index.specs.Answers.{partTold, Upon, PastCount};
+ghost use Rattle.check_index.specs.Answers.{checkedPart, EndsAt, PassesCount};
 ghost use Rattle.check_operand.specs.Operands.{wantedOf, SizeRight};
-ghost use Rattle.check_call.specs.Calls.{FamiliesRight, scopeFull, formsTold, LoopsRight};
+ghost use Rattle.check_call.specs.Calls.{FamiliesRight, scopeFull, checkedForms, LoopsRight};
 use check_index::Read;
 use check_operand::Visible;
 use check_operand::Wanted;
@@ -26,12 +26,12 @@ use limits::MOST_VARIABLES;
 // A row of the table of families: how many index variables, how many parameters, and the first row of their kinds.
 pub type FamilyRow = [usize; 3];
 
-// The forms of the m indexes of a call at `place`, from `at` on.
+// The forms of the m indexes of a call at `parent`, from `at` on.
 fn call_forms(
     program: &[u8],
     at: usize,
     to: usize,
-    place: usize,
+    parent: usize,
     m: usize,
     s: Visible,
     lows: &[Form],
@@ -42,15 +42,15 @@ fn call_forms(
     requires { ⌜ m ≤ mostVariables ⌝ }
     requires { ⌜ LoopsRight s (now lows) (now highs) ⌝ }
     requires { ⌜ Rows (now forms) mostVariables ⌝ }
-    ensures { λ r. ⌜ ((fs : List Signature) (ks : List Kind) → formsTold r m (now (forms .exit)) ≡ callForms (scopeWith fs ks (s .variables) (loopsOf (s .loops) (now (lows .entry)) (now (highs .entry)))) place m (map readArgument (fieldsAt (now (program .entry)) at to))) ⌝ }
-    ensures { λ r. ⌜ PastCount (now (program .entry)) at to m r ⌝ }
+    ensures { λ r. ⌜ ((fs : List Signature) (ks : List Kind) → checkedForms r m (now (forms .exit)) ≡ callForms (scopeWith fs ks (s .variables) (loopsOf (s .loops) (now (lows .entry)) (now (highs .entry)))) parent m (map readArgument (fieldsAt (now (program .entry)) at to))) ⌝ }
+    ensures { λ r. ⌜ PassesCount (now (program .entry)) at to m r ⌝ }
     ensures { λ _. ⌜ Rows (now (forms .exit)) mostVariables ⌝ }
 {
     let mut from = at;
     for i in 0..m {
         let mut f = [0i64; FORM_NUMBERS];
         let variables = s.variables + s.loops;
-        let r = check_index::index(program, from, to, place, DEEPEST, variables, &mut f);
+        let r = check_index::index(program, from, to, parent, DEEPEST, variables, &mut f);
         let Read::Upto(next) = r else {
             return r;
         };
@@ -90,7 +90,7 @@ fn call_operands(
     program: &[u8],
     at: usize,
     to: usize,
-    place: usize,
+    parent: usize,
     first: usize,
     count: usize,
     forms: &[Form; MOST_VARIABLES],
@@ -106,8 +106,8 @@ fn call_operands(
     requires { ⌜ Rows (now forms) mostVariables ⌝ }
     requires { ⌜ first + count ≤ length (now kinds) ⌝ }
     requires { ⌜ TablesRight s (now kinds) (now sizes) (now lows) (now highs) ⌝ }
-    ensures { λ r. ⌜ ((fs : List Signature) → partTold r ≡ callOperands (scopeAt fs s (now (kinds .entry)) (now (sizes .entry)) (now (lows .entry)) (now (highs .entry))) place (formsOf m (now (forms .entry))) (kindsAt count first (now (kinds .entry)) (now (sizes .entry))) (map readArgument (fieldsAt (now (program .entry)) at to))) ⌝ }
-    ensures { λ r. ⌜ Upon to r ⌝ }
+    ensures { λ r. ⌜ ((fs : List Signature) → checkedPart r ≡ callOperands (scopeAt fs s (now (kinds .entry)) (now (sizes .entry)) (now (lows .entry)) (now (highs .entry))) parent (formsOf m (now (forms .entry))) (kindsAt count first (now (kinds .entry)) (now (sizes .entry))) (map readArgument (fieldsAt (now (program .entry)) at to))) ⌝ }
+    ensures { λ r. ⌜ EndsAt to r ⌝ }
 {
     let mut from = at;
     for j in 0..count {
@@ -119,7 +119,7 @@ fn call_operands(
             program,
             from,
             to,
-            place,
+            parent,
             wanted,
             &size,
             s,
@@ -134,7 +134,7 @@ fn call_operands(
         from = next;
     }
     if from < to {
-        return Read::Refused(4, place);
+        return Read::Refused(4, parent);
     }
     Read::Upto(to)
 }
@@ -154,7 +154,7 @@ pub fn call(
     requires { ⌜ (at + 3 ≤ next) × (next ≤ length (now program)) ⌝ }
     requires { ⌜ TablesRight s (now kinds) (now sizes) (now lows) (now highs) ⌝ }
     requires { ⌜ FamiliesRight s (now families) (now kinds) ⌝ }
-    ensures { λ r. ⌜ partTold r ≡ checkStatement (readCall at (slice (at + 3) next (now (program .entry)))) (scopeFull s (now (families .entry)) (now (kinds .entry)) (now (sizes .entry)) (now (lows .entry)) (now (highs .entry))) ⌝ }
+    ensures { λ r. ⌜ checkedPart r ≡ checkStatement (readCall at (slice (at + 3) next (now (program .entry)))) (scopeFull s (now (families .entry)) (now (kinds .entry)) (now (sizes .entry)) (now (lows .entry)) (now (highs .entry))) ⌝ }
 {
     let from = at + 3;
     if next <= from {

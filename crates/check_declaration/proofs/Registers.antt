@@ -15,7 +15,7 @@ use Rattle.language.specs.Read.{ending, twoBytes, registerSize, registerEnd}
 use Rattle.language.specs.Check.{Checked, good, refused, _>>=_, _>>_, require, noLeftover, checkNumber, checkRegister}
 use Rattle.kinds.specs.declared.Kind.{Kind}
 use Rattle.check_index.proofs.Read.{the-type}
-use Rattle.check_declaration.specs.Registers.{registerIn, numberTold, RegisterSet}
+use Rattle.check_declaration.specs.Registers.{registerIn, checkedRegister, RegisterSet}
 use Rattle.check_index.specs.declared.Read.{Read}
 use Rattle.check_index.specs.declared.Read.the-variants.{Upto, Refused}
 use Rattle.check_index.proofs.Answers.{not-first}
@@ -81,9 +81,9 @@ module _ (p count total most n : ℕ) where
   many true q x c e = numbers x (ltb-true count mostRegisters q) c e
   many false q x c e = never e
 
-pub size-fits : (r : Read) (n p count total most : ℕ) (content : List ℕ) → r ≡ Upto n → numberTold r ≡ registerIn p count total most content → Sized count total most n
-unfolding numberTold checkRegister
-size-fits r n p count total most content u e = many p count total most n (ltb count mostRegisters) refl (checkNumber p (registerSize content)) (C.noLeftover p (registerEnd content)) (sym (ap numberTold u) ∙ e)
+pub size-fits : (r : Read) (n p count total most : ℕ) (content : List ℕ) → r ≡ Upto n → checkedRegister r ≡ registerIn p count total most content → Sized count total most n
+unfolding checkedRegister checkRegister
+size-fits r n p count total most content u e = many p count total most n (ltb count mostRegisters) refl (checkNumber p (registerSize content)) (C.noLeftover p (registerEnd content)) (sym (ap checkedRegister u) ∙ e)
 
 pub register-stops : (r : Read) (kind : Kind) (count total most : ℕ) (k₀ : List ℕ) (s₀ : List (List ℤ)) (k₁ : List ℕ) (s₁ : List (List ℤ)) → OneOf (1 ∷ []) (tagOf the-type r) → RegisterSet r kind count total most k₀ s₀ k₁ s₁
 register-stops (Upto n) kind count total most k₀ s₀ k₁ s₁ h = not-first h

@@ -15,17 +15,18 @@ firstIn (m ∷ rest) = number m
 unfoldable pub secondIn : List ℕ → Number
 secondIn [] = missing
 secondIn (m ∷ []) = missing
-secondIn (m ∷ p ∷ rest) = number p
+secondIn (m ∷ n ∷ rest) = number n
 
--- the two numbers of the family at q with this content, after so many families
+-- the two numbers of the family at p with this content, after so many families
 abbrev pub countsIn : Place → ℕ → List ℕ → Checked (ℕ × ℕ)
-countsIn q families content = checkCounts q families (firstIn content) (secondIn content)
+countsIn p families content = checkCounts p families (firstIn content) (secondIn content)
 
-unfoldable pub countsTold : Counts → Checked (ℕ × ℕ)
-countsTold (Both m p) = good (m, p)
-countsTold (Bad n p) = refused n p
+-- what an answer on them stands for
+unfoldable pub checkedCounts : Counts → Checked (ℕ × ℕ)
+checkedCounts (Both m n) = good (m, n)
+checkedCounts (Bad r p) = refused r p
 
 -- the two numbers are within their limits, and stand in the field
 abbrev pub BothRight : ℕ → ℕ → ℕ → Counts → Type 0
-BothRight at next families (Both m p) = (m ≤ mostVariables) × (p ≤ mostParameters) × (families < mostFamilies) × (at + 5 ≤ next)
-BothRight at next families (Bad n p) = Unit {0}
+BothRight at next families (Both m n) = (m ≤ mostVariables) × (n ≤ mostParameters) × (families < mostFamilies) × (at + 5 ≤ next)
+BothRight at next families (Bad r p) = Unit {0}

@@ -17,9 +17,10 @@ use Rattle.check_declaration.specs.Types.{Apart}
 abbrev pub registerIn : (p count total most : ℕ) → List ℕ → Checked ℕ
 registerIn p count total most content = checkRegister p count total most (registerSize content) (registerEnd content)
 
-unfoldable pub numberTold : Read → Checked ℕ
-numberTold (Upto n) = good n
-numberTold (Refused n p) = refused n p
+-- what the answer on a register stands for: its size
+unfoldable pub checkedRegister : Read → Checked ℕ
+checkedRegister (Upto n) = good n
+checkedRegister (Refused n p) = refused n p
 
 -- the row of a register, and that no other changes
 pub record RegisterRow (size : ℕ) (kind : Kind) (count total most : ℕ) (kinds : List ℕ) (sizes : List (List ℤ)) (kinds' : List ℕ) (sizes' : List (List ℤ)) : Type 0 where

@@ -9,11 +9,11 @@ ghost use Rattle.language.specs.Read.{due, qbitsOf, readType, typesOf};
 ghost use Rattle.language.specs.Check.{Kind, Signature, kindOf, kindsOf};
 ghost use Rattle.language.specs.Limits.{mostVariables, furthest};
 ghost use Rattle.fields.specs.Header.{fieldsAt};
-ghost use Rattle.check_index.specs.Answers.{EndsAt, Passes, PastCount};
+ghost use Rattle.check_index.specs.Answers.{FormEndsAt, Passes, PassesCount};
 ghost use Rattle.check_operand.specs.Tables.{scopeWith};
-ghost use Rattle.check_declaration.specs.Registers.{numberTold, registerIn, RegisterSet};
-ghost use Rattle.check_declaration.specs.Types.{sizeTold, typeTold, TypePast, OperandTable, Apart, rowTold, rowsTold, tableRows};
-ghost use Rattle.check_declaration.specs.Families.{countsTold, countsIn, BothRight};
+ghost use Rattle.check_declaration.specs.Registers.{checkedRegister, registerIn, RegisterSet};
+ghost use Rattle.check_declaration.specs.Types.{checkedSizedType, checkedType, TypePasses, OperandTable, Apart, checkedRow, checkedRows, tableRows};
+ghost use Rattle.check_declaration.specs.Families.{checkedCounts, countsIn, BothRight};
 use check_index::Read;
 use fields::Header;
 use forms::FORM_NUMBERS;
@@ -46,8 +46,8 @@ pub enum Counts {
 fn sized_type(program: &[u8], at: usize, next: usize, m: usize, f: &mut Form) -> Read
     requires { ⌜ (at + 3 ≤ next) × (next ≤ length (now program)) ⌝ }
     requires { ⌜ m ≤ mostVariables ⌝ }
-    ensures { λ r. ⌜ ((fs : List Signature) (ks : List Kind) → sizeTold r (now (f .exit)) ≡ kindOf (scopeWith fs ks m []) (qbitsOf at (fieldsAt (now (program .entry)) (at + 3) next))) ⌝ }
-    ensures { λ r. ⌜ EndsAt next r (now (f .exit)) ⌝ }
+    ensures { λ r. ⌜ ((fs : List Signature) (ks : List Kind) → checkedSizedType r (now (f .exit)) ≡ kindOf (scopeWith fs ks m []) (qbitsOf at (fieldsAt (now (program .entry)) (at + 3) next))) ⌝ }
+    ensures { λ r. ⌜ FormEndsAt next r (now (f .exit)) ⌝ }
 {
     let from = at + 3;
     let r = check_index::index(program, from, next, at, DEEPEST, m, f);
@@ -66,22 +66,22 @@ fn sized_type(program: &[u8], at: usize, next: usize, m: usize, f: &mut Form) ->
     Read::Upto(next)
 }
 
-// The type that is due at `at` in the family at `place` of m index variables, whose content ends at `to`; its size goes to f.
+// The type that is due at `at` in the family at `parent` of m index variables, whose content ends at `to`; its size goes to f.
 fn parameter_type(
     program: &[u8],
     at: usize,
     to: usize,
-    place: usize,
+    parent: usize,
     m: usize,
     f: &mut Form,
 ) -> TypeRead
     requires { ⌜ to ≤ length (now program) ⌝ }
     requires { ⌜ m ≤ mostVariables ⌝ }
-    ensures { λ r. ⌜ ((fs : List Signature) (ks : List Kind) → typeTold r (now (f .exit)) ≡ kindOf (scopeWith fs ks m []) (due readType (badType 4 place) (fieldsAt (now (program .entry)) at to))) ⌝ }
-    ensures { λ r. ⌜ TypePast (now (program .entry)) at to r (now (f .exit)) ⌝ }
+    ensures { λ r. ⌜ ((fs : List Signature) (ks : List Kind) → checkedType r (now (f .exit)) ≡ kindOf (scopeWith fs ks m []) (due readType (badType 4 parent) (fieldsAt (now (program .entry)) at to))) ⌝ }
+    ensures { λ r. ⌜ TypePasses (now (program .entry)) at to r (now (f .exit)) ⌝ }
 {
     match fields::header_at(program, at, to) {
-        Header::End => TypeRead::Bad(4, place),
+        Header::End => TypeRead::Bad(4, parent),
         Header::Cut => TypeRead::Bad(2, at),
         Header::Whole(tag, next) => {
             let from = at + 3;
@@ -102,12 +102,12 @@ fn parameter_type(
     }
 }
 
-// The type that is due at `at` in the family at `place` of m index variables, put into a row of the tables.
+// The type that is due at `at` in the family at `parent` of m index variables, put into a row of the tables.
 fn typed_row(
     program: &[u8],
     at: usize,
     to: usize,
-    place: usize,
+    parent: usize,
     m: usize,
     row: usize,
     kinds: &mut [u8],
@@ -117,12 +117,12 @@ fn typed_row(
     requires { ⌜ m ≤ mostVariables ⌝ }
     requires { ⌜ row < tableRows ⌝ }
     requires { ⌜ OperandTable (now kinds) (now sizes) ⌝ }
-    ensures { λ r. ⌜ ((fs : List Signature) (ks : List Kind) → rowTold r row (now (kinds .exit)) (now (sizes .exit)) ≡ kindOf (scopeWith fs ks m []) (due readType (badType 4 place) (fieldsAt (now (program .entry)) at to))) ⌝ }
+    ensures { λ r. ⌜ ((fs : List Signature) (ks : List Kind) → checkedRow r row (now (kinds .exit)) (now (sizes .exit)) ≡ kindOf (scopeWith fs ks m []) (due readType (badType 4 parent) (fieldsAt (now (program .entry)) at to))) ⌝ }
     ensures { λ r. ⌜ Passes (now (program .entry)) at to r ⌝ }
     ensures { λ _. ⌜ Apart row 1 (now (kinds .entry)) (now (sizes .entry)) (now (kinds .exit)) (now (sizes .exit)) ⌝ }
 {
     let mut f = [0i64; FORM_NUMBERS];
-    match parameter_type(program, at, to, place, m, &mut f) {
+    match parameter_type(program, at, to, parent, m, &mut f) {
         TypeRead::Single(next) => {
             kinds[row] = kinds::number(kinds::Kind::Qubit);
             Read::Upto(next)
@@ -138,12 +138,12 @@ fn typed_row(
     }
 }
 
-// The types of the `count` parameters of the family at `place`, from `at` on, put into the rows from `first` on.
+// The types of the `count` parameters of the family at `parent`, from `at` on, put into the rows from `first` on.
 pub fn parameter_types(
     program: &[u8],
     at: usize,
     to: usize,
-    place: usize,
+    parent: usize,
     m: usize,
     count: usize,
     first: usize,
@@ -154,14 +154,14 @@ pub fn parameter_types(
     requires { ⌜ m ≤ mostVariables ⌝ }
     requires { ⌜ first + count ≤ tableRows ⌝ }
     requires { ⌜ OperandTable (now kinds) (now sizes) ⌝ }
-    ensures { λ r. ⌜ ((fs : List Signature) (ks : List Kind) → rowsTold r count first (now (kinds .exit)) (now (sizes .exit)) ≡ kindsOf (scopeWith fs ks m []) (typesOf place count (fieldsAt (now (program .entry)) at to))) ⌝ }
-    ensures { λ r. ⌜ PastCount (now (program .entry)) at to count r ⌝ }
+    ensures { λ r. ⌜ ((fs : List Signature) (ks : List Kind) → checkedRows r count first (now (kinds .exit)) (now (sizes .exit)) ≡ kindsOf (scopeWith fs ks m []) (typesOf parent count (fieldsAt (now (program .entry)) at to))) ⌝ }
+    ensures { λ r. ⌜ PassesCount (now (program .entry)) at to count r ⌝ }
     ensures { λ _. ⌜ Apart first count (now (kinds .entry)) (now (sizes .entry)) (now (kinds .exit)) (now (sizes .exit)) ⌝ }
 {
     let mut from = at;
     for j in 0..count {
         let row = first + j;
-        let r = typed_row(program, from, to, place, m, row, kinds, sizes);
+        let r = typed_row(program, from, to, parent, m, row, kinds, sizes);
         let Read::Upto(next) = r else {
             return r;
         };
@@ -173,7 +173,7 @@ pub fn parameter_types(
 // The two numbers of the family at `at`, whose field ends at `next`, after so many families.
 pub fn family_counts(program: &[u8], at: usize, next: usize, families: usize) -> Counts
     requires { ⌜ (at + 3 ≤ next) × (next ≤ length (now program)) ⌝ }
-    ensures { λ r. ⌜ countsTold r ≡ countsIn at families (slice (at + 3) next (now (program .entry))) ⌝ }
+    ensures { λ r. ⌜ checkedCounts r ≡ countsIn at families (slice (at + 3) next (now (program .entry))) ⌝ }
     ensures { λ r. ⌜ BothRight at next families r ⌝ }
 {
     if MOST_FAMILIES <= families {
@@ -191,14 +191,14 @@ pub fn family_counts(program: &[u8], at: usize, next: usize, families: usize) ->
     if next <= second {
         return Counts::Bad(4, at);
     }
-    let p = fields::wide(program[second]);
-    if p == 0 {
+    let n = fields::wide(program[second]);
+    if n == 0 {
         return Counts::Bad(6, at);
     }
-    if MOST_PARAMETERS < p {
+    if MOST_PARAMETERS < n {
         return Counts::Bad(6, at);
     }
-    Counts::Both(m, p)
+    Counts::Both(m, n)
 }
 
 // The size of the register at `at`, whose field ends at `next`, after `count` registers with `total` qubits or bits, of which there may be at most `most`.
@@ -213,7 +213,7 @@ fn register_size(
     requires { ⌜ (at + 3 ≤ next) × (next ≤ length (now program)) ⌝ }
     requires { ⌜ total ≤ most ⌝ }
     requires { ⌜ most ≤ furthest ⌝ }
-    ensures { λ r. ⌜ numberTold r ≡ registerIn at count total most (slice (at + 3) next (now (program .entry))) ⌝ }
+    ensures { λ r. ⌜ checkedRegister r ≡ registerIn at count total most (slice (at + 3) next (now (program .entry))) ⌝ }
 {
     if MOST_REGISTERS <= count {
         return Read::Refused(6, at);
@@ -248,7 +248,7 @@ pub fn register(
     requires { ⌜ total ≤ most ⌝ }
     requires { ⌜ most ≤ furthest ⌝ }
     requires { ⌜ OperandTable (now kinds) (now sizes) ⌝ }
-    ensures { λ r. ⌜ numberTold r ≡ registerIn at count total most (slice (at + 3) next (now (program .entry))) ⌝ }
+    ensures { λ r. ⌜ checkedRegister r ≡ registerIn at count total most (slice (at + 3) next (now (program .entry))) ⌝ }
     ensures { λ r. ⌜ RegisterSet r kind count total most (now (kinds .entry)) (now (sizes .entry)) (now (kinds .exit)) (now (sizes .exit)) ⌝ }
 {
     let r = register_size(program, at, next, count, total, most);

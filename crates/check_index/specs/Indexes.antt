@@ -17,15 +17,15 @@ treeOperation Difference = T.difference
 treeOperation Product = T.product
 
 -- how the content of an index field is read, by what its tag says
-abbrev pub readerOf : (Field → Index) → IndexTag → Reader Index
-readerOf part Literal = readLiteral
-readerOf part Variable = readVariable
-readerOf part (Both o) = ofFields (operationOf part (treeOperation o))
-readerOf part Other = λ q rest. badIndex 3 q
+abbrev pub indexReader : (Field → Index) → IndexTag → Reader Index
+indexReader part Literal = readLiteral
+indexReader part Variable = readVariable
+indexReader part (Both o) = ofFields (operationOf part (treeOperation o))
+indexReader part Other = λ q rest. badIndex 3 q
 
 -- a tag says this of an index field
 abbrev pub IndexSays : ℕ → IndexTag → Type 0
-IndexSays tag k = (part : Field → Index) (p : ℕ) (content : List ℕ) → indexBy part (field p tag content) ≡ readerOf part k p content
+IndexSays tag k = (part : Field → Index) (p : ℕ) (content : List ℕ) → indexBy part (field p tag content) ≡ indexReader part k p content
 
 -- a scope with so many index variables; forms ask no more of a scope
 unfoldable pub scopeOf : ℕ → Scope

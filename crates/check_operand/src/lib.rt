@@ -17,7 +17,7 @@ ghost use Rattle.forms.specs.Flat.{formNumbers, Kept, Short, widened, asForm, b
 ghost use Rattle.forms.specs.Rows.{Rows, loopsOf};
 ghost use Rattle.check_operand.specs.Tables.{kindIn, TablesRight, scopeWith, scopeAt};
 ghost use Rattle.check_operand.specs.Operands.{sizeKnown, wantedOf, SizeRight, oneWire, twoOperands};
-ghost use Rattle.check_index.specs.Answers.{partTold, Upon, Passes};
+ghost use Rattle.check_index.specs.Answers.{checkedPart, EndsAt, Passes};
 use check_index::Read;
 use fields::Header;
 use forms::FORM_NUMBERS;
@@ -63,8 +63,8 @@ pub fn must_show(
     requires { ⌜ variables + loops ≤ allVariables ⌝ }
     requires { ⌜ Rows (now lows) loops ⌝ }
     requires { ⌜ Rows (now highs) loops ⌝ }
-    ensures { λ r. ⌜ ((fs : List Signature) (ks : List Kind) → partTold r ≡ mustShow at (scopeWith fs ks variables (loopsOf loops (now (lows .entry)) (now (highs .entry)))) (built (asForm (now (f .entry))))) ⌝ }
-    ensures { λ r. ⌜ Upon next r ⌝ }
+    ensures { λ r. ⌜ ((fs : List Signature) (ks : List Kind) → checkedPart r ≡ mustShow at (scopeWith fs ks variables (loopsOf loops (now (lows .entry)) (now (highs .entry)))) (built (asForm (now (f .entry))))) ⌝ }
+    ensures { λ r. ⌜ EndsAt next r ⌝ }
 {
     match forms::show(f, variables, loops, lows, highs) {
         Verdict::Shown => Read::Upto(next),
@@ -89,8 +89,8 @@ fn within(
     requires { ⌜ variables + loops ≤ allVariables ⌝ }
     requires { ⌜ Rows (now lows) loops ⌝ }
     requires { ⌜ Rows (now highs) loops ⌝ }
-    ensures { λ r. ⌜ ((fs : List Signature) (ks : List Kind) → partTold r ≡ checkWithin at (scopeWith fs ks variables (loopsOf loops (now (lows .entry)) (now (highs .entry)))) (asForm (widened (now (size .entry)))) (asForm (now (f .entry)))) ⌝ }
-    ensures { λ r. ⌜ Upon next r ⌝ }
+    ensures { λ r. ⌜ ((fs : List Signature) (ks : List Kind) → checkedPart r ≡ checkWithin at (scopeWith fs ks variables (loopsOf loops (now (lows .entry)) (now (highs .entry)))) (asForm (widened (now (size .entry)))) (asForm (now (f .entry)))) ⌝ }
+    ensures { λ r. ⌜ EndsAt next r ⌝ }
 {
     let mut g = *f;
     let r = must_show(&mut g, at, next, variables, loops, lows, highs);
@@ -127,8 +127,8 @@ fn large_enough(
     requires { ⌜ variables + loops ≤ allVariables ⌝ }
     requires { ⌜ Rows (now lows) loops ⌝ }
     requires { ⌜ Rows (now highs) loops ⌝ }
-    ensures { λ r. ⌜ ((fs : List Signature) (ks : List Kind) → partTold r ≡ mustShow at (scopeWith fs ks variables (loopsOf loops (now (lows .entry)) (now (highs .entry)))) (builtOf known (now (size .entry)) thenBuild differenceOf (asForm (widened (now (own .entry)))))) ⌝ }
-    ensures { λ r. ⌜ Upon next r ⌝ }
+    ensures { λ r. ⌜ ((fs : List Signature) (ks : List Kind) → checkedPart r ≡ mustShow at (scopeWith fs ks variables (loopsOf loops (now (lows .entry)) (now (highs .entry)))) (builtOf known (now (size .entry)) thenBuild differenceOf (asForm (widened (now (own .entry)))))) ⌝ }
+    ensures { λ r. ⌜ EndsAt next r ⌝ }
 {
     if known {
         let mut room = [0i64; FORM_NUMBERS];
@@ -159,8 +159,8 @@ fn whole_fits(
     requires { ⌜ variables + loops ≤ allVariables ⌝ }
     requires { ⌜ Rows (now lows) loops ⌝ }
     requires { ⌜ Rows (now highs) loops ⌝ }
-    ensures { λ r. ⌜ ((fs : List Signature) (ks : List Kind) → partTold r ≡ wholeFits at (scopeWith fs ks variables (loopsOf loops (now (lows .entry)) (now (highs .entry)))) (wantedOf wanted (now (size .entry))) (kindIn kind (asForm (widened (now (own .entry)))))) ⌝ }
-    ensures { λ r. ⌜ Upon next r ⌝ }
+    ensures { λ r. ⌜ ((fs : List Signature) (ks : List Kind) → checkedPart r ≡ wholeFits at (scopeWith fs ks variables (loopsOf loops (now (lows .entry)) (now (highs .entry)))) (wantedOf wanted (now (size .entry))) (kindIn kind (asForm (widened (now (own .entry)))))) ⌝ }
+    ensures { λ r. ⌜ EndsAt next r ⌝ }
 {
     match wanted {
         Wanted::Wire => match kind {
@@ -180,7 +180,7 @@ fn whole_fits(
 // Whether an element of an operand of a kind is what is due, for the field from `at` to `next`.
 fn element_kind(wanted: Wanted, kind: kinds::Kind, at: usize, next: usize) -> Read
     ensures { λ r. ⌜ ((f : Form) (l : List ℤ) → sizeKnown r f ≡ elementSize at (wantedOf wanted l) (kindIn kind f)) ⌝ }
-    ensures { λ r. ⌜ Upon next r ⌝ }
+    ensures { λ r. ⌜ EndsAt next r ⌝ }
 {
     match wanted {
         Wanted::Wire => match kind {
@@ -211,8 +211,8 @@ fn whole(
     requires { ⌜ (at + 3 ≤ next) × (next ≤ length (now program)) ⌝ }
     requires { ⌜ SizeRight wanted (now size) ⌝ }
     requires { ⌜ TablesRight s (now kinds) (now sizes) (now lows) (now highs) ⌝ }
-    ensures { λ r. ⌜ ((fs : List Signature) → partTold r ≡ checkOperand (scopeAt fs s (now (kinds .entry)) (now (sizes .entry)) (now (lows .entry)) (now (highs .entry))) (wantedOf wanted (now (size .entry))) (readWhole at (slice (at + 3) next (now (program .entry))))) ⌝ }
-    ensures { λ r. ⌜ Upon next r ⌝ }
+    ensures { λ r. ⌜ ((fs : List Signature) → checkedPart r ≡ checkOperand (scopeAt fs s (now (kinds .entry)) (now (sizes .entry)) (now (lows .entry)) (now (highs .entry))) (wantedOf wanted (now (size .entry))) (readWhole at (slice (at + 3) next (now (program .entry))))) ⌝ }
+    ensures { λ r. ⌜ EndsAt next r ⌝ }
 {
     let from = at + 3;
     if next <= from {
@@ -256,8 +256,8 @@ fn element(
 ) -> Read
     requires { ⌜ (at + 3 ≤ next) × (next ≤ length (now program)) ⌝ }
     requires { ⌜ TablesRight s (now kinds) (now sizes) (now lows) (now highs) ⌝ }
-    ensures { λ r. ⌜ ((fs : List Signature) → partTold r ≡ checkOperand (scopeAt fs s (now (kinds .entry)) (now (sizes .entry)) (now (lows .entry)) (now (highs .entry))) (wantedOf wanted (now (size .entry))) (readElement at (slice (at + 3) next (now (program .entry))))) ⌝ }
-    ensures { λ r. ⌜ Upon next r ⌝ }
+    ensures { λ r. ⌜ ((fs : List Signature) → checkedPart r ≡ checkOperand (scopeAt fs s (now (kinds .entry)) (now (sizes .entry)) (now (lows .entry)) (now (highs .entry))) (wantedOf wanted (now (size .entry))) (readElement at (slice (at + 3) next (now (program .entry))))) ⌝ }
+    ensures { λ r. ⌜ EndsAt next r ⌝ }
 {
     let from = at + 3;
     if next <= from {
@@ -286,12 +286,12 @@ fn element(
     within(&f, &sizes[row], at, next, s.variables, s.loops, lows, highs)
 }
 
-// The operand that is due at `at` in the field at `place` whose content ends at `to`.
+// The operand that is due at `at` in the field at `parent` whose content ends at `to`.
 pub fn operand(
     program: &[u8],
     at: usize,
     to: usize,
-    place: usize,
+    parent: usize,
     wanted: Wanted,
     size: &Form,
     s: Visible,
@@ -303,11 +303,11 @@ pub fn operand(
     requires { ⌜ to ≤ length (now program) ⌝ }
     requires { ⌜ SizeRight wanted (now size) ⌝ }
     requires { ⌜ TablesRight s (now kinds) (now sizes) (now lows) (now highs) ⌝ }
-    ensures { λ r. ⌜ ((fs : List Signature) → partTold r ≡ checkOperand (scopeAt fs s (now (kinds .entry)) (now (sizes .entry)) (now (lows .entry)) (now (highs .entry))) (wantedOf wanted (now (size .entry))) (due readOperand (badOperand 4 place) (fieldsAt (now (program .entry)) at to))) ⌝ }
+    ensures { λ r. ⌜ ((fs : List Signature) → checkedPart r ≡ checkOperand (scopeAt fs s (now (kinds .entry)) (now (sizes .entry)) (now (lows .entry)) (now (highs .entry))) (wantedOf wanted (now (size .entry))) (due readOperand (badOperand 4 parent) (fieldsAt (now (program .entry)) at to))) ⌝ }
     ensures { λ r. ⌜ Passes (now (program .entry)) at to r ⌝ }
 {
     match fields::header_at(program, at, to) {
-        Header::End => Read::Refused(4, place),
+        Header::End => Read::Refused(4, parent),
         Header::Cut => Read::Refused(2, at),
         Header::Whole(tag, next) => match tag {
             48 => whole(
@@ -352,8 +352,8 @@ pub fn one_wire(
 ) -> Read
     requires { ⌜ (at + 3 ≤ next) × (next ≤ length (now program)) ⌝ }
     requires { ⌜ TablesRight s (now kinds) (now sizes) (now lows) (now highs) ⌝ }
-    ensures { λ r. ⌜ ((fs : List Signature) → partTold r ≡ oneWire (scopeAt fs s (now (kinds .entry)) (now (sizes .entry)) (now (lows .entry)) (now (highs .entry))) at (fieldsAt (now (program .entry)) (at + 3) next)) ⌝ }
-    ensures { λ r. ⌜ Upon next r ⌝ }
+    ensures { λ r. ⌜ ((fs : List Signature) → checkedPart r ≡ oneWire (scopeAt fs s (now (kinds .entry)) (now (sizes .entry)) (now (lows .entry)) (now (highs .entry))) at (fieldsAt (now (program .entry)) (at + 3) next)) ⌝ }
+    ensures { λ r. ⌜ EndsAt next r ⌝ }
 {
     let none = [0i64; FORM_NUMBERS];
     let from = at + 3;
@@ -394,8 +394,8 @@ pub fn two_operands(
     requires { ⌜ (at + 3 ≤ next) × (next ≤ length (now program)) ⌝ }
     requires { ⌜ ((l : List ℤ) → SizeRight second l) ⌝ }
     requires { ⌜ TablesRight s (now kinds) (now sizes) (now lows) (now highs) ⌝ }
-    ensures { λ r. ⌜ ((fs : List Signature) → partTold r ≡ twoOperands (scopeAt fs s (now (kinds .entry)) (now (sizes .entry)) (now (lows .entry)) (now (highs .entry))) (wantedOf second (replicate formNumbers (pos 0))) at (fieldsAt (now (program .entry)) (at + 3) next)) ⌝ }
-    ensures { λ r. ⌜ Upon next r ⌝ }
+    ensures { λ r. ⌜ ((fs : List Signature) → checkedPart r ≡ twoOperands (scopeAt fs s (now (kinds .entry)) (now (sizes .entry)) (now (lows .entry)) (now (highs .entry))) (wantedOf second (replicate formNumbers (pos 0))) at (fieldsAt (now (program .entry)) (at + 3) next)) ⌝ }
+    ensures { λ r. ⌜ EndsAt next r ⌝ }
 {
     let none = [0i64; FORM_NUMBERS];
     let from = at + 3;
@@ -450,7 +450,7 @@ pub fn two_wires(
 ) -> Read
     requires { ⌜ (at + 3 ≤ next) × (next ≤ length (now program)) ⌝ }
     requires { ⌜ TablesRight s (now kinds) (now sizes) (now lows) (now highs) ⌝ }
-    ensures { λ r. ⌜ ((fs : List Signature) → partTold r ≡ twoOperands (scopeAt fs s (now (kinds .entry)) (now (sizes .entry)) (now (lows .entry)) (now (highs .entry))) wire at (fieldsAt (now (program .entry)) (at + 3) next)) ⌝ }
+    ensures { λ r. ⌜ ((fs : List Signature) → checkedPart r ≡ twoOperands (scopeAt fs s (now (kinds .entry)) (now (sizes .entry)) (now (lows .entry)) (now (highs .entry))) wire at (fieldsAt (now (program .entry)) (at + 3) next)) ⌝ }
 {
     two_operands(
         program,

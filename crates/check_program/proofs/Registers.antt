@@ -15,23 +15,23 @@ use Rattle.kinds.specs.declared.Kind.{Kind}
 use Rattle.kinds.specs.declared.Kind.the-variants.{Quantum, Classical}
 use Rattle.check_operand.specs.Tables.{kindIn, kindAt, kindsAt, tabulated}
 use Rattle.check_call.specs.Calls.{signatureAt}
-use Rattle.check_declaration.specs.Registers.{numberTold, registerIn, RegisterRow, RegisterSet}
+use Rattle.check_declaration.specs.Registers.{checkedRegister, registerIn, RegisterRow, RegisterSet}
 use Rattle.check_index.specs.declared.Read.{Read}
 use Rattle.check_index.specs.declared.Read.the-variants.{Upto, Refused}
 use Rattle.check_operand.proofs.Tables.{row-more, length-rows}
-use Rattle.check_program.specs.Declarations.{declaredIn, DeclaredRight, stepTold}
+use Rattle.check_program.specs.Declarations.{declaredIn, DeclaredRight, checkedStep}
 use Rattle.check_program.specs.declared.SoFar.{SoFar}
 use Rattle.check_program.specs.declared.Step.the-variants.{Going, Stopped}
 use Rattle.check_declaration.proofs.Tables.{rows-below}
 use Rattle.check_program.proofs.Scopes.{families-above}
 
-pub number-stops : (r : Read) (n q : ℕ) (x : Checked ℕ) (w : ℕ → Declared) → r ≡ Refused n q → numberTold r ≡ x → refused n q ≡ (x >>= λ m. good (w m))
-unfolding numberTold _>>=_
-number-stops r n q x w u e = ap (λ (c : Checked ℕ). c >>= λ m. good (w m)) (sym (ap numberTold u) ∙ e)
+pub number-stops : (r : Read) (n q : ℕ) (x : Checked ℕ) (w : ℕ → Declared) → r ≡ Refused n q → checkedRegister r ≡ x → refused n q ≡ (x >>= λ m. good (w m))
+unfolding checkedRegister _>>=_
+number-stops r n q x w u e = ap (λ (c : Checked ℕ). c >>= λ m. good (w m)) (sym (ap checkedRegister u) ∙ e)
 
-pub number-goes : (r : Read) (n : ℕ) (x : Checked ℕ) (w : ℕ → Declared) → r ≡ Upto n → numberTold r ≡ x → good (w n) ≡ (x >>= λ m. good (w m))
-unfolding numberTold _>>=_
-number-goes r n x w u e = ap (λ (c : Checked ℕ). c >>= λ m. good (w m)) (sym (ap numberTold u) ∙ e)
+pub number-goes : (r : Read) (n : ℕ) (x : Checked ℕ) (w : ℕ → Declared) → r ≡ Upto n → checkedRegister r ≡ x → good (w n) ≡ (x >>= λ m. good (w m))
+unfolding checkedRegister _>>=_
+number-goes r n x w u e = ap (λ (c : Checked ℕ). c >>= λ m. good (w m)) (sym (ap checkedRegister u) ∙ e)
 
 module _ (t : SoFar) (families : List (List ℕ)) (kinds : List ℕ) (sizes : List (List ℤ)) (at : ℕ) (content : List ℕ) where
   abbrev now : Declared
@@ -49,12 +49,12 @@ module _ (t : SoFar) (families : List (List ℕ)) (kinds : List ℕ) (sizes : Li
   creg-meant = ap (λ (k : ℕ). registerIn at k (t .bits) mostBits content >>= λ n. good (withBits now n)) registers-now
 
   module _ (r : Read) where
-    pub qreg-stops : (n q : ℕ) (k₁ : List ℕ) (s₁ : List (List ℤ)) → r ≡ Refused n q → numberTold r ≡ registerIn at (t .registers) (t .qubits) mostWires content → stepTold (Stopped n q) families k₁ s₁ ≡ checkTop (readRegister qreg at content) now
-    unfolding stepTold
+    pub qreg-stops : (n q : ℕ) (k₁ : List ℕ) (s₁ : List (List ℤ)) → r ≡ Refused n q → checkedRegister r ≡ registerIn at (t .registers) (t .qubits) mostWires content → checkedStep (Stopped n q) families k₁ s₁ ≡ checkTop (readRegister qreg at content) now
+    unfolding checkedStep
     qreg-stops n q k₁ s₁ u e = number-stops r n q _ (withQubits now) u e ∙ sym qreg-meant
 
-    pub creg-stops : (n q : ℕ) (k₁ : List ℕ) (s₁ : List (List ℤ)) → r ≡ Refused n q → numberTold r ≡ registerIn at (t .registers) (t .bits) mostBits content → stepTold (Stopped n q) families k₁ s₁ ≡ checkTop (readRegister creg at content) now
-    unfolding stepTold
+    pub creg-stops : (n q : ℕ) (k₁ : List ℕ) (s₁ : List (List ℤ)) → r ≡ Refused n q → checkedRegister r ≡ registerIn at (t .registers) (t .bits) mostBits content → checkedStep (Stopped n q) families k₁ s₁ ≡ checkTop (readRegister creg at content) now
+    unfolding checkedStep
     creg-stops n q k₁ s₁ u e = number-stops r n q _ (withBits now) u e ∙ sym creg-meant
 
 -- one register more
@@ -89,12 +89,12 @@ module _ (t : SoFar) (families : List (List ℕ)) (k₀ : List ℕ) (s₀ : List
   pub register-row : (kind : Kind) (count total most : ℕ) (k₁ : List ℕ) (s₁ : List (List ℤ)) → RegisterSet r kind count total most k₀ s₀ k₁ s₁ → RegisterRow n kind count total most k₀ s₀ k₁ s₁
   register-row kind count total most k₁ s₁ s = rw u at s
 
-  pub qreg-goes : {k₁ : List ℕ} {s₁ : List (List ℤ)} → RegisterRow n Quantum (t .registers) (t .qubits) mostWires k₀ s₀ k₁ s₁ → numberTold r ≡ registerIn at (t .registers) (t .qubits) mostWires content
-      → stepTold (Going (record { families = t .families; rows = t .rows; registers = t .registers + 1; qubits = t .qubits + n; bits = t .bits })) families k₁ s₁ ≡ checkTop (readRegister qreg at content) (declaredIn t families k₀ s₀)
-  unfolding stepTold
+  pub qreg-goes : {k₁ : List ℕ} {s₁ : List (List ℤ)} → RegisterRow n Quantum (t .registers) (t .qubits) mostWires k₀ s₀ k₁ s₁ → checkedRegister r ≡ registerIn at (t .registers) (t .qubits) mostWires content
+      → checkedStep (Going (record { families = t .families; rows = t .rows; registers = t .registers + 1; qubits = t .qubits + n; bits = t .bits })) families k₁ s₁ ≡ checkTop (readRegister qreg at content) (declaredIn t families k₀ s₀)
+  unfolding checkedStep
   qreg-goes s e = ap good (with-qubits t families n Quantum (t .qubits) mostWires h s refl) ∙ number-goes r n _ (withQubits (declaredIn t families k₀ s₀)) u e ∙ sym (qreg-meant t families k₀ s₀ at content)
 
-  pub creg-goes : {k₁ : List ℕ} {s₁ : List (List ℤ)} → RegisterRow n Classical (t .registers) (t .bits) mostBits k₀ s₀ k₁ s₁ → numberTold r ≡ registerIn at (t .registers) (t .bits) mostBits content
-      → stepTold (Going (record { families = t .families; rows = t .rows; registers = t .registers + 1; qubits = t .qubits; bits = t .bits + n })) families k₁ s₁ ≡ checkTop (readRegister creg at content) (declaredIn t families k₀ s₀)
-  unfolding stepTold
+  pub creg-goes : {k₁ : List ℕ} {s₁ : List (List ℤ)} → RegisterRow n Classical (t .registers) (t .bits) mostBits k₀ s₀ k₁ s₁ → checkedRegister r ≡ registerIn at (t .registers) (t .bits) mostBits content
+      → checkedStep (Going (record { families = t .families; rows = t .rows; registers = t .registers + 1; qubits = t .qubits; bits = t .bits + n })) families k₁ s₁ ≡ checkTop (readRegister creg at content) (declaredIn t families k₀ s₀)
+  unfolding checkedStep
   creg-goes s e = ap good (with-bits t families n Classical (t .bits) mostBits h s refl) ∙ number-goes r n _ (withBits (declaredIn t families k₀ s₀)) u e ∙ sym (creg-meant t families k₀ s₀ at content)

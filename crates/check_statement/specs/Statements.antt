@@ -16,18 +16,19 @@ use Rattle.check_index.specs.declared.Read.the-variants.{Upto, Refused}
 use Rattle.check_index.specs.Answers.{Beyond}
 use Rattle.language.specs.Check as C
 
--- the two forms of a loop
-unfoldable pub loopTold : Read → List ℤ → List ℤ → Checked Loop
-loopTold (Upto n) l h = good (record { low = asForm l; high = asForm h })
-loopTold (Refused n p) l h = refused n p
+-- what the answer on a loop's bounds, with the two forms beside it, stands for
+unfoldable pub checkedBounds : Read → List ℤ → List ℤ → Checked Loop
+checkedBounds (Upto n) l h = good (record { low = asForm l; high = asForm h })
+checkedBounds (Refused n p) l h = refused n p
 
 -- the bounds that are due first of the fields in the loop at p
 abbrev pub boundsDue : C.Scope → ℕ → List Field → Checked Loop
 boundsDue s p fs = checkBounds s (due outerIndex (badIndex 4 p) fs) (due outerIndex (badIndex 4 p) (drop 1 fs))
 
-abbrev pub LoopPast : List ℕ → ℕ → ℕ → Read → List ℤ → List ℤ → Type 0
-LoopPast program at to (Upto n) l h = Beyond program at to 2 n × Kept l × Kept h × (n ≤ to)
-LoopPast program at to (Refused n p) l h = Unit {0}
+-- bounds that are right are the first two of the fields from `at` to `to`, and their forms are beside the answer
+abbrev pub BoundsPass : List ℕ → ℕ → ℕ → Read → List ℤ → List ℤ → Type 0
+BoundsPass program at to (Upto n) l h = Beyond program at to 2 n × Kept l × Kept h × (n ≤ to)
+BoundsPass program at to (Refused n p) l h = Unit {0}
 
 -- how the content of a statement is read, by what its tag says; the check asks the same of every gate
 abbrev pub statementReader : (Field → Statement) → StatementTag → Reader Statement
@@ -42,7 +43,7 @@ statementReader part Other = λ p content. badStatement 3 p
 abbrev pub StatementSays : ℕ → StatementTag → Type 0
 StatementSays tag k = (part : Field → Statement) (p : ℕ) (content : List ℕ) (s : C.Scope) → checkStatement (statementBy part (field p tag content)) s ≡ checkStatement (statementReader part k p content) s
 
--- what an answer tells where nothing is declared
-unfoldable pub declaredTold : Read → Declared → Checked Declared
-declaredTold (Upto n) d = good d
-declaredTold (Refused n p) d = refused n p
+-- what the answer on a top field that declares nothing stands for
+unfoldable pub checkedDeclared : Read → Declared → Checked Declared
+checkedDeclared (Upto n) d = good d
+checkedDeclared (Refused n p) d = refused n p

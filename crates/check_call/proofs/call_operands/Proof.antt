@@ -22,17 +22,17 @@ use Rattle.forms.specs.Flat.{widened, asForm}
 use Rattle.forms.specs.Rows.{formsOf}
 use Rattle.kinds.specs.declared.Kind as K
 use Rattle.check_operand.specs.Tables.{kindIn, kindAt, kindsAt, scopeAt}
-use Rattle.check_index.specs.Answers.{partTold}
+use Rattle.check_index.specs.Answers.{checkedPart}
 use Rattle.check_operand.proofs.Tables.{row-drop}
-use Rattle.check_index.proofs.Answers.{upon-stops, part-goes, part-stops, passes-upto}
+use Rattle.check_index.proofs.Answers.{ends-stops, part-goes, part-stops, passes-upto}
 use Rattle.check_call.proofs.Calls.{operand-first, operands-over, operands-left, drop-end}
 
 abbrev Inv-loop : tie.InvT-loop
-Inv-loop program at to place first count forms m s kinds sizes lows highs from₀ j₀ from j =
-    (j ≤ count) × ((fs : List Signature) → callOperands (scopeAt fs s kinds sizes lows highs) place (formsOf m forms) (kindsAt count first kinds sizes) (map readArgument (fieldsAt program at to)) ≡ callOperands (scopeAt fs s kinds sizes lows highs) place (formsOf m forms) (drop j (kindsAt count first kinds sizes)) (map readArgument (fieldsAt program from to)))
+Inv-loop program at to parent first count forms m s kinds sizes lows highs from₀ j₀ from j =
+    (j ≤ count) × ((fs : List Signature) → callOperands (scopeAt fs s kinds sizes lows highs) parent (formsOf m forms) (kindsAt count first kinds sizes) (map readArgument (fieldsAt program at to)) ≡ callOperands (scopeAt fs s kinds sizes lows highs) parent (formsOf m forms) (drop j (kindsAt count first kinds sizes)) (map readArgument (fieldsAt program from to)))
 
 abbrev μ-loop : tie.MeasureT-loop
-μ-loop program at to place first count forms m s kinds sizes lows highs from₀ j₀ from j =
+μ-loop program at to parent first count forms m s kinds sizes lows highs from₀ j₀ from j =
     count - j
 
 -- src/lib.rt:113:5
@@ -108,7 +108,7 @@ enum-told c =
 returns : tie.Need-returns Inv-loop μ-loop
 returns c =
     let a = c .before .before .before .before .before .before .before .before .before .before .before .before .before .args in
-    let p = now (a .program) in
+    let program = now (a .program) in
     let i = c .before .before .before .before .before .before .before .before .before .before .loop in
     let gs = formsOf (a .m) (now (a .forms)) in
     let ks = kindsAt (a .count) (a .first) (now (a .kinds)) (now (a .sizes)) in
@@ -116,13 +116,13 @@ returns c =
     let row = a .first + i .j in
     let k = kindAt row (now (a .kinds)) (now (a .sizes)) in
     let e = row-drop (λ (x : ℕ). kindAt x (now (a .kinds)) (now (a .sizes))) (a .count) (a .first) (i .j) (c .before .before .before .before .before .before .before .before .before .loop-test .taken) in
-    let x : List Signature → Checked (Unit {0}) = λ fs. checkOperand (s fs) (C.taken gs k) (due readOperand (badOperand 4 (a .place)) (fieldsAt p (i .from) (a .to))) in
-    let y : List Signature → Checked (Unit {0}) = λ fs. callOperands (s fs) (a .place) gs (drop (suc (i .j)) ks) (map readArgument (drop 1 (fieldsAt p (i .from) (a .to)))) in (
-      λ fs. part-stops (c .before .before .operand .result) (x fs) (y fs) (c .before .before .operand .ensures .0 fs ∙ ap (λ (d : Due). checkOperand (s fs) d (due readOperand (badOperand 4 (a .place)) (fieldsAt p (i .from) (a .to)))) (c .before .before .before .before .taken-by .ensures .0 ∙ ap (λ (x : K.Kind). C.taken gs (kindIn x (asForm (widened (getD (now (a .sizes)) row []))))) (c .before .before .before .before .before .before .before .kind-by .ensures))) (c .before .match .keys2)
-          ∙ sym (operand-first (s fs) (a .place) gs k (drop (suc (i .j)) ks) p (i .from) (a .to) (c .before .before .before .before .before .before .before .before .before .before .before .before .before .pre .0))
-          ∙ ap (λ (l : List Kind). callOperands (s fs) (a .place) gs l (map readArgument (fieldsAt p (i .from) (a .to)))) (sym e)
+    let x : List Signature → Checked (Unit {0}) = λ fs. checkOperand (s fs) (C.taken gs k) (due readOperand (badOperand 4 (a .parent)) (fieldsAt program (i .from) (a .to))) in
+    let y : List Signature → Checked (Unit {0}) = λ fs. callOperands (s fs) (a .parent) gs (drop (suc (i .j)) ks) (map readArgument (drop 1 (fieldsAt program (i .from) (a .to)))) in (
+      λ fs. part-stops (c .before .before .operand .result) (x fs) (y fs) (c .before .before .operand .ensures .0 fs ∙ ap (λ (d : Due). checkOperand (s fs) d (due readOperand (badOperand 4 (a .parent)) (fieldsAt program (i .from) (a .to)))) (c .before .before .before .before .taken-by .ensures .0 ∙ ap (λ (x : K.Kind). C.taken gs (kindIn x (asForm (widened (getD (now (a .sizes)) row []))))) (c .before .before .before .before .before .before .before .kind-by .ensures))) (c .before .match .keys2)
+          ∙ sym (operand-first (s fs) (a .parent) gs k (drop (suc (i .j)) ks) program (i .from) (a .to) (c .before .before .before .before .before .before .before .before .before .before .before .before .before .pre .0))
+          ∙ ap (λ (l : List Kind). callOperands (s fs) (a .parent) gs l (map readArgument (fieldsAt program (i .from) (a .to)))) (sym e)
           ∙ sym (i .inv .1 fs),
-      upon-stops (c .before .before .operand .result) (a .to) (c .before .match .keys2),
+      ends-stops (c .before .before .operand .result) (a .to) (c .before .match .keys2),
     )
 
 -- src/lib.rt:113:9
@@ -139,7 +139,7 @@ loop-less c =
 loop-again : tie.Need-loop-again Inv-loop μ-loop
 loop-again c =
     let a = c .before .before .before .before .before .before .before .before .before .before .before .before .before .before .args in
-    let p = now (a .program) in
+    let program = now (a .program) in
     let i = c .before .before .before .before .before .before .before .before .before .before .before .loop in
     let gs = formsOf (a .m) (now (a .forms)) in
     let ks = kindsAt (a .count) (a .first) (now (a .kinds)) (now (a .sizes)) in
@@ -147,44 +147,44 @@ loop-again c =
     let row = a .first + i .j in
     let k = kindAt row (now (a .kinds)) (now (a .sizes)) in
     let e = row-drop (λ (x : ℕ). kindAt x (now (a .kinds)) (now (a .sizes))) (a .count) (a .first) (i .j) (c .before .before .before .before .before .before .before .before .before .before .loop-test .taken) in
-    let x : List Signature → Checked (Unit {0}) = λ fs. checkOperand (s fs) (C.taken gs k) (due readOperand (badOperand 4 (a .place)) (fieldsAt p (i .from) (a .to))) in
-    let y : List Signature → Checked (Unit {0}) = λ fs. callOperands (s fs) (a .place) gs (drop (suc (i .j)) ks) (map readArgument (drop 1 (fieldsAt p (i .from) (a .to)))) in
+    let x : List Signature → Checked (Unit {0}) = λ fs. checkOperand (s fs) (C.taken gs k) (due readOperand (badOperand 4 (a .parent)) (fieldsAt program (i .from) (a .to))) in
+    let y : List Signature → Checked (Unit {0}) = λ fs. callOperands (s fs) (a .parent) gs (drop (suc (i .j)) ks) (map readArgument (drop 1 (fieldsAt program (i .from) (a .to)))) in
     let next = c .before .r .given .0 .0 in
-    let v = passes-upto p (i .from) (a .to) (c .before .before .before .operand .result) next (c .before .r .given .1) (c .before .before .before .operand .ensures .1) in
+    let v = passes-upto program (i .from) (a .to) (c .before .before .before .operand .result) next (c .before .r .given .1) (c .before .before .before .operand .ensures .1) in
     let h = c .before .before .before .before .before .before .before .before .before .before .loop-test .taken in (
       omega arith,
       (λ fs. i .inv .1 fs
-          ∙ ap (λ (l : List Kind). callOperands (s fs) (a .place) gs l (map readArgument (fieldsAt p (i .from) (a .to)))) e
-          ∙ operand-first (s fs) (a .place) gs k (drop (suc (i .j)) ks) p (i .from) (a .to) (c .before .before .before .before .before .before .before .before .before .before .before .before .before .before .pre .0)
-          ∙ part-goes (c .before .before .before .operand .result) (x fs) (c .before .before .before .operand .ensures .0 fs ∙ ap (λ (d : Due). checkOperand (s fs) d (due readOperand (badOperand 4 (a .place)) (fieldsAt p (i .from) (a .to)))) (c .before .before .before .before .before .taken-by .ensures .0 ∙ ap (λ (x : K.Kind). C.taken gs (kindIn x (asForm (widened (getD (now (a .sizes)) row []))))) (c .before .before .before .before .before .before .before .before .kind-by .ensures))) next (y fs) (c .before .r .given .1)
-          ∙ rw add-one (ap (λ (l : List Field). callOperands (s fs) (a .place) gs (drop (suc (i .j)) ks) (map readArgument l)) (v .rest))),
+          ∙ ap (λ (l : List Kind). callOperands (s fs) (a .parent) gs l (map readArgument (fieldsAt program (i .from) (a .to)))) e
+          ∙ operand-first (s fs) (a .parent) gs k (drop (suc (i .j)) ks) program (i .from) (a .to) (c .before .before .before .before .before .before .before .before .before .before .before .before .before .before .pre .0)
+          ∙ part-goes (c .before .before .before .operand .result) (x fs) (c .before .before .before .operand .ensures .0 fs ∙ ap (λ (d : Due). checkOperand (s fs) d (due readOperand (badOperand 4 (a .parent)) (fieldsAt program (i .from) (a .to)))) (c .before .before .before .before .before .taken-by .ensures .0 ∙ ap (λ (x : K.Kind). C.taken gs (kindIn x (asForm (widened (getD (now (a .sizes)) row []))))) (c .before .before .before .before .before .before .before .before .kind-by .ensures))) next (y fs) (c .before .r .given .1)
+          ∙ rw add-one (ap (λ (l : List Field). callOperands (s fs) (a .parent) gs (drop (suc (i .j)) ks) (map readArgument l)) (v .rest))),
     )
 
 -- src/lib.rt:137:9
 returns-2 : tie.Need-returns-2 Inv-loop μ-loop
-unfolding partTold
+unfolding checkedPart
 returns-2 c =
     let a = c .before .before .before .before .before .args in
-    let p = now (a .program) in
+    let program = now (a .program) in
     let i = c .before .before .loop in
     let gs = formsOf (a .m) (now (a .forms)) in
     let ks = kindsAt (a .count) (a .first) (now (a .kinds)) (now (a .sizes)) in
     let s : List Signature → C.Scope = λ fs. scopeAt fs (a .s) (now (a .kinds)) (now (a .sizes)) (now (a .lows)) (now (a .highs)) in
     let e = drop-end (λ (x : ℕ). kindAt x (now (a .kinds)) (now (a .sizes))) (a .count) (a .first) (i .j) (c .before .loop-test .left) in
-    (λ fs. sym (i .inv .1 fs ∙ ap (λ (l : List Kind). callOperands (s fs) (a .place) gs l (map readArgument (fieldsAt p (i .from) (a .to)))) e ∙ operands-left (s fs) (a .place) gs p (i .from) (a .to) (c .if1 .taken) (c .before .before .before .before .before .pre .0)), tt)
+    (λ fs. sym (i .inv .1 fs ∙ ap (λ (l : List Kind). callOperands (s fs) (a .parent) gs l (map readArgument (fieldsAt program (i .from) (a .to)))) e ∙ operands-left (s fs) (a .parent) gs program (i .from) (a .to) (c .if1 .taken) (c .before .before .before .before .before .pre .0)), tt)
 
 -- src/lib.rt:89:1
 returns-3 : tie.Need-returns-3 Inv-loop μ-loop
-unfolding partTold
+unfolding checkedPart
 returns-3 c =
     let a = c .before .before .before .before .before .args in
-    let p = now (a .program) in
+    let program = now (a .program) in
     let i = c .before .before .loop in
     let gs = formsOf (a .m) (now (a .forms)) in
     let ks = kindsAt (a .count) (a .first) (now (a .kinds)) (now (a .sizes)) in
     let s : List Signature → C.Scope = λ fs. scopeAt fs (a .s) (now (a .kinds)) (now (a .sizes)) (now (a .lows)) (now (a .highs)) in
     let e = drop-end (λ (x : ℕ). kindAt x (now (a .kinds)) (now (a .sizes))) (a .count) (a .first) (i .j) (c .before .loop-test .left) in
-    (λ fs. sym (i .inv .1 fs ∙ ap (λ (l : List Kind). callOperands (s fs) (a .place) gs l (map readArgument (fieldsAt p (i .from) (a .to)))) e ∙ operands-over (s fs) (a .place) gs p (i .from) (a .to) (c .if1 .left)), refl)
+    (λ fs. sym (i .inv .1 fs ∙ ap (λ (l : List Kind). callOperands (s fs) (a .parent) gs l (map readArgument (fieldsAt program (i .from) (a .to)))) e ∙ operands-over (s fs) (a .parent) gs program (i .from) (a .to) (c .if1 .left)), refl)
 
 pub call-operands-spec : {M : Type 1} → statement M
 call-operands-spec =

@@ -20,7 +20,7 @@ use Rattle.forms.specs.Flat.{asForm}
 use Rattle.check_operand.specs.Tables.{kindIn}
 use Rattle.check_declaration.proofs.Sizes.{constant-narrow}
 use Rattle.check_declaration.specs.Types.{tableRows}
-use Rattle.check_declaration.specs.Registers.{numberTold}
+use Rattle.check_declaration.specs.Registers.{checkedRegister}
 use Rattle.check_declaration.proofs.Registers.{size-fits, register-stops}
 use Rattle.check_declaration.proofs.Tables.{apart-both, row-both, numbered}
 
@@ -43,16 +43,16 @@ enum-told c =
 returns : tie.Need-returns
 returns c =
     let a = c .before .before .before .before .before .args in
-    let p = now (a .program) in
-    let content = slice (a .at + 3) (a .next) p in
+    let program = now (a .program) in
+    let content = slice (a .at + 3) (a .next) program in
     (c .before .before .register-size .ensures, register-stops (c .before .before .register-size .result) (a .kind) (a .count) (a .total) (a .most) (now (a .kinds)) (now (a .sizes)) (now (a .kinds)) (now (a .sizes)) (c .before .match .keys2))
 
 -- src/lib.rt:259:33
 cast-set-constant : tie.Need-cast-set-constant
 cast-set-constant c =
     let a = c .before .before .before .before .before .before .before .args in
-    let p = now (a .program) in
-    let content = slice (a .at + 3) (a .next) p in
+    let program = now (a .program) in
+    let content = slice (a .at + 3) (a .next) program in
     let n = c .before .before .r .given .0 .0 in
     let f = size-fits (c .before .before .before .before .register-size .result) n (a .at) (a .count) (a .total) (a .most) content (c .before .before .r .given .1) (c .before .before .before .before .register-size .ensures) in
     let room = f .room in
@@ -65,8 +65,8 @@ cast-set-constant c =
 set-constant-requires : tie.Need-set-constant-requires
 set-constant-requires c κs =
     let a = c .before .before .before .before .before .before .before .args in
-    let p = now (a .program) in
-    let content = slice (a .at + 3) (a .next) p in
+    let program = now (a .program) in
+    let content = slice (a .at + 3) (a .next) program in
     let n = c .before .before .r .given .0 .0 in
     let f = size-fits (c .before .before .before .before .register-size .result) n (a .at) (a .count) (a .total) (a .most) content (c .before .before .r .given .1) (c .before .before .before .before .register-size .ensures) in
     let room = f .room in
@@ -92,8 +92,8 @@ number-requires c κs =
 slice-write-kinds : tie.Need-slice-write-kinds
 slice-write-kinds c =
     let a = c .before .before .before .before .before .before .before .before .before .before .before .before .args in
-    let p = now (a .program) in
-    let content = slice (a .at + 3) (a .next) p in
+    let program = now (a .program) in
+    let content = slice (a .at + 3) (a .next) program in
     let n = c .before .before .before .before .before .before .before .r .given .0 .0 in
     let f = size-fits (c .before .before .before .before .before .before .before .before .before .register-size .result) n (a .at) (a .count) (a .total) (a .most) content (c .before .before .before .before .before .before .before .r .given .1) (c .before .before .before .before .before .before .before .before .before .register-size .ensures) in
     let room = f .room in
@@ -106,8 +106,8 @@ slice-write-kinds c =
 mul-t22 : tie.Need-mul-t22
 mul-t22 c =
     let a = c .before .before .before .before .before .before .before .before .before .before .before .before .args in
-    let p = now (a .program) in
-    let content = slice (a .at + 3) (a .next) p in
+    let program = now (a .program) in
+    let content = slice (a .at + 3) (a .next) program in
     let n = c .before .before .before .before .before .before .before .r .given .0 .0 in
     let f = size-fits (c .before .before .before .before .before .before .before .before .before .register-size .result) n (a .at) (a .count) (a .total) (a .most) content (c .before .before .before .before .before .before .before .r .given .1) (c .before .before .before .before .before .before .before .before .before .register-size .ensures) in
     let room = f .room in
@@ -120,8 +120,8 @@ mul-t22 c =
 slice-set-from-sizes : tie.Need-slice-set-from-sizes
 slice-set-from-sizes c =
     let a = c .before .before .before .before .before .before .before .before .before .before .before .before .args in
-    let p = now (a .program) in
-    let content = slice (a .at + 3) (a .next) p in
+    let program = now (a .program) in
+    let content = slice (a .at + 3) (a .next) program in
     let n = c .before .before .before .before .before .before .before .r .given .0 .0 in
     let f = size-fits (c .before .before .before .before .before .before .before .before .before .register-size .result) n (a .at) (a .count) (a .total) (a .most) content (c .before .before .before .before .before .before .before .r .given .1) (c .before .before .before .before .before .before .before .before .before .register-size .ensures) in
     let room = f .room in
@@ -144,8 +144,8 @@ same-length-2 c =
 returns-2 : tie.Need-returns-2
 returns-2 c =
     let a = c .before .before .before .before .before .before .before .before .before .before .before .before .args in
-    let p = now (a .program) in
-    let content = slice (a .at + 3) (a .next) p in
+    let program = now (a .program) in
+    let content = slice (a .at + 3) (a .next) program in
     let n = c .before .before .before .before .before .before .before .r .given .0 .0 in
     let f = size-fits (c .before .before .before .before .before .before .before .before .before .register-size .result) n (a .at) (a .count) (a .total) (a .most) content (c .before .before .before .before .before .before .before .r .given .1) (c .before .before .before .before .before .before .before .before .before .register-size .ensures) in
     let room = f .room in
@@ -156,7 +156,7 @@ returns-2 c =
     let h : a .count < tableRows = omega arith in
     let l = c .before .store .last .0 in
     let value = ap asForm (c .before .store .ensures .0) ∙ c .before .before .before .before .set-constant .ensures .0 ∙ ap constantForm (range-back (range-yes (pos n) (omega arith))) in (
-      sym (ap numberTold (c .before .before .before .before .before .before .before .r .given .1)) ∙ c .before .before .before .before .before .before .before .before .before .register-size .ensures,
+      sym (ap checkedRegister (c .before .before .before .before .before .before .before .r .given .1)) ∙ c .before .before .before .before .before .before .before .before .before .register-size .ensures,
       record {
         room = room;
         fits = fits;

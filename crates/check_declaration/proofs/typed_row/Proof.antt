@@ -48,15 +48,15 @@ enum-known-next-2 c =
 store-requires : tie.Need-store-requires
 store-requires c κs =
     let a = c .before .before .before .before .before .before .before .before .before .args in
-    let p = now (a .program) in
+    let program = now (a .program) in
     let l = c .before .before .before .before .before .parameter-type .last .1 .1 .1 .1 .1 .0 in
     let t = c .before .before .before .before .before .before .before .before .before .pre .1 .1 .1 in
     let h = c .before .before .before .before .before .before .before .before .before .pre .1 .1 .0 in
     let kinds = now (a .kinds) in
     let sizes = now (a .sizes) in
     let few = c .before .before .before .before .before .before .before .before .before .pre .1 .0 in
-    let u = past-many p (a .at) (a .to) (c .before .before .before .before .before .parameter-type .result) l (c .before .before .before .next2 .given .0 .0) (c .before .before .before .before .before .parameter-type .ensures .1) (c .before .before .before .next2 .given .1) in
-    (u .1, narrow (c .before .before .before .before .before .parameter-type .result) (c .before .before .before .next2 .given .0 .0) l (scopeWith [] [] (a .m) []) (due readType (badType 4 (a .place)) (fieldsAt p (a .at) (a .to))) (c .before .before .before .next2 .given .1) (u .1) (c .before .before .before .before .before .parameter-type .ensures .0 [] []) (omega arith))
+    let u = past-many program (a .at) (a .to) (c .before .before .before .before .before .parameter-type .result) l (c .before .before .before .next2 .given .0 .0) (c .before .before .before .before .before .parameter-type .ensures .1) (c .before .before .before .next2 .given .1) in
+    (u .1, narrow (c .before .before .before .before .before .parameter-type .result) (c .before .before .before .next2 .given .0 .0) l (scopeWith [] [] (a .m) []) (due readType (badType 4 (a .parent)) (fieldsAt program (a .at) (a .to))) (c .before .before .before .next2 .given .1) (u .1) (c .before .before .before .before .before .parameter-type .ensures .0 [] []) (omega arith))
 
 -- src/lib.rt:133:26
 number-requires-2 : tie.Need-number-requires-2
@@ -92,7 +92,7 @@ same-length c =
 returns : tie.Need-returns
 returns c =
     let a = c .before .before .before .before .before .before .before .before .args in
-    let p = now (a .program) in
+    let program = now (a .program) in
     let l = c .before .before .before .before .parameter-type .last .1 .1 .1 .1 .1 .0 in
     let t = c .before .before .before .before .before .before .before .before .pre .1 .1 .1 in
     let h = c .before .before .before .before .before .before .before .before .pre .1 .1 .0 in
@@ -100,7 +100,7 @@ returns c =
     let sizes = now (a .sizes) in (
       λ fs ks. typed-single (c .before .before .before .before .parameter-type .result) (c .before .before .next .given .0 .0) 0 l (a .row) kinds sizes t h (c .number .result) (c .number .ensures) (c .before .before .next .given .1) ∙ c .before .before .before .before .parameter-type .ensures .0 fs ks,
       (
-        past-single p (a .at) (a .to) (c .before .before .before .before .parameter-type .result) l (c .before .before .next .given .0 .0) (c .before .before .before .before .parameter-type .ensures .1) (c .before .before .next .given .1),
+        past-single program (a .at) (a .to) (c .before .before .before .before .parameter-type .result) l (c .before .before .next .given .0 .0) (c .before .before .before .before .parameter-type .ensures .1) (c .before .before .next .given .1),
         apart-kind (a .row) kinds sizes t h (c .number .result),
       ),
     )
@@ -119,13 +119,13 @@ same-length-3 c =
 returns-2 : tie.Need-returns-2
 returns-2 c =
     let a = c .before .before .before .before .before .before .before .before .before .before .before .args in
-    let p = now (a .program) in
+    let program = now (a .program) in
     let l = c .before .before .before .before .before .before .before .parameter-type .last .1 .1 .1 .1 .1 .0 in
     let t = c .before .before .before .before .before .before .before .before .before .before .before .pre .1 .1 .1 in
     let h = c .before .before .before .before .before .before .before .before .before .before .before .pre .1 .1 .0 in
     let kinds = now (a .kinds) in
     let sizes = now (a .sizes) in
-    let u = past-many p (a .at) (a .to) (c .before .before .before .before .before .before .before .parameter-type .result) l (c .before .before .before .before .before .next2 .given .0 .0) (c .before .before .before .before .before .before .before .parameter-type .ensures .1) (c .before .before .before .before .before .next2 .given .1) in
+    let u = past-many program (a .at) (a .to) (c .before .before .before .before .before .before .before .parameter-type .result) l (c .before .before .before .before .before .next2 .given .0 .0) (c .before .before .before .before .before .before .before .parameter-type .ensures .1) (c .before .before .before .before .before .next2 .given .1) in
     let short = c .before .store .last .0 in (
       λ fs ks. typed-many (c .before .before .before .before .before .before .before .parameter-type .result) (c .before .before .before .before .before .next2 .given .0 .0) 0 l (a .row) kinds sizes t h (c .number2 .result) (c .number2 .ensures) short (c .before .before .before .before .before .next2 .given .1) (c .before .store .ensures .1) (c .before .store .ensures .0) ∙ c .before .before .before .before .before .before .before .parameter-type .ensures .0 fs ks,
       (u .0, apart-both (a .row) kinds sizes t h (c .number2 .result) short (c .before .store .ensures .1)),
@@ -135,7 +135,7 @@ returns-2 c =
 returns-3 : tie.Need-returns-3
 returns-3 c =
     let a = c .before .before .before .before .before .before .before .args in
-    let p = now (a .program) in
+    let program = now (a .program) in
     let l = c .before .before .before .parameter-type .last .1 .1 .1 .1 .1 .0 in
     let t = c .before .before .before .before .before .before .before .pre .1 .1 .1 in
     let h = c .before .before .before .before .before .before .before .pre .1 .1 .0 in

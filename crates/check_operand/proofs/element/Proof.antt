@@ -26,10 +26,10 @@ use Rattle.fields.proofs.Reading.{one-byte, slice-none}
 use Rattle.forms.specs.Flat.{widened, asForm}
 use Rattle.forms.specs.Rows.{loopsOf}
 use Rattle.forms.proofs.Laws.{fewer}
-use Rattle.check_index.specs.Answers.{partTold}
+use Rattle.check_index.specs.Answers.{checkedPart}
 use Rattle.check_operand.specs.Tables.{kindIn, kindAt, kindsAt, scopeAt}
 use Rattle.check_operand.specs.Operands.{wantedOf}
-use Rattle.check_index.proofs.Answers.{past-upto, upon-stops}
+use Rattle.check_index.proofs.Answers.{form-passes-upto, ends-stops}
 use Rattle.check_operand.proofs.Operands.{element-none, element-beyond, element-stops, element-long, element-good, kind-stops, kind-goes}
 use Rattle.check_operand.proofs.Tables.{scope-forms, kinds-get, kinds-none}
 
@@ -40,15 +40,15 @@ add-from c =
 
 -- src/lib.rt:264:9
 returns : tie.Need-returns
-unfolding partTold
+unfolding checkedPart
 returns c =
     let a = c .before .before .before .args in
-    let p = now (a .program) in
+    let program = now (a .program) in
     let from = a .at + 3 in
     let ls = loopsOf (a .s .loops) (now (a .lows)) (now (a .highs)) in
     let ks = kindsAt (a .s .count) (a .s .first) (now (a .kinds)) (now (a .sizes)) in
     let d = wantedOf (a .wanted) (now (a .size)) in
-    (λ fs. element-none (scopeAt fs (a .s) (now (a .kinds)) (now (a .sizes)) (now (a .lows)) (now (a .highs))) d (a .at) (slice from (a .next) p) (slice-none from (a .next) p (c .if1 .taken)), tt)
+    (λ fs. element-none (scopeAt fs (a .s) (now (a .kinds)) (now (a .sizes)) (now (a .lows)) (now (a .highs))) d (a .at) (slice from (a .next) program) (slice-none from (a .next) program (c .if1 .taken)), tt)
 
 -- src/lib.rt:266:26
 shared-slice-read-wide : tie.Need-shared-slice-read-wide
@@ -62,18 +62,18 @@ wide-requires c κs =
 
 -- src/lib.rt:268:9
 returns-2 : tie.Need-returns-2
-unfolding partTold
+unfolding checkedPart
 returns-2 c =
     let a = c .before .before .before .before .before .before .before .args in
-    let p = now (a .program) in
+    let program = now (a .program) in
     let from = a .at + 3 in
     let ls = loopsOf (a .s .loops) (now (a .lows)) (now (a .highs)) in
     let ks = kindsAt (a .s .count) (a .s .first) (now (a .kinds)) (now (a .sizes)) in
     let d = wantedOf (a .wanted) (now (a .size)) in
-    let n = getD p from 0 in
-    let e = one-byte from (a .next) p (c .before .before .before .before .if1 .left) (c .before .before .before .before .before .before .before .pre .0 .1) in
+    let n = getD program from 0 in
+    let e = one-byte from (a .next) program (c .before .before .before .before .if1 .left) (c .before .before .before .before .before .before .before .pre .0 .1) in
     let v : c .before .before .wide .result ≡ n = c .before .before .wide .ensures .0 in
-    (λ fs. element-beyond (scopeAt fs (a .s) (now (a .kinds)) (now (a .sizes)) (now (a .lows)) (now (a .highs))) d (a .at) (slice from (a .next) p) n p (a .next) e (kinds-none (a .s .count) (a .s .first) n (now (a .kinds)) (now (a .sizes)) (let q = c .if2 .taken in omega arith)), tt)
+    (λ fs. element-beyond (scopeAt fs (a .s) (now (a .kinds)) (now (a .sizes)) (now (a .lows)) (now (a .highs))) d (a .at) (slice from (a .next) program) n program (a .next) e (kinds-none (a .s .count) (a .s .first) n (now (a .kinds)) (now (a .sizes)) (let q = c .if2 .taken in omega arith)), tt)
 
 -- src/lib.rt:270:15
 add-row : tie.Need-add-row
@@ -109,42 +109,42 @@ enum-told c =
 returns-3 : tie.Need-returns-3
 returns-3 c =
     let a = c .before .before .before .before .before .before .before .before .before .before .before .before .before .args in
-    let p = now (a .program) in
+    let program = now (a .program) in
     let from = a .at + 3 in
     let ls = loopsOf (a .s .loops) (now (a .lows)) (now (a .highs)) in
     let ks = kindsAt (a .s .count) (a .s .first) (now (a .kinds)) (now (a .sizes)) in
     let d = wantedOf (a .wanted) (now (a .size)) in
-    let n = getD p from 0 in
-    let e = one-byte from (a .next) p (c .before .before .before .before .before .before .before .before .before .before .if1 .left) (c .before .before .before .before .before .before .before .before .before .before .before .before .before .pre .0 .1) in
+    let n = getD program from 0 in
+    let e = one-byte from (a .next) program (c .before .before .before .before .before .before .before .before .before .before .if1 .left) (c .before .before .before .before .before .before .before .before .before .before .before .before .before .pre .0 .1) in
     let v : c .before .before .before .before .before .before .before .before .wide .result ≡ n = c .before .before .before .before .before .before .before .before .wide .ensures .0 in
     let row = a .s .first + n in
     let k = kindAt row (now (a .kinds)) (now (a .sizes)) in
     let get = kinds-get (a .s .count) (a .s .first) n (now (a .kinds)) (now (a .sizes)) (let q = c .before .before .before .before .before .before .if2 .left in omega arith) in
     let l = c .before .before .index .last .1 .1 .1 .1 .1 .1 .0 in
-    let i = due (readIndex 16) (badIndex 4 (a .at)) (fieldsAt p (a .at + 4) (a .next)) in
-    (λ fs. element-stops (scopeAt fs (a .s) (now (a .kinds)) (now (a .sizes)) (now (a .lows)) (now (a .highs))) d (a .at) (slice from (a .next) p) n p (a .next) e k get (c .before .before .index .result) l (c .before .before .index .ensures .0 ∙ scope-forms fs ks (a .s .variables) (a .s .loops) (now (a .lows)) (now (a .highs)) i) (c .before .match .keys2), upon-stops (c .before .before .index .result) (a .next) (c .before .match .keys2))
+    let i = due (readIndex 16) (badIndex 4 (a .at)) (fieldsAt program (a .at + 4) (a .next)) in
+    (λ fs. element-stops (scopeAt fs (a .s) (now (a .kinds)) (now (a .sizes)) (now (a .lows)) (now (a .highs))) d (a .at) (slice from (a .next) program) n program (a .next) e k get (c .before .before .index .result) l (c .before .before .index .ensures .0 ∙ scope-forms fs ks (a .s .variables) (a .s .loops) (now (a .lows)) (now (a .highs)) i) (c .before .match .keys2), ends-stops (c .before .before .index .result) (a .next) (c .before .match .keys2))
 
 -- src/lib.rt:279:9
 returns-4 : tie.Need-returns-4
-unfolding partTold
+unfolding checkedPart
 returns-4 c =
     let a = c .before .before .before .before .before .before .before .before .before .before .before .before .before .before .before .args in
-    let p = now (a .program) in
+    let program = now (a .program) in
     let from = a .at + 3 in
     let ls = loopsOf (a .s .loops) (now (a .lows)) (now (a .highs)) in
     let ks = kindsAt (a .s .count) (a .s .first) (now (a .kinds)) (now (a .sizes)) in
     let d = wantedOf (a .wanted) (now (a .size)) in
-    let n = getD p from 0 in
-    let e = one-byte from (a .next) p (c .before .before .before .before .before .before .before .before .before .before .before .before .if1 .left) (c .before .before .before .before .before .before .before .before .before .before .before .before .before .before .before .pre .0 .1) in
+    let n = getD program from 0 in
+    let e = one-byte from (a .next) program (c .before .before .before .before .before .before .before .before .before .before .before .before .if1 .left) (c .before .before .before .before .before .before .before .before .before .before .before .before .before .before .before .pre .0 .1) in
     let v : c .before .before .before .before .before .before .before .before .before .before .wide .result ≡ n = c .before .before .before .before .before .before .before .before .before .before .wide .ensures .0 in
     let row = a .s .first + n in
     let k = kindAt row (now (a .kinds)) (now (a .sizes)) in
     let get = kinds-get (a .s .count) (a .s .first) n (now (a .kinds)) (now (a .sizes)) (let q = c .before .before .before .before .before .before .before .before .if2 .left in omega arith) in
     let l = c .before .before .before .before .index .last .1 .1 .1 .1 .1 .1 .0 in
-    let i = due (readIndex 16) (badIndex 4 (a .at)) (fieldsAt p (a .at + 4) (a .next)) in
+    let i = due (readIndex 16) (badIndex 4 (a .at)) (fieldsAt program (a .at + 4) (a .next)) in
     let end = c .before .before .r .given .0 .0 in
-    let u = past-upto p (a .at + 4) (a .next) (c .before .before .before .before .index .result) l end (c .before .before .r .given .1) (c .before .before .before .before .index .ensures .1) in
-    (λ fs. element-long (scopeAt fs (a .s) (now (a .kinds)) (now (a .sizes)) (now (a .lows)) (now (a .highs))) d (a .at) (slice from (a .next) p) n p (a .next) e k get (c .before .before .before .before .index .result) l (c .before .before .before .before .index .ensures .0 ∙ scope-forms fs ks (a .s .variables) (a .s .loops) (now (a .lows)) (now (a .highs)) i) end (c .before .before .r .given .1) (u .0) (c .if3 .taken) (c .before .before .before .before .before .before .before .before .before .before .before .before .before .before .before .pre .0 .1), tt)
+    let u = form-passes-upto program (a .at + 4) (a .next) (c .before .before .before .before .index .result) l end (c .before .before .r .given .1) (c .before .before .before .before .index .ensures .1) in
+    (λ fs. element-long (scopeAt fs (a .s) (now (a .kinds)) (now (a .sizes)) (now (a .lows)) (now (a .highs))) d (a .at) (slice from (a .next) program) n program (a .next) e k get (c .before .before .before .before .index .result) l (c .before .before .before .before .index .ensures .0 ∙ scope-forms fs ks (a .s .variables) (a .s .loops) (now (a .lows)) (now (a .highs)) i) end (c .before .before .r .given .1) (u .0) (c .if3 .taken) (c .before .before .before .before .before .before .before .before .before .before .before .before .before .before .before .pre .0 .1), tt)
 
 -- src/lib.rt:281:24
 shared-slice-read-kind-by : tie.Need-shared-slice-read-kind-by
@@ -177,25 +177,25 @@ enum-told-3 c =
 returns-5 : tie.Need-returns-5
 returns-5 c =
     let a = c .before .before .before .before .before .before .before .before .before .before .before .before .before .before .before .before .before .before .before .before .args in
-    let p = now (a .program) in
+    let program = now (a .program) in
     let from = a .at + 3 in
     let ls = loopsOf (a .s .loops) (now (a .lows)) (now (a .highs)) in
     let ks = kindsAt (a .s .count) (a .s .first) (now (a .kinds)) (now (a .sizes)) in
     let d = wantedOf (a .wanted) (now (a .size)) in
-    let n = getD p from 0 in
-    let e = one-byte from (a .next) p (c .before .before .before .before .before .before .before .before .before .before .before .before .before .before .before .before .before .if1 .left) (c .before .before .before .before .before .before .before .before .before .before .before .before .before .before .before .before .before .before .before .before .pre .0 .1) in
+    let n = getD program from 0 in
+    let e = one-byte from (a .next) program (c .before .before .before .before .before .before .before .before .before .before .before .before .before .before .before .before .before .if1 .left) (c .before .before .before .before .before .before .before .before .before .before .before .before .before .before .before .before .before .before .before .before .pre .0 .1) in
     let v : c .before .before .before .before .before .before .before .before .before .before .before .before .before .before .before .wide .result ≡ n = c .before .before .before .before .before .before .before .before .before .before .before .before .before .before .before .wide .ensures .0 in
     let row = a .s .first + n in
     let k = kindAt row (now (a .kinds)) (now (a .sizes)) in
     let get = kinds-get (a .s .count) (a .s .first) n (now (a .kinds)) (now (a .sizes)) (let q = c .before .before .before .before .before .before .before .before .before .before .before .before .before .if2 .left in omega arith) in
     let l = c .before .before .before .before .before .before .before .before .before .index .last .1 .1 .1 .1 .1 .1 .0 in
-    let i = due (readIndex 16) (badIndex 4 (a .at)) (fieldsAt p (a .at + 4) (a .next)) in
+    let i = due (readIndex 16) (badIndex 4 (a .at)) (fieldsAt program (a .at + 4) (a .next)) in
     let end = c .before .before .before .before .before .before .before .r .given .0 .0 in
-    let u = past-upto p (a .at + 4) (a .next) (c .before .before .before .before .before .before .before .before .before .index .result) l end (c .before .before .before .before .before .before .before .r .given .1) (c .before .before .before .before .before .before .before .before .before .index .ensures .1) in
+    let u = form-passes-upto program (a .at + 4) (a .next) (c .before .before .before .before .before .before .before .before .before .index .result) l end (c .before .before .before .before .before .before .before .r .given .1) (c .before .before .before .before .before .before .before .before .before .index .ensures .1) in
     let size = asForm (widened (getD (now (a .sizes)) row [])) in
     let fits = c .before .before .element-kind .ensures .0 size (now (a .size)) ∙ ap (λ (k : Kind). elementSize (a .at) d (kindIn k size)) (c .before .before .before .kind-by .ensures ∙ ap (λ (j : ℕ). kindWith (getD (now (a .kinds)) (a .s .first + j) 0)) v) in
-    let good : (fs : List Signature) → (elementSize (a .at) d k >>= λ size. checkWithin (a .at) (scopeAt fs (a .s) (now (a .kinds)) (now (a .sizes)) (now (a .lows)) (now (a .highs))) size (asForm l)) ≡ checkOperand (scopeAt fs (a .s) (now (a .kinds)) (now (a .sizes)) (now (a .lows)) (now (a .highs))) d (readElement (a .at) (slice from (a .next) p)) = λ fs. element-good (scopeAt fs (a .s) (now (a .kinds)) (now (a .sizes)) (now (a .lows)) (now (a .highs))) d (a .at) (slice from (a .next) p) n p (a .next) e k get (c .before .before .before .before .before .before .before .before .before .index .result) l (c .before .before .before .before .before .before .before .before .before .index .ensures .0 ∙ scope-forms fs ks (a .s .variables) (a .s .loops) (now (a .lows)) (now (a .highs)) i) end (c .before .before .before .before .before .before .before .r .given .1) (u .0) (c .before .before .before .before .before .if3 .left) in
-    (λ fs. kind-stops (scopeAt fs (a .s) (now (a .kinds)) (now (a .sizes)) (now (a .lows)) (now (a .highs))) d (a .at) k size (asForm l) (c .before .before .element-kind .result) fits (c .before .match2 .keys2) ∙ good fs, upon-stops (c .before .before .element-kind .result) (a .next) (c .before .match2 .keys2))
+    let good : (fs : List Signature) → (elementSize (a .at) d k >>= λ size. checkWithin (a .at) (scopeAt fs (a .s) (now (a .kinds)) (now (a .sizes)) (now (a .lows)) (now (a .highs))) size (asForm l)) ≡ checkOperand (scopeAt fs (a .s) (now (a .kinds)) (now (a .sizes)) (now (a .lows)) (now (a .highs))) d (readElement (a .at) (slice from (a .next) program)) = λ fs. element-good (scopeAt fs (a .s) (now (a .kinds)) (now (a .sizes)) (now (a .lows)) (now (a .highs))) d (a .at) (slice from (a .next) program) n program (a .next) e k get (c .before .before .before .before .before .before .before .before .before .index .result) l (c .before .before .before .before .before .before .before .before .before .index .ensures .0 ∙ scope-forms fs ks (a .s .variables) (a .s .loops) (now (a .lows)) (now (a .highs)) i) end (c .before .before .before .before .before .before .before .r .given .1) (u .0) (c .before .before .before .before .before .if3 .left) in
+    (λ fs. kind-stops (scopeAt fs (a .s) (now (a .kinds)) (now (a .sizes)) (now (a .lows)) (now (a .highs))) d (a .at) k size (asForm l) (c .before .before .element-kind .result) fits (c .before .match2 .keys2) ∙ good fs, ends-stops (c .before .before .element-kind .result) (a .next) (c .before .match2 .keys2))
 
 -- src/lib.rt:286:16
 mul-within : tie.Need-mul-within
@@ -217,21 +217,21 @@ shared-slice-element-within c =
 within-requires : tie.Need-within-requires
 within-requires c κs =
     let a = c .before .before .before .before .before .before .before .before .before .before .before .before .before .before .before .before .before .before .before .before .before .before .args in
-    let p = now (a .program) in
+    let program = now (a .program) in
     let from = a .at + 3 in
     let ls = loopsOf (a .s .loops) (now (a .lows)) (now (a .highs)) in
     let ks = kindsAt (a .s .count) (a .s .first) (now (a .kinds)) (now (a .sizes)) in
     let d = wantedOf (a .wanted) (now (a .size)) in
-    let n = getD p from 0 in
-    let e = one-byte from (a .next) p (c .before .before .before .before .before .before .before .before .before .before .before .before .before .before .before .before .before .before .before .if1 .left) (c .before .before .before .before .before .before .before .before .before .before .before .before .before .before .before .before .before .before .before .before .before .before .pre .0 .1) in
+    let n = getD program from 0 in
+    let e = one-byte from (a .next) program (c .before .before .before .before .before .before .before .before .before .before .before .before .before .before .before .before .before .before .before .if1 .left) (c .before .before .before .before .before .before .before .before .before .before .before .before .before .before .before .before .before .before .before .before .before .before .pre .0 .1) in
     let v : c .before .before .before .before .before .before .before .before .before .before .before .before .before .before .before .before .before .wide .result ≡ n = c .before .before .before .before .before .before .before .before .before .before .before .before .before .before .before .before .before .wide .ensures .0 in
     let row = a .s .first + n in
     let k = kindAt row (now (a .kinds)) (now (a .sizes)) in
     let get = kinds-get (a .s .count) (a .s .first) n (now (a .kinds)) (now (a .sizes)) (let q = c .before .before .before .before .before .before .before .before .before .before .before .before .before .before .before .if2 .left in omega arith) in
     let l = c .before .before .before .before .before .before .before .before .before .before .before .index .last .1 .1 .1 .1 .1 .1 .0 in
-    let i = due (readIndex 16) (badIndex 4 (a .at)) (fieldsAt p (a .at + 4) (a .next)) in
+    let i = due (readIndex 16) (badIndex 4 (a .at)) (fieldsAt program (a .at + 4) (a .next)) in
     let end = c .before .before .before .before .before .before .before .before .before .r .given .0 .0 in
-    let u = past-upto p (a .at + 4) (a .next) (c .before .before .before .before .before .before .before .before .before .before .before .index .result) l end (c .before .before .before .before .before .before .before .before .before .r .given .1) (c .before .before .before .before .before .before .before .before .before .before .before .index .ensures .1) in
+    let u = form-passes-upto program (a .at + 4) (a .next) (c .before .before .before .before .before .before .before .before .before .before .before .index .result) l end (c .before .before .before .before .before .before .before .before .before .r .given .1) (c .before .before .before .before .before .before .before .before .before .before .before .index .ensures .1) in
     let t = c .before .before .before .before .before .before .before .before .before .before .before .before .before .before .before .before .before .before .before .before .before .before .pre .1 in
     let f = t .few in
     let g = t .nested in
@@ -242,24 +242,24 @@ within-requires c κs =
 returns-6 : tie.Need-returns-6
 returns-6 c =
     let a = c .before .before .before .before .before .before .before .before .before .before .before .before .before .before .before .before .before .before .before .before .before .before .before .args in
-    let p = now (a .program) in
+    let program = now (a .program) in
     let from = a .at + 3 in
     let ls = loopsOf (a .s .loops) (now (a .lows)) (now (a .highs)) in
     let ks = kindsAt (a .s .count) (a .s .first) (now (a .kinds)) (now (a .sizes)) in
     let d = wantedOf (a .wanted) (now (a .size)) in
-    let n = getD p from 0 in
-    let e = one-byte from (a .next) p (c .before .before .before .before .before .before .before .before .before .before .before .before .before .before .before .before .before .before .before .before .if1 .left) (c .before .before .before .before .before .before .before .before .before .before .before .before .before .before .before .before .before .before .before .before .before .before .before .pre .0 .1) in
+    let n = getD program from 0 in
+    let e = one-byte from (a .next) program (c .before .before .before .before .before .before .before .before .before .before .before .before .before .before .before .before .before .before .before .before .if1 .left) (c .before .before .before .before .before .before .before .before .before .before .before .before .before .before .before .before .before .before .before .before .before .before .before .pre .0 .1) in
     let v : c .before .before .before .before .before .before .before .before .before .before .before .before .before .before .before .before .before .before .wide .result ≡ n = c .before .before .before .before .before .before .before .before .before .before .before .before .before .before .before .before .before .before .wide .ensures .0 in
     let row = a .s .first + n in
     let k = kindAt row (now (a .kinds)) (now (a .sizes)) in
     let get = kinds-get (a .s .count) (a .s .first) n (now (a .kinds)) (now (a .sizes)) (let q = c .before .before .before .before .before .before .before .before .before .before .before .before .before .before .before .before .if2 .left in omega arith) in
     let l = c .before .before .before .before .before .before .before .before .before .before .before .before .index .last .1 .1 .1 .1 .1 .1 .0 in
-    let i = due (readIndex 16) (badIndex 4 (a .at)) (fieldsAt p (a .at + 4) (a .next)) in
+    let i = due (readIndex 16) (badIndex 4 (a .at)) (fieldsAt program (a .at + 4) (a .next)) in
     let end = c .before .before .before .before .before .before .before .before .before .before .r .given .0 .0 in
-    let u = past-upto p (a .at + 4) (a .next) (c .before .before .before .before .before .before .before .before .before .before .before .before .index .result) l end (c .before .before .before .before .before .before .before .before .before .before .r .given .1) (c .before .before .before .before .before .before .before .before .before .before .before .before .index .ensures .1) in
+    let u = form-passes-upto program (a .at + 4) (a .next) (c .before .before .before .before .before .before .before .before .before .before .before .before .index .result) l end (c .before .before .before .before .before .before .before .before .before .before .r .given .1) (c .before .before .before .before .before .before .before .before .before .before .before .before .index .ensures .1) in
     let size = asForm (widened (getD (now (a .sizes)) row [])) in
     let fits = c .before .before .before .before .before .element-kind .ensures .0 size (now (a .size)) ∙ ap (λ (k : Kind). elementSize (a .at) d (kindIn k size)) (c .before .before .before .before .before .before .kind-by .ensures ∙ ap (λ (j : ℕ). kindWith (getD (now (a .kinds)) (a .s .first + j) 0)) v) in
-    let good : (fs : List Signature) → (elementSize (a .at) d k >>= λ size. checkWithin (a .at) (scopeAt fs (a .s) (now (a .kinds)) (now (a .sizes)) (now (a .lows)) (now (a .highs))) size (asForm l)) ≡ checkOperand (scopeAt fs (a .s) (now (a .kinds)) (now (a .sizes)) (now (a .lows)) (now (a .highs))) d (readElement (a .at) (slice from (a .next) p)) = λ fs. element-good (scopeAt fs (a .s) (now (a .kinds)) (now (a .sizes)) (now (a .lows)) (now (a .highs))) d (a .at) (slice from (a .next) p) n p (a .next) e k get (c .before .before .before .before .before .before .before .before .before .before .before .before .index .result) l (c .before .before .before .before .before .before .before .before .before .before .before .before .index .ensures .0 ∙ scope-forms fs ks (a .s .variables) (a .s .loops) (now (a .lows)) (now (a .highs)) i) end (c .before .before .before .before .before .before .before .before .before .before .r .given .1) (u .0) (c .before .before .before .before .before .before .before .before .if3 .left) in (
+    let good : (fs : List Signature) → (elementSize (a .at) d k >>= λ size. checkWithin (a .at) (scopeAt fs (a .s) (now (a .kinds)) (now (a .sizes)) (now (a .lows)) (now (a .highs))) size (asForm l)) ≡ checkOperand (scopeAt fs (a .s) (now (a .kinds)) (now (a .sizes)) (now (a .lows)) (now (a .highs))) d (readElement (a .at) (slice from (a .next) program)) = λ fs. element-good (scopeAt fs (a .s) (now (a .kinds)) (now (a .sizes)) (now (a .lows)) (now (a .highs))) d (a .at) (slice from (a .next) program) n program (a .next) e k get (c .before .before .before .before .before .before .before .before .before .before .before .before .index .result) l (c .before .before .before .before .before .before .before .before .before .before .before .before .index .ensures .0 ∙ scope-forms fs ks (a .s .variables) (a .s .loops) (now (a .lows)) (now (a .highs)) i) end (c .before .before .before .before .before .before .before .before .before .before .r .given .1) (u .0) (c .before .before .before .before .before .before .before .before .if3 .left) in (
       λ fs. c .within .ensures .0 fs ks
           ∙ ap (λ (j : ℕ). checkWithin (a .at) (scopeAt fs (a .s) (now (a .kinds)) (now (a .sizes)) (now (a .lows)) (now (a .highs))) (asForm (widened (getD (now (a .sizes)) (a .s .first + j) []))) (asForm l)) v
           ∙ kind-goes (scopeAt fs (a .s) (now (a .kinds)) (now (a .sizes)) (now (a .lows)) (now (a .highs))) d (a .at) k size (asForm l) (c .before .before .before .before .before .element-kind .result) fits (c .before .before .before .before .match2 .keys1)

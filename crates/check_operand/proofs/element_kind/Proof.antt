@@ -8,7 +8,7 @@ use Rattle.language.specs.Check.{elementSize}
 use Rattle.check_operand.specs.declared.Wanted.{Wanted}
 use Rattle.check_operand.specs.Tables.{kindIn}
 use Rattle.check_operand.specs.Operands.{wantedOf, sizeKnown}
-use Rattle.check_operand.proofs.Fits.{element-wire, element-no-wire, element-bit, element-no-bit, element-register}
+use Rattle.check_operand.proofs.OperandKinds.{element-wire, element-no-wire, element-bit, element-no-bit, element-register}
 
 -- src/lib.rt:186:25
 enum-told : tie.Need-enum-told

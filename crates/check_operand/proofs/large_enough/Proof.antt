@@ -16,9 +16,9 @@ use Rattle.language.specs.Form.{Built, differenceOf, _thenBuild_}
 use Rattle.language.specs.Check.{Checked, Kind, Signature, mustShow}
 use Rattle.forms.specs.Flat.{widened, asForm, builtOf}
 use Rattle.forms.specs.Rows.{loopsOf}
-use Rattle.check_index.specs.Answers.{partTold}
+use Rattle.check_index.specs.Answers.{checkedPart}
 use Rattle.check_operand.specs.Tables.{scopeWith}
-use Rattle.check_operand.proofs.Fits.{shown-outside, is-made, not-made}
+use Rattle.check_operand.proofs.OperandKinds.{shown-outside, is-made, not-made}
 
 -- src/lib.rt:135:9
 load-requires : tie.Need-load-requires
@@ -46,7 +46,7 @@ returns c =
 
 -- src/lib.rt:139:9
 returns-2 : tie.Need-returns-2
-unfolding _thenBuild_ partTold
+unfolding _thenBuild_ checkedPart
 returns-2 c =
     let a = c .before .before .before .before .before .before .args in
     let ls = loopsOf (a .loops) (now (a .lows)) (now (a .highs)) in
@@ -55,7 +55,7 @@ returns-2 c =
 
 -- src/lib.rt:114:1
 returns-3 : tie.Need-returns-3
-unfolding _thenBuild_ partTold
+unfolding _thenBuild_ checkedPart
 returns-3 c =
     let a = c .before .args in
     let ls = loopsOf (a .loops) (now (a .lows)) (now (a .highs)) in

@@ -8,7 +8,7 @@ use borrow.Author.Needs.{needs}
 use mathlib.Core.Path.{refl, sym, ap, _∙_}
 use Rattle.language.specs.Check.{byShowing, mustShow}
 use Rattle.forms.specs.Flat.{shownOf}
-use Rattle.check_index.specs.Answers.{partTold}
+use Rattle.check_index.specs.Answers.{checkedPart}
 
 -- src/lib.rt:69:11
 show-requires : tie.Need-show-requires
@@ -32,19 +32,19 @@ enum-told-3 c =
 
 -- src/lib.rt:53:1
 returns : tie.Need-returns
-unfolding partTold byShowing mustShow shownOf
+unfolding checkedPart byShowing mustShow shownOf
 returns c =
     (λ fs ks. sym (ap (byShowing (c .before .before .before .before .args .at)) (sym (c .before .before .show .ensures) ∙ ap shownOf (c .enum-told .given .1))), refl)
 
 -- src/lib.rt:53:1
 returns-2 : tie.Need-returns-2
-unfolding partTold byShowing mustShow shownOf
+unfolding checkedPart byShowing mustShow shownOf
 returns-2 c =
     (λ fs ks. sym (ap (byShowing (c .before .before .before .before .args .at)) (sym (c .before .before .show .ensures) ∙ ap shownOf (c .enum-told2 .given .1))), tt)
 
 -- src/lib.rt:53:1
 returns-3 : tie.Need-returns-3
-unfolding partTold byShowing mustShow shownOf
+unfolding checkedPart byShowing mustShow shownOf
 returns-3 c =
     (λ fs ks. sym (ap (byShowing (c .before .before .before .before .args .at)) (sym (c .before .before .show .ensures) ∙ ap shownOf (c .enum-told3 .given .1))), tt)
 

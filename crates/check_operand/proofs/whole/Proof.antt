@@ -19,7 +19,7 @@ use Rattle.fields.proofs.Reading.{one-byte, slice-none}
 use Rattle.forms.specs.Flat.{widened, asForm}
 use Rattle.forms.specs.Rows.{loopsOf}
 use Rattle.kinds.specs.declared.Kind.{Kind}
-use Rattle.check_index.specs.Answers.{partTold}
+use Rattle.check_index.specs.Answers.{checkedPart}
 use Rattle.check_operand.specs.Tables.{kindIn, kindAt, kindsAt, scopeAt}
 use Rattle.check_operand.specs.Operands.{wantedOf}
 use Rattle.forms.proofs.Laws.{fewer}
@@ -33,14 +33,14 @@ add-from c =
 
 -- src/lib.rt:219:9
 returns : tie.Need-returns
-unfolding partTold
+unfolding checkedPart
 returns c =
     let a = c .before .before .before .args in
-    let p = now (a .program) in
+    let program = now (a .program) in
     let from = a .at + 3 in
     let ls = loopsOf (a .s .loops) (now (a .lows)) (now (a .highs)) in
     let d = wantedOf (a .wanted) (now (a .size)) in
-    (λ fs. whole-none (scopeAt fs (a .s) (now (a .kinds)) (now (a .sizes)) (now (a .lows)) (now (a .highs))) d (a .at) (slice from (a .next) p) (slice-none from (a .next) p (c .if1 .taken)), tt)
+    (λ fs. whole-none (scopeAt fs (a .s) (now (a .kinds)) (now (a .sizes)) (now (a .lows)) (now (a .highs))) d (a .at) (slice from (a .next) program) (slice-none from (a .next) program (c .if1 .taken)), tt)
 
 -- src/lib.rt:221:26
 shared-slice-read-wide : tie.Need-shared-slice-read-wide
@@ -54,19 +54,19 @@ wide-requires c κs =
 
 -- src/lib.rt:223:9
 returns-2 : tie.Need-returns-2
-unfolding partTold
+unfolding checkedPart
 returns-2 c =
     let a = c .before .before .before .before .before .before .before .args in
-    let p = now (a .program) in
+    let program = now (a .program) in
     let from = a .at + 3 in
     let ls = loopsOf (a .s .loops) (now (a .lows)) (now (a .highs)) in
     let d = wantedOf (a .wanted) (now (a .size)) in
-    let n = getD p from 0 in
-    let more = slice (from + 1) (a .next) p in
-    let e = one-byte from (a .next) p (c .before .before .before .before .if1 .left) (c .before .before .before .before .before .before .before .pre .0 .1) in
+    let n = getD program from 0 in
+    let more = slice (from + 1) (a .next) program in
+    let e = one-byte from (a .next) program (c .before .before .before .before .if1 .left) (c .before .before .before .before .before .before .before .pre .0 .1) in
     let v : c .before .before .wide .result ≡ n = c .before .before .wide .ensures .0 in
-    let h = length-slice (from + 1) (a .next) p (c .before .before .before .before .before .before .before .pre .0 .1) in
-    (λ fs. whole-beyond (scopeAt fs (a .s) (now (a .kinds)) (now (a .sizes)) (now (a .lows)) (now (a .highs))) d (a .at) (slice from (a .next) p) n more e (kinds-none (a .s .count) (a .s .first) n (now (a .kinds)) (now (a .sizes)) (let q = c .if2 .taken in omega arith)), tt)
+    let h = length-slice (from + 1) (a .next) program (c .before .before .before .before .before .before .before .pre .0 .1) in
+    (λ fs. whole-beyond (scopeAt fs (a .s) (now (a .kinds)) (now (a .sizes)) (now (a .lows)) (now (a .highs))) d (a .at) (slice from (a .next) program) n more e (kinds-none (a .s .count) (a .s .first) n (now (a .kinds)) (now (a .sizes)) (let q = c .if2 .taken in omega arith)), tt)
 
 -- src/lib.rt:225:8
 sub-if3 : tie.Need-sub-if3
@@ -75,22 +75,22 @@ sub-if3 c =
 
 -- src/lib.rt:226:9
 returns-3 : tie.Need-returns-3
-unfolding partTold
+unfolding checkedPart
 returns-3 c =
     let a = c .before .before .before .before .before .before .before .before .args in
-    let p = now (a .program) in
+    let program = now (a .program) in
     let from = a .at + 3 in
     let ls = loopsOf (a .s .loops) (now (a .lows)) (now (a .highs)) in
     let d = wantedOf (a .wanted) (now (a .size)) in
-    let n = getD p from 0 in
-    let more = slice (from + 1) (a .next) p in
-    let e = one-byte from (a .next) p (c .before .before .before .before .before .if1 .left) (c .before .before .before .before .before .before .before .before .pre .0 .1) in
+    let n = getD program from 0 in
+    let more = slice (from + 1) (a .next) program in
+    let e = one-byte from (a .next) program (c .before .before .before .before .before .if1 .left) (c .before .before .before .before .before .before .before .before .pre .0 .1) in
     let v : c .before .before .before .wide .result ≡ n = c .before .before .before .wide .ensures .0 in
-    let h = length-slice (from + 1) (a .next) p (c .before .before .before .before .before .before .before .before .pre .0 .1) in
+    let h = length-slice (from + 1) (a .next) program (c .before .before .before .before .before .before .before .before .pre .0 .1) in
     let k = kindAt (a .s .first + n) (now (a .kinds)) (now (a .sizes)) in
     let get = kinds-get (a .s .count) (a .s .first) n (now (a .kinds)) (now (a .sizes)) (let q = c .before .if2 .left in omega arith) in
     let t = c .if3 .taken in
-    (λ fs. whole-long (scopeAt fs (a .s) (now (a .kinds)) (now (a .sizes)) (now (a .lows)) (now (a .highs))) d (a .at) (slice from (a .next) p) n more e k get (λ z. t (omega arith)), tt)
+    (λ fs. whole-long (scopeAt fs (a .s) (now (a .kinds)) (now (a .sizes)) (now (a .lows)) (now (a .highs))) d (a .at) (slice from (a .next) program) n more e k get (λ z. t (omega arith)), tt)
 
 -- src/lib.rt:228:15
 add-row : tie.Need-add-row
@@ -141,22 +141,22 @@ whole-fits-requires c κs =
 returns-4 : tie.Need-returns-4
 returns-4 c =
     let a = c .before .before .before .before .before .before .before .before .before .before .before .before .before .args in
-    let p = now (a .program) in
+    let program = now (a .program) in
     let from = a .at + 3 in
     let ls = loopsOf (a .s .loops) (now (a .lows)) (now (a .highs)) in
     let d = wantedOf (a .wanted) (now (a .size)) in
-    let n = getD p from 0 in
-    let more = slice (from + 1) (a .next) p in
-    let e = one-byte from (a .next) p (c .before .before .before .before .before .before .before .before .before .before .if1 .left) (c .before .before .before .before .before .before .before .before .before .before .before .before .before .pre .0 .1) in
+    let n = getD program from 0 in
+    let more = slice (from + 1) (a .next) program in
+    let e = one-byte from (a .next) program (c .before .before .before .before .before .before .before .before .before .before .if1 .left) (c .before .before .before .before .before .before .before .before .before .before .before .before .before .pre .0 .1) in
     let v : c .before .before .before .before .before .before .before .before .wide .result ≡ n = c .before .before .before .before .before .before .before .before .wide .ensures .0 in
-    let h = length-slice (from + 1) (a .next) p (c .before .before .before .before .before .before .before .before .before .before .before .before .before .pre .0 .1) in
+    let h = length-slice (from + 1) (a .next) program (c .before .before .before .before .before .before .before .before .before .before .before .before .before .pre .0 .1) in
     let k = kindAt (a .s .first + n) (now (a .kinds)) (now (a .sizes)) in
     let get = kinds-get (a .s .count) (a .s .first) n (now (a .kinds)) (now (a .sizes)) (let q = c .before .before .before .before .before .before .if2 .left in omega arith) in
     let y = c .before .before .before .before .before .if3 .left in (
       λ fs. c .whole-fits .ensures .0 fs (kindsAt (a .s .count) (a .s .first) (now (a .kinds)) (now (a .sizes)))
           ∙ ap (λ (k : Kind). wholeFits (a .at) (scopeAt fs (a .s) (now (a .kinds)) (now (a .sizes)) (now (a .lows)) (now (a .highs))) d (kindIn k (asForm (widened (getD (now (a .sizes)) (a .s .first + c .before .before .before .before .before .before .before .before .wide .result) []))))) (c .before .before .kind-by .ensures)
           ∙ ap (λ (i : ℕ). wholeFits (a .at) (scopeAt fs (a .s) (now (a .kinds)) (now (a .sizes)) (now (a .lows)) (now (a .highs))) d (kindAt (a .s .first + i) (now (a .kinds)) (now (a .sizes)))) v
-          ∙ whole-good (scopeAt fs (a .s) (now (a .kinds)) (now (a .sizes)) (now (a .lows)) (now (a .highs))) d (a .at) (slice from (a .next) p) n more e k get (slice-none (from + 1) (a .next) p (omega arith)),
+          ∙ whole-good (scopeAt fs (a .s) (now (a .kinds)) (now (a .sizes)) (now (a .lows)) (now (a .highs))) d (a .at) (slice from (a .next) program) n more e k get (slice-none (from + 1) (a .next) program (omega arith)),
       c .whole-fits .ensures .1,
     )
 

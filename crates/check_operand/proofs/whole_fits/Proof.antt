@@ -10,10 +10,10 @@ use Rattle.language.specs.Check.{wholeFits}
 use Rattle.forms.specs.Flat.{widened, asForm}
 use Rattle.forms.specs.Rows.{loopsOf}
 use Rattle.check_operand.specs.declared.Wanted.{Wanted}
-use Rattle.check_index.specs.Answers.{partTold}
+use Rattle.check_index.specs.Answers.{checkedPart}
 use Rattle.check_operand.specs.Tables.{kindIn, scopeWith}
 use Rattle.check_operand.specs.Operands.{wantedOf}
-use Rattle.check_operand.proofs.Fits.{wire-good, wire-bad, bit-bad, register-good, register-bad}
+use Rattle.check_operand.proofs.OperandKinds.{wire-good, wire-bad, bit-bad, register-good, register-bad}
 
 -- src/lib.rt:166:25
 enum-told : tie.Need-enum-told
@@ -47,7 +47,7 @@ large-enough-requires c κs =
 
 -- src/lib.rt:145:1
 returns : tie.Need-returns
-unfolding partTold
+unfolding checkedPart
 returns c =
     let a = c .before .before .before .before .args in
     let ls = loopsOf (a .loops) (now (a .lows)) (now (a .highs)) in
@@ -57,7 +57,7 @@ returns c =
 
 -- src/lib.rt:145:1
 returns-2 : tie.Need-returns-2
-unfolding partTold
+unfolding checkedPart
 returns-2 c =
     let a = c .before .before .before .args in
     let ls = loopsOf (a .loops) (now (a .lows)) (now (a .highs)) in
@@ -67,7 +67,7 @@ returns-2 c =
 
 -- src/lib.rt:145:1
 returns-3 : tie.Need-returns-3
-unfolding partTold
+unfolding checkedPart
 returns-3 c =
     let a = c .before .before .args in
     let ls = loopsOf (a .loops) (now (a .lows)) (now (a .highs)) in
@@ -86,7 +86,7 @@ returns-4 c =
 
 -- src/lib.rt:145:1
 returns-5 : tie.Need-returns-5
-unfolding partTold
+unfolding checkedPart
 returns-5 c =
     let a = c .before .before .before .before .args in
     let ls = loopsOf (a .loops) (now (a .lows)) (now (a .highs)) in

@@ -15,11 +15,11 @@ use Rattle.language.specs.Form.{Built, inRange, differenceOf}
 use Rattle.language.specs.Check.{Checked, Kind, Signature, Scope, mustShow}
 use Rattle.forms.specs.Flat.{widened, asForm}
 use Rattle.forms.specs.Rows.{loopsOf}
-use Rattle.check_index.specs.Answers.{partTold}
+use Rattle.check_index.specs.Answers.{checkedPart}
 use Rattle.check_operand.specs.Tables.{scopeWith}
 use Rattle.check_operand.proofs.Operands.{within-stops, within-goes, room-none, room-some}
-use Rattle.check_operand.proofs.Fits.{shown-outside, is-made, not-made}
-use Rattle.check_index.proofs.Answers.{upon-stops}
+use Rattle.check_operand.proofs.OperandKinds.{shown-outside, is-made, not-made}
+use Rattle.check_index.proofs.Answers.{ends-stops}
 
 -- src/lib.rt:96:9
 must-show-requires : tie.Need-must-show-requires
@@ -44,7 +44,7 @@ returns c =
     let size = asForm (widened (now (a .size))) in
     let s : List Signature → List Kind → Scope = λ fs ks. scopeWith fs ks (a .variables) ls in
     let shows : List Signature → List Kind → Built → Checked (Unit {0}) = λ fs ks b. mustShow (a .at) (s fs ks) b in
-    (λ fs ks. within-stops (a .at) (s fs ks) size f (c .before .before .must-show .result) (c .before .before .must-show .ensures .0 fs ks) (c .before .match .keys2), upon-stops (c .before .before .must-show .result) (a .next) (c .before .match .keys2))
+    (λ fs ks. within-stops (a .at) (s fs ks) size f (c .before .before .must-show .result) (c .before .before .must-show .ensures .0 fs ks) (c .before .match .keys2), ends-stops (c .before .before .must-show .result) (a .next) (c .before .match .keys2))
 
 -- src/lib.rt:101:5
 set-constant-requires : tie.Need-set-constant-requires
@@ -86,7 +86,7 @@ returns-2 c =
 
 -- src/lib.rt:108:9
 returns-3 : tie.Need-returns-3
-unfolding partTold
+unfolding checkedPart
 returns-3 c =
     let a = c .before .before .before .before .before .before .before .before .before .before .before .before .before .before .before .before .args in
     let ls = loopsOf (a .loops) (now (a .lows)) (now (a .highs)) in
@@ -99,7 +99,7 @@ returns-3 c =
 
 -- src/lib.rt:77:1
 returns-4 : tie.Need-returns-4
-unfolding partTold
+unfolding checkedPart
 returns-4 c =
     let a = c .before .before .before .before .before .before .before .before .before .before .before .before .before .args in
     let ls = loopsOf (a .loops) (now (a .lows)) (now (a .highs)) in
