@@ -9,39 +9,26 @@ use lib.Dec.{eqb, leb}
 use lib.IntN.{ℤ}
 use lib.ListN.{length, drop, getElem?, drop-of-length-le}
 use lib.Seq.{slice}
-use borrow.Author.Tests.{eqb-true, ne-eqb, le-leb, lt-leb, leb-true}
+use borrow.Author.Tests.{eqb-true, le-leb, lt-leb, leb-true}
 use types.Run.{OneOf}
 use denote.Enum.Declared.{tagOf}
 use Rattle.language.specs.Tree.{Operand, badOperand, Argument, index, operand, badArgument}
 use Rattle.language.specs.Read.{Field, field, choose, due, outerIndex, isIndexTag, isOperandTag, Reader, readWhole, readElement, readOperand, readArgument, readCall}
-use Rattle.language.specs.Form.{Form, putIn}
-use Rattle.language.specs.Check.{Checked, good, refused, _>>=_, _>>_, Kind, Signature, checkOperand, callForms, callOperands, taken, inScope, checkStatement}
+use Rattle.language.specs.Form.{Form}
+use Rattle.language.specs.Check.{Checked, good, refused, _>>=_, _>>_, Kind, Signature, checkOperand, callForms, callOperands, taken, inScope, checkCall, checkStatement}
 use Rattle.language.proofs.Integers.{clash}
 use Rattle.fields.specs.Header.{fieldsAt}
 use Rattle.fields.proofs.Reading.{View, ends, cuts, goes, view, fields-end}
 use Rattle.forms.specs.Rows.{formsOf}
 use Rattle.check_index.proofs.Read.{the-type}
-use Rattle.check_operand.specs.Tables.{kindBy, tabulated}
-use Rattle.check_index.specs.Answers.{partTold, Beyond}
-use Rattle.check_call.specs.Calls.{formsTold}
+use Rattle.check_operand.specs.Tables.{tabulated}
+use Rattle.check_index.specs.Answers.{checkedPart, Beyond}
+use Rattle.check_call.specs.Calls.{checkedForms}
 use Rattle.check_index.specs.declared.Read.{Read}
 use Rattle.check_index.specs.declared.Read.the-variants.{Upto, Refused}
 use Rattle.check_index.proofs.Answers.{not-first}
 use Rattle.check_operand.proofs.Tables.{length-rows}
 use Rattle.language.specs.Check as C
-
-module _ (forms : List Form) (b : ℕ) (f : Form) where
-  pub taken-wire : b ≡ 0 → C.wire ≡ taken forms (kindBy b f)
-  unfolding taken kindBy
-  taken-wire e = sym (ap (λ (k : ℕ). taken forms (kindBy k f)) e)
-
-  pub taken-register : b ≡ 1 → C.register (putIn f forms) ≡ taken forms (kindBy b f)
-  unfolding taken kindBy
-  taken-register e = sym (ap (λ (k : ℕ). taken forms (kindBy k f)) e)
-
-  pub taken-bit : (b ≡ 0 → ⊥) → (b ≡ 1 → ⊥) → C.bit ≡ taken forms (kindBy b f)
-  unfolding taken kindBy
-  taken-bit x y = sym (rw (ne-eqb b 0 x, ne-eqb b 1 y))
 
 not-operand : (p tag : ℕ) (content : List ℕ) → isOperandTag tag ≡ false → readOperand (field p tag content) ≡ badOperand 3 p
 unfolding readOperand choose
@@ -62,37 +49,37 @@ index-no-operand tag e = by (leb 64 tag) (leb-true 64 tag) e
     by true f e = let h = f refl in rw (le-leb 48 tag (omega arith), lt-leb tag 49 (omega arith))
     by false f e = absurd (clash (sym e))
 
-module _ (s : C.Scope) (place : ℕ) (forms : List Form) (k : Kind) (ks : List Kind) where
+module _ (s : C.Scope) (parent : ℕ) (forms : List Form) (k : Kind) (ks : List Kind) where
   abbrev pub firstOperand : List Field → Checked (Unit {0})
-  firstOperand fs = checkOperand s (taken forms k) (due readOperand (badOperand 4 place) fs) >> callOperands s place forms ks (map readArgument (drop 1 fs))
+  firstOperand fs = checkOperand s (taken forms k) (due readOperand (badOperand 4 parent) fs) >> callOperands s parent forms ks (map readArgument (drop 1 fs))
 
-  pub operand-first : (p : List ℕ) (at to : ℕ) → to ≤ length p → callOperands s place forms (k ∷ ks) (map readArgument (fieldsAt p at to)) ≡ firstOperand (fieldsAt p at to)
+  pub operand-first : (program : List ℕ) (at to : ℕ) → to ≤ length program → callOperands s parent forms (k ∷ ks) (map readArgument (fieldsAt program at to)) ≡ firstOperand (fieldsAt program at to)
   unfolding callOperands due checkOperand readArgument readOperand _>>_
-  operand-first p at to q = by (view p at to q)
+  operand-first program at to q = by (view program at to q)
     where
       refuses : (tag : ℕ) (content : List ℕ) (rest : List Field) → isOperandTag tag ≡ false → refused 3 at ≡ firstOperand (field at tag content ∷ rest)
-      refuses tag content rest e = sym (ap (λ (o : Operand). checkOperand s (taken forms k) o >> callOperands s place forms ks (map readArgument rest)) (not-operand at tag content e))
+      refuses tag content rest e = sym (ap (λ (o : Operand). checkOperand s (taken forms k) o >> callOperands s parent forms ks (map readArgument rest)) (not-operand at tag content e))
 
       tags : (tag : ℕ) (content : List ℕ) (rest : List Field) (t : Bool) → isIndexTag tag ≡ t → (u : Bool) → isOperandTag tag ≡ u
-          → callOperands s place forms (k ∷ ks) (cond t (index at (outerIndex (field at tag content))) (cond u (operand at (readOperand (field at tag content))) (badArgument 3 at)) ∷ map readArgument rest) ≡ firstOperand (field at tag content ∷ rest)
+          → callOperands s parent forms (k ∷ ks) (cond t (index at (outerIndex (field at tag content))) (cond u (operand at (readOperand (field at tag content))) (badArgument 3 at)) ∷ map readArgument rest) ≡ firstOperand (field at tag content ∷ rest)
       tags tag content rest true e u d = refuses tag content rest (index-no-operand tag e)
       tags tag content rest false e true d = refl
       tags tag content rest false e false d = refuses tag content rest d
 
-      by : View p at to → callOperands s place forms (k ∷ ks) (map readArgument (fieldsAt p at to)) ≡ firstOperand (fieldsAt p at to)
+      by : View program at to → callOperands s parent forms (k ∷ ks) (map readArgument (fieldsAt program at to)) ≡ firstOperand (fieldsAt program at to)
       by (ends e h) = rw e
       by (cuts e) = rw e
-      by (goes tag next w) = rw (w .first) (tags tag (slice (at + 3) next p) (fieldsAt p next to) (isIndexTag tag) refl (isOperandTag tag) refl)
+      by (goes tag next w) = rw (w .first) (tags tag (slice (at + 3) next program) (fieldsAt program next to) (isIndexTag tag) refl (isOperandTag tag) refl)
 
-pub operands-over : (s : C.Scope) (place : ℕ) (forms : List Form) (p : List ℕ) (at to : ℕ) → to ≤ at → callOperands s place forms [] (map readArgument (fieldsAt p at to)) ≡ good tt
+pub operands-over : (s : C.Scope) (parent : ℕ) (forms : List Form) (program : List ℕ) (at to : ℕ) → to ≤ at → callOperands s parent forms [] (map readArgument (fieldsAt program at to)) ≡ good tt
 unfolding callOperands
-operands-over s place forms p at to h = rw (fields-end p at to h)
+operands-over s parent forms program at to h = rw (fields-end program at to h)
 
-pub operands-left : (s : C.Scope) (place : ℕ) (forms : List Form) (p : List ℕ) (at to : ℕ) → at < to → to ≤ length p → callOperands s place forms [] (map readArgument (fieldsAt p at to)) ≡ refused 4 place
+pub operands-left : (s : C.Scope) (parent : ℕ) (forms : List Form) (program : List ℕ) (at to : ℕ) → at < to → to ≤ length program → callOperands s parent forms [] (map readArgument (fieldsAt program at to)) ≡ refused 4 parent
 unfolding callOperands
-operands-left s place forms p at to h k = by (view p at to k)
+operands-left s parent forms program at to h k = by (view program at to k)
   where
-    by : View p at to → callOperands s place forms [] (map readArgument (fieldsAt p at to)) ≡ refused 4 place
+    by : View program at to → callOperands s parent forms [] (map readArgument (fieldsAt program at to)) ≡ refused 4 parent
     by (ends e q) = absurd (omega arith)
     by (cuts e) = rw e
     by (goes tag next w) = rw (w .first)
@@ -113,41 +100,41 @@ module _ (s : C.Scope) (at : ℕ) (content : List ℕ) where
   unfolding checkStatement readCall
   call-none e = sym (ap (λ (l : List ℕ). checkStatement (readCall at l) s) e)
 
-  module _ (n : ℕ) (p : List ℕ) (next : ℕ) (e : content ≡ (n ∷ slice (at + 3 + 1) next p)) where
+  module _ (n : ℕ) (program : List ℕ) (next : ℕ) (e : content ≡ (n ∷ slice (at + 3 + 1) next program)) where
     abbrev args : List Argument
-    args = map readArgument (fieldsAt p (at + 4) next)
+    args = map readArgument (fieldsAt program (at + 4) next)
 
     abbrev matched : Signature → Checked (Unit {0})
     matched f = callForms s at (f .variables) args >>= λ forms. callOperands s at forms (f .parameters) (drop (f .variables) args)
 
     call-is : called ≡ (inScope at (getElem? (s .families) n) >>= matched)
-    unfolding checkStatement readCall fieldsAt
+    unfolding checkStatement checkCall readCall fieldsAt
     call-is =
         let q : at + 3 + 1 ≡ at + 4 = omega arith in
-        ap (λ (l : List ℕ). checkStatement (readCall at l) s) (e ∙ ap (λ (k : ℕ). n ∷ slice k next p) q)
+        ap (λ (l : List ℕ). checkStatement (readCall at l) s) (e ∙ ap (λ (k : ℕ). n ∷ slice k next program) q)
 
     pub call-beyond : getElem? (s .families) n ≡ none → refused 8 at ≡ called
     unfolding inScope _>>=_
     call-beyond q = sym (call-is ∙ ap (λ (o : Option Signature). inScope at o >>= matched) q)
 
-    module _ (f : Signature) (q : getElem? (s .families) n ≡ some f) (r : Read) (l : List (List ℤ)) (m : ℕ) (a : m ≡ f .variables) (t : formsTold r m l ≡ callForms s at m args) where
-      call-some : called ≡ (formsTold r m l >>= λ forms. callOperands s at forms (f .parameters) (drop m args))
+    module _ (f : Signature) (q : getElem? (s .families) n ≡ some f) (r : Read) (l : List (List ℤ)) (m : ℕ) (a : m ≡ f .variables) (t : checkedForms r m l ≡ callForms s at m args) where
+      call-some : called ≡ (checkedForms r m l >>= λ forms. callOperands s at forms (f .parameters) (drop m args))
       unfolding inScope _>>=_
       call-some =
           call-is ∙ ap (λ (o : Option Signature). inScope at o >>= matched) q
           ∙ ap (λ (k : ℕ). callForms s at k args >>= λ forms. callOperands s at forms (f .parameters) (drop k args)) (sym a)
           ∙ ap (λ (c : Checked (List Form)). c >>= λ forms. callOperands s at forms (f .parameters) (drop m args)) (sym t)
 
-      pub call-stops : OneOf (1 ∷ []) (tagOf the-type r) → partTold r ≡ called
-      unfolding formsTold partTold _>>=_
+      pub call-stops : OneOf (1 ∷ []) (tagOf the-type r) → checkedPart r ≡ called
+      unfolding checkedForms checkedPart _>>=_
       call-stops h = by r h ∙ sym call-some
         where
-          by : (r : Read) → OneOf (1 ∷ []) (tagOf the-type r) → partTold r ≡ (formsTold r m l >>= λ forms. callOperands s at forms (f .parameters) (drop m args))
+          by : (r : Read) → OneOf (1 ∷ []) (tagOf the-type r) → checkedPart r ≡ (checkedForms r m l >>= λ forms. callOperands s at forms (f .parameters) (drop m args))
           by (Upto j) h = not-first h
           by (Refused j k) h = refl
 
-      pub call-good : (mid : ℕ) → r ≡ Upto mid → Beyond p (at + 4) next m mid → callOperands s at (formsOf m l) (f .parameters) (map readArgument (fieldsAt p mid next)) ≡ called
-      unfolding formsTold _>>=_
+      pub call-good : (mid : ℕ) → r ≡ Upto mid → Beyond program (at + 4) next m mid → callOperands s at (formsOf m l) (f .parameters) (map readArgument (fieldsAt program mid next)) ≡ called
+      unfolding checkedForms _>>=_
       call-good mid u b =
-          sym (call-some ∙ ap (λ (x : Read). formsTold x m l >>= λ forms. callOperands s at forms (f .parameters) (drop m args)) u
-          ∙ ap (λ (x : List Argument). callOperands s at (formsOf m l) (f .parameters) x) (drop-map readArgument m (fieldsAt p (at + 4) next) ∙ ap (map readArgument) (b .rest)))
+          sym (call-some ∙ ap (λ (x : Read). checkedForms x m l >>= λ forms. callOperands s at forms (f .parameters) (drop m args)) u
+          ∙ ap (λ (x : List Argument). callOperands s at (formsOf m l) (f .parameters) x) (drop-map readArgument m (fieldsAt program (at + 4) next) ∙ ap (map readArgument) (b .rest)))

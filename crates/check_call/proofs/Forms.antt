@@ -22,8 +22,8 @@ use Rattle.forms.proofs.Laws.{zeros-kept}
 use Rattle.forms.specs.Flat.{asForm}
 use Rattle.forms.specs.Rows.{Rows, formsOf}
 use Rattle.check_index.proofs.Read.{the-type}
-use Rattle.check_index.specs.Answers.{formTold, PastField, partTold}
-use Rattle.check_call.specs.Calls.{formsTold}
+use Rattle.check_index.specs.Answers.{checkedForm, PastField, checkedPart}
+use Rattle.check_call.specs.Calls.{checkedForms}
 use Rattle.check_index.specs.declared.Read.{Read}
 use Rattle.check_index.specs.declared.Read.the-variants.{Upto, Refused}
 use Rattle.check_index.proofs.Answers.{not-first}
@@ -37,77 +37,77 @@ not-index part p tag content e =
     never : 64 ≤ tag → tag ≤ 68 → ⊥
     never h k = clash (sym (λ j. le-leb 64 tag h j && le-leb tag 68 k j) ∙ e)
 
-module _ (s : C.Scope) (place n : ℕ) where
+module _ (s : C.Scope) (parent n : ℕ) where
   -- the first index of a call, and those after it
   abbrev pub firstForm : (at : ℕ) → List Field → Checked (List Form)
-  firstForm at fs = formOf s (due outerIndex (badIndex 4 place) fs) >>= λ f. (mustShow at s (built f) >> (callForms s place n (map readArgument (drop 1 fs)) >>= λ gs. good (f ∷ gs)))
+  firstForm at fs = formOf s (due outerIndex (badIndex 4 parent) fs) >>= λ f. (mustShow at s (built f) >> (callForms s parent n (map readArgument (drop 1 fs)) >>= λ gs. good (f ∷ gs)))
 
-  pub call-first : (p : List ℕ) (at to : ℕ) → to ≤ length p → callForms s place (suc n) (map readArgument (fieldsAt p at to)) ≡ firstForm at (fieldsAt p at to)
+  pub call-first : (program : List ℕ) (at to : ℕ) → to ≤ length program → callForms s parent (suc n) (map readArgument (fieldsAt program at to)) ≡ firstForm at (fieldsAt program at to)
   unfolding callForms due formOf readIndex indexBy readArgument _>>=_
-  call-first p at to k = by (view p at to k)
+  call-first program at to k = by (view program at to k)
     where
       tags : (tag : ℕ) (content : List ℕ) (rest : List Field) (t : Bool) → isIndexTag tag ≡ t
-          → callForms s place (suc n) (cond t (index at (outerIndex (field at tag content))) (cond (isOperandTag tag) (operand at (readOperand (field at tag content))) (badArgument 3 at)) ∷ map readArgument rest) ≡ firstForm at (field at tag content ∷ rest)
+          → callForms s parent (suc n) (cond t (index at (outerIndex (field at tag content))) (cond (isOperandTag tag) (operand at (readOperand (field at tag content))) (badArgument 3 at)) ∷ map readArgument rest) ≡ firstForm at (field at tag content ∷ rest)
       tags tag content rest true e = refl
       tags tag content rest false e =
           others (isOperandTag tag)
-          ∙ sym (ap (λ (i : Index). formOf s i >>= λ f. (mustShow at s (built f) >> (callForms s place n (map readArgument rest) >>= λ gs. good (f ∷ gs)))) (not-index (readIndex 15) at tag content e))
+          ∙ sym (ap (λ (i : Index). formOf s i >>= λ f. (mustShow at s (built f) >> (callForms s parent n (map readArgument rest) >>= λ gs. good (f ∷ gs)))) (not-index (readIndex 15) at tag content e))
         where
-          others : (t : Bool) → callForms s place (suc n) (cond t (operand at (readOperand (field at tag content))) (badArgument 3 at) ∷ map readArgument rest) ≡ refused 3 at
+          others : (t : Bool) → callForms s parent (suc n) (cond t (operand at (readOperand (field at tag content))) (badArgument 3 at) ∷ map readArgument rest) ≡ refused 3 at
           others true = refl
           others false = refl
 
-      by : View p at to → callForms s place (suc n) (map readArgument (fieldsAt p at to)) ≡ firstForm at (fieldsAt p at to)
+      by : View program at to → callForms s parent (suc n) (map readArgument (fieldsAt program at to)) ≡ firstForm at (fieldsAt program at to)
       by (ends e h) = rw e
       by (cuts e) = rw e
-      by (goes tag next w) = rw (w .first) (tags tag (slice (at + 3) next p) (fieldsAt p next to) (isIndexTag tag) refl)
+      by (goes tag next w) = rw (w .first) (tags tag (slice (at + 3) next program) (fieldsAt program next to) (isIndexTag tag) refl)
 
-pub list-stops : (r : Read) (m : ℕ) (l : List (List ℤ)) (next : List Form → Checked (List Form)) → OneOf (1 ∷ []) (tagOf the-type r) → formsTold r m l ≡ (formsTold r m l >>= next)
-unfolding formsTold _>>=_
+pub list-stops : (r : Read) (m : ℕ) (l : List (List ℤ)) (next : List Form → Checked (List Form)) → OneOf (1 ∷ []) (tagOf the-type r) → checkedForms r m l ≡ (checkedForms r m l >>= next)
+unfolding checkedForms _>>=_
 list-stops (Upto n) m l next h = not-first h
 list-stops (Refused n p) m l next h = refl
 
-module _ (s : C.Scope) (place n m : ℕ) (p : List ℕ) (at to : ℕ) (k : to ≤ length p) (r : Read) (l : List ℤ) (e : formTold r l ≡ formOf s (due outerIndex (badIndex 4 place) (fieldsAt p at to))) where
+module _ (s : C.Scope) (parent n m : ℕ) (program : List ℕ) (at to : ℕ) (k : to ≤ length program) (r : Read) (l : List ℤ) (e : checkedForm r l ≡ formOf s (due outerIndex (badIndex 4 parent) (fieldsAt program at to))) where
   abbrev here : Checked (List Form)
-  here = callForms s place (suc n) (map readArgument (fieldsAt p at to))
+  here = callForms s parent (suc n) (map readArgument (fieldsAt program at to))
 
   abbrev show : Form → Checked (List Form)
-  show f = mustShow at s (built f) >> (callForms s place n (map readArgument (drop 1 (fieldsAt p at to))) >>= λ gs. good (f ∷ gs))
+  show f = mustShow at s (built f) >> (callForms s parent n (map readArgument (drop 1 (fieldsAt program at to))) >>= λ gs. good (f ∷ gs))
 
-  here-is : here ≡ (formTold r l >>= show)
-  here-is = call-first s place n p at to k ∙ ap (λ (c : Checked Form). c >>= show) (sym e)
+  here-is : here ≡ (checkedForm r l >>= show)
+  here-is = call-first s parent n program at to k ∙ ap (λ (c : Checked Form). c >>= show) (sym e)
 
-  pub form-none : (fs : List (List ℤ)) → OneOf (1 ∷ []) (tagOf the-type r) → formsTold r m fs ≡ here
-  unfolding formsTold formTold _>>=_
+  pub form-none : (fs : List (List ℤ)) → OneOf (1 ∷ []) (tagOf the-type r) → checkedForms r m fs ≡ here
+  unfolding checkedForms checkedForm _>>=_
   form-none fs h = by r h ∙ sym here-is
     where
-      by : (r : Read) → OneOf (1 ∷ []) (tagOf the-type r) → formsTold r m fs ≡ (formTold r l >>= show)
+      by : (r : Read) → OneOf (1 ∷ []) (tagOf the-type r) → checkedForms r m fs ≡ (checkedForm r l >>= show)
       by (Upto j) h = not-first h
       by (Refused j q) h = refl
 
-  module _ (next : ℕ) (u : r ≡ Upto next) (v : PastField p at to next) (t : Read) (d : partTold t ≡ mustShow at s (built (asForm l))) where
+  module _ (next : ℕ) (u : r ≡ Upto next) (v : PastField program at to next) (t : Read) (d : checkedPart t ≡ mustShow at s (built (asForm l))) where
     abbrev there : Checked (List Form)
-    there = callForms s place n (map readArgument (fieldsAt p next to)) >>= λ gs. good (asForm l ∷ gs)
+    there = callForms s parent n (map readArgument (fieldsAt program next to)) >>= λ gs. good (asForm l ∷ gs)
 
-    mid-is : here ≡ (partTold t >> there)
-    unfolding formTold _>>=_
+    mid-is : here ≡ (checkedPart t >> there)
+    unfolding checkedForm _>>=_
     mid-is =
-        here-is ∙ ap (λ (x : Read). formTold x l >>= show) u
-        ∙ (λ j. sym d j >> (callForms s place n (map readArgument (v .rest j)) >>= λ gs. good (asForm l ∷ gs)))
+        here-is ∙ ap (λ (x : Read). checkedForm x l >>= show) u
+        ∙ (λ j. sym d j >> (callForms s parent n (map readArgument (v .rest j)) >>= λ gs. good (asForm l ∷ gs)))
 
-    pub show-none : (fs : List (List ℤ)) → OneOf (1 ∷ []) (tagOf the-type t) → formsTold t m fs ≡ here
-    unfolding formsTold partTold _>>_
+    pub show-none : (fs : List (List ℤ)) → OneOf (1 ∷ []) (tagOf the-type t) → checkedForms t m fs ≡ here
+    unfolding checkedForms checkedPart _>>_
     show-none fs h = by t h ∙ sym mid-is
       where
-        by : (t : Read) → OneOf (1 ∷ []) (tagOf the-type t) → formsTold t m fs ≡ (partTold t >> there)
+        by : (t : Read) → OneOf (1 ∷ []) (tagOf the-type t) → checkedForms t m fs ≡ (checkedPart t >> there)
         by (Upto j) h = not-first h
         by (Refused j q) h = refl
 
     pub show-good : OneOf (0 ∷ []) (tagOf the-type t) → here ≡ there
-    unfolding partTold _>>_
+    unfolding checkedPart _>>_
     show-good h = mid-is ∙ by t h
       where
-        by : (t : Read) → OneOf (0 ∷ []) (tagOf the-type t) → (partTold t >> there) ≡ there
+        by : (t : Read) → OneOf (0 ∷ []) (tagOf the-type t) → (checkedPart t >> there) ≡ there
         by (Upto j) h = refl
         by (Refused j q) h = absurd (let z : _≡_ {A = ℕ} 1 0 = h in omega arith)
 
@@ -123,9 +123,9 @@ more-forms (good gs) i fs l h =
     map-append [] = refl
     map-append (x ∷ xs) = ap (λ (y : List Form). asForm x ∷ y) (map-append xs)
 
-pub all-forms : (s : C.Scope) (place : ℕ) (args : List Argument) (fs : List Form) → (callForms s place 0 args >>= λ rest. good (fs ++ rest)) ≡ good fs
+pub all-forms : (s : C.Scope) (parent : ℕ) (args : List Argument) (fs : List Form) → (callForms s parent 0 args >>= λ rest. good (fs ++ rest)) ≡ good fs
 unfolding callForms _>>=_
-all-forms s place args fs = ap good (append-nil fs)
+all-forms s parent args fs = ap good (append-nil fs)
   where
     append-nil : (xs : List Form) → xs ++ [] ≡ xs
     append-nil [] = refl

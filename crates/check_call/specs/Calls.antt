@@ -13,10 +13,6 @@ use Rattle.check_index.specs.declared.Read.{Read}
 use Rattle.check_index.specs.declared.Read.the-variants.{Upto, Refused}
 use Rattle.language.specs.Check as C
 
--- `taken` of the definitions, whose name a function of the code has too
-abbrev pub takenBy : List Form → C.Kind → C.Due
-takenBy forms k = C.taken forms k
-
 -- the open loops in the tables
 pub record LoopsRight (s : Visible) (lows highs : List (List ℤ)) : Type 0 where
   pub few : s .variables ≤ mostVariables
@@ -24,10 +20,10 @@ pub record LoopsRight (s : Visible) (lows highs : List (List ℤ)) : Type 0 wher
   pub lowRows : Rows lows mostLoops
   pub highRows : Rows highs mostLoops
 
--- the first m of the forms beside an answer
-unfoldable pub formsTold : Read → ℕ → List (List ℤ) → Checked (List Form)
-formsTold (Upto n) m l = good (formsOf m l)
-formsTold (Refused n p) m l = refused n p
+-- what the answer on a call's m indexes, with the forms beside it, stands for
+unfoldable pub checkedForms : Read → ℕ → List (List ℤ) → Checked (List Form)
+checkedForms (Upto n) m l = good (formsOf m l)
+checkedForms (Refused n p) m l = refused n p
 
 -- a row of the table of families: the number of index variables, that of parameters, and the first of their rows in the table of operands
 abbrev pub signatureAt : List (List ℕ) → List ℕ → List (List ℤ) → ℕ → Signature

@@ -5,35 +5,33 @@ ghost use Prim.Native.Nat.{_+_, _≤_};
 ghost use lib.ListN.{length};
 ghost use lib.Seq.{slice};
 ghost use Rattle.language.specs.Read.{readArgument, readCall};
-ghost use Rattle.language.specs.Check.{Kind, Signature, callForms, callOperands, checkStatement};
+ghost use Rattle.language.specs.Check.{Kind, Signature, taken, callForms, callOperands, checkStatement};
 ghost use Rattle.language.specs.Limits.{mostVariables};
 ghost use Rattle.fields.specs.Header.{fieldsAt};
 ghost use Rattle.forms.specs.Flat.{Short, widened, asForm};
 ghost use Rattle.forms.specs.Rows.{Rows, loopsOf, formsOf};
-ghost use Rattle.check_operand.specs.Tables.{kindBy, TablesRight, kindsAt, scopeWith, scopeAt};
-ghost use Rattle.check_index.specs.Answers.{partTold, Upon, PastCount};
+ghost use Rattle.check_operand.specs.Tables.{kindIn, TablesRight, kindsAt, scopeWith, scopeAt};
+ghost use Rattle.check_index.specs.Answers.{checkedPart, EndsAt, PassesCount};
 ghost use Rattle.check_operand.specs.Operands.{wantedOf, SizeRight};
-ghost use Rattle.check_call.specs.Calls.{FamiliesRight, scopeFull, takenBy, formsTold, LoopsRight};
-use check_index::DEEPEST;
-use check_index::FORM_NUMBERS;
-use check_index::Form;
-use check_index::MOST_VARIABLES;
+ghost use Rattle.check_call.specs.Calls.{FamiliesRight, scopeFull, checkedForms, LoopsRight};
 use check_index::Read;
-use check_index::Size;
-use check_operand::QUANTUM;
-use check_operand::QUBIT;
 use check_operand::Visible;
 use check_operand::Wanted;
+use forms::FORM_NUMBERS;
+use forms::Form;
+use forms::Size;
+use limits::DEEPEST;
+use limits::MOST_VARIABLES;
 
 // A row of the table of families: how many index variables, how many parameters, and the first row of their kinds.
 pub type FamilyRow = [usize; 3];
 
-// The forms of the m indexes of a call at `place`, from `at` on.
+// The forms of the m indexes of a call at `parent`, from `at` on.
 fn call_forms(
     program: &[u8],
     at: usize,
     to: usize,
-    place: usize,
+    parent: usize,
     m: usize,
     s: Visible,
     lows: &[Form],
@@ -44,15 +42,15 @@ fn call_forms(
     requires { ⌜ m ≤ mostVariables ⌝ }
     requires { ⌜ LoopsRight s (now lows) (now highs) ⌝ }
     requires { ⌜ Rows (now forms) mostVariables ⌝ }
-    ensures { λ r. ⌜ ((fs : List Signature) (ks : List Kind) → formsTold r m (now (forms .exit)) ≡ callForms (scopeWith fs ks (s .variables) (loopsOf (s .loops) (now (lows .entry)) (now (highs .entry)))) place m (map readArgument (fieldsAt (now (program .entry)) at to))) ⌝ }
-    ensures { λ r. ⌜ PastCount (now (program .entry)) at to m r ⌝ }
+    ensures { λ r. ⌜ ((fs : List Signature) (ks : List Kind) → checkedForms r m (now (forms .exit)) ≡ callForms (scopeWith fs ks (s .variables) (loopsOf (s .loops) (now (lows .entry)) (now (highs .entry)))) parent m (map readArgument (fieldsAt (now (program .entry)) at to))) ⌝ }
+    ensures { λ r. ⌜ PassesCount (now (program .entry)) at to m r ⌝ }
     ensures { λ _. ⌜ Rows (now (forms .exit)) mostVariables ⌝ }
 {
     let mut from = at;
     for i in 0..m {
         let mut f = [0i64; FORM_NUMBERS];
         let variables = s.variables + s.loops;
-        let r = check_index::index(program, from, to, place, DEEPEST, variables, &mut f);
+        let r = check_index::index(program, from, to, parent, DEEPEST, variables, &mut f);
         let Read::Upto(next) = r else {
             return r;
         };
@@ -67,21 +65,24 @@ fn call_forms(
 }
 
 // What a parameter of a kind and an own size takes, with a call's m forms put in; the size goes to `size`.
-fn taken(kind: u8, own: &Size, forms: &[Form; MOST_VARIABLES], m: usize, size: &mut Form) -> Wanted
+fn taken_by(
+    kind: kinds::Kind,
+    own: &Size,
+    forms: &[Form; MOST_VARIABLES],
+    m: usize,
+    size: &mut Form,
+) -> Wanted
     requires { ⌜ Short (now own) ⌝ }
     requires { ⌜ m ≤ mostVariables ⌝ }
     requires { ⌜ Rows (now forms) mostVariables ⌝ }
-    ensures { λ r. ⌜ wantedOf r (now (size .exit)) ≡ takenBy (formsOf m (now (forms .entry))) (kindBy kind (asForm (widened (now (own .entry))))) ⌝ }
+    ensures { λ r. ⌜ wantedOf r (now (size .exit)) ≡ taken (formsOf m (now (forms .entry))) (kindIn kind (asForm (widened (now (own .entry))))) ⌝ }
     ensures { λ r. ⌜ SizeRight r (now (size .exit)) ⌝ }
 {
-    if kind == QUBIT {
-        return Wanted::Wire;
+    match kind {
+        kinds::Kind::Qubit => Wanted::Wire,
+        kinds::Kind::Quantum => Wanted::Register(forms::put_in(size, own, forms, m)),
+        kinds::Kind::Classical => Wanted::Bit,
     }
-    if kind == QUANTUM {
-        let known = forms::put_in(size, own, forms, m);
-        return Wanted::Register(known);
-    }
-    Wanted::Bit
 }
 
 // A call's operands from `at` on, for `count` parameters whose kinds and sizes stand from the row `first` on, and nothing after them.
@@ -89,7 +90,7 @@ fn call_operands(
     program: &[u8],
     at: usize,
     to: usize,
-    place: usize,
+    parent: usize,
     first: usize,
     count: usize,
     forms: &[Form; MOST_VARIABLES],
@@ -105,19 +106,20 @@ fn call_operands(
     requires { ⌜ Rows (now forms) mostVariables ⌝ }
     requires { ⌜ first + count ≤ length (now kinds) ⌝ }
     requires { ⌜ TablesRight s (now kinds) (now sizes) (now lows) (now highs) ⌝ }
-    ensures { λ r. ⌜ ((fs : List Signature) → partTold r ≡ callOperands (scopeAt fs s (now (kinds .entry)) (now (sizes .entry)) (now (lows .entry)) (now (highs .entry))) place (formsOf m (now (forms .entry))) (kindsAt count first (now (kinds .entry)) (now (sizes .entry))) (map readArgument (fieldsAt (now (program .entry)) at to))) ⌝ }
-    ensures { λ r. ⌜ Upon to r ⌝ }
+    ensures { λ r. ⌜ ((fs : List Signature) → checkedPart r ≡ callOperands (scopeAt fs s (now (kinds .entry)) (now (sizes .entry)) (now (lows .entry)) (now (highs .entry))) parent (formsOf m (now (forms .entry))) (kindsAt count first (now (kinds .entry)) (now (sizes .entry))) (map readArgument (fieldsAt (now (program .entry)) at to))) ⌝ }
+    ensures { λ r. ⌜ EndsAt to r ⌝ }
 {
     let mut from = at;
     for j in 0..count {
         let row = first + j;
         let mut size = [0i64; FORM_NUMBERS];
-        let wanted = taken(kinds[row], &sizes[row], forms, m, &mut size);
+        let kind = check_operand::kind_by(kinds[row]);
+        let wanted = taken_by(kind, &sizes[row], forms, m, &mut size);
         let r = check_operand::operand(
             program,
             from,
             to,
-            place,
+            parent,
             wanted,
             &size,
             s,
@@ -132,7 +134,7 @@ fn call_operands(
         from = next;
     }
     if from < to {
-        return Read::Refused(4, place);
+        return Read::Refused(4, parent);
     }
     Read::Upto(to)
 }
@@ -152,7 +154,7 @@ pub fn call(
     requires { ⌜ (at + 3 ≤ next) × (next ≤ length (now program)) ⌝ }
     requires { ⌜ TablesRight s (now kinds) (now sizes) (now lows) (now highs) ⌝ }
     requires { ⌜ FamiliesRight s (now families) (now kinds) ⌝ }
-    ensures { λ r. ⌜ partTold r ≡ checkStatement (readCall at (slice (at + 3) next (now (program .entry)))) (scopeFull s (now (families .entry)) (now (kinds .entry)) (now (sizes .entry)) (now (lows .entry)) (now (highs .entry))) ⌝ }
+    ensures { λ r. ⌜ checkedPart r ≡ checkStatement (readCall at (slice (at + 3) next (now (program .entry)))) (scopeFull s (now (families .entry)) (now (kinds .entry)) (now (sizes .entry)) (now (lows .entry)) (now (highs .entry))) ⌝ }
 {
     let from = at + 3;
     if next <= from {

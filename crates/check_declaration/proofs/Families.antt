@@ -6,46 +6,47 @@ use Prim.Native.Nat.{ℕ, _≤_, _<_}
 use native.Mathlib.Omega.{arith}
 use lib.Dec.{leb}
 use borrow.Author.Tests.{le-leb, lt-leb, le-ltb, lt-ltb}
-use Rattle.language.specs.Check.{good, refused, _>>=_, _>>_, require, checkNumber}
-use Rattle.check_declaration.specs.Families.{firstIn, secondIn, countsMeant}
+use Rattle.language.specs.Limits.{mostFamilies, mostVariables, mostParameters}
+use Rattle.language.specs.Check.{good, refused, _>>=_, _>>_, require, checkNumber, checkCounts}
+use Rattle.check_declaration.specs.Families.{firstIn, secondIn, countsIn}
 
 module _ (q families : ℕ) (content : List ℕ) where
-  pub counts-many : 255 ≤ families → refused 6 q ≡ countsMeant q families content
-  unfolding require _>>_
-  counts-many h = sym (rw (le-ltb families 255 h))
+  pub counts-many : mostFamilies ≤ families → refused 6 q ≡ countsIn q families content
+  unfolding checkCounts require _>>_
+  counts-many h = sym (rw (le-ltb families mostFamilies h))
 
-  module _ (h : families < 255) where
-    pub counts-none : content ≡ [] → refused 4 q ≡ countsMeant q families content
-    unfolding require _>>_ _>>=_ firstIn checkNumber
-    counts-none e = sym (rw (lt-ltb families 255 h, e))
+  module _ (h : families < mostFamilies) where
+    pub counts-none : content ≡ [] → refused 4 q ≡ countsIn q families content
+    unfolding checkCounts require _>>_ _>>=_ firstIn checkNumber
+    counts-none e = sym (rw (lt-ltb families mostFamilies h, e))
 
     module _ (m : ℕ) (more : List ℕ) (e : content ≡ (m ∷ more)) where
-      counts-first : countsMeant q families content ≡ (require 6 q (leb m 4) >> (checkNumber q (secondIn (m ∷ more)) >>= λ p. (require 6 q (leb 1 p && leb p 8) >> good (m, p))))
-      unfolding require _>>_ _>>=_ firstIn checkNumber
-      counts-first = rw (lt-ltb families 255 h, e)
+      counts-first : countsIn q families content ≡ (require 6 q (leb m mostVariables) >> (checkNumber q (secondIn (m ∷ more)) >>= λ p. (require 6 q (leb 1 p && leb p mostParameters) >> good (m, p))))
+      unfolding checkCounts require _>>_ _>>=_ firstIn checkNumber
+      counts-first = rw (lt-ltb families mostFamilies h, e)
 
-      pub counts-over : 4 < m → refused 6 q ≡ countsMeant q families content
+      pub counts-over : mostVariables < m → refused 6 q ≡ countsIn q families content
       unfolding require _>>_
-      counts-over k = sym (counts-first ∙ rw (lt-leb m 4 k))
+      counts-over k = sym (counts-first ∙ rw (lt-leb m mostVariables k))
 
-      module _ (k : m ≤ 4) where
-        pub counts-one : more ≡ [] → refused 4 q ≡ countsMeant q families content
+      module _ (k : m ≤ mostVariables) where
+        pub counts-one : more ≡ [] → refused 4 q ≡ countsIn q families content
         unfolding require _>>_ _>>=_ secondIn checkNumber
-        counts-one z = sym (counts-first ∙ rw (le-leb m 4 k, z))
+        counts-one z = sym (counts-first ∙ rw (le-leb m mostVariables k, z))
 
         module _ (p : ℕ) (rest : List ℕ) (z : more ≡ (p ∷ rest)) where
-          counts-both : countsMeant q families content ≡ (require 6 q (leb 1 p && leb p 8) >> good (m, p))
+          counts-both : countsIn q families content ≡ (require 6 q (leb 1 p && leb p mostParameters) >> good (m, p))
           unfolding require _>>_ _>>=_ secondIn checkNumber
-          counts-both = counts-first ∙ rw (le-leb m 4 k, z)
+          counts-both = counts-first ∙ rw (le-leb m mostVariables k, z)
 
-          pub counts-zero : p ≡ 0 → refused 6 q ≡ countsMeant q families content
+          pub counts-zero : p ≡ 0 → refused 6 q ≡ countsIn q families content
           unfolding require _>>_
           counts-zero y = sym (counts-both ∙ rw (lt-leb 1 p (omega arith)))
 
-          pub counts-eight : (p ≡ 0 → ⊥) → 8 < p → refused 6 q ≡ countsMeant q families content
+          pub counts-above : (p ≡ 0 → ⊥) → mostParameters < p → refused 6 q ≡ countsIn q families content
           unfolding require _>>_
-          counts-eight y x = sym (counts-both ∙ rw (le-leb 1 p (omega arith), lt-leb p 8 x))
+          counts-above y x = sym (counts-both ∙ rw (le-leb 1 p (omega arith), lt-leb p mostParameters x))
 
-          pub counts-good : (p ≡ 0 → ⊥) → p ≤ 8 → good (m, p) ≡ countsMeant q families content
+          pub counts-good : (p ≡ 0 → ⊥) → p ≤ mostParameters → good (m, p) ≡ countsIn q families content
           unfolding require _>>_
-          counts-good y x = sym (counts-both ∙ rw (le-leb 1 p (omega arith), le-leb p 8 x))
+          counts-good y x = sym (counts-both ∙ rw (le-leb 1 p (omega arith), le-leb p mostParameters x))

@@ -13,7 +13,7 @@ use Rattle.language.specs.Form.{Form, Built, built, outOfRange, constantForm, v
 use Rattle.language.specs.Check.{Checked, good, refused, _>>=_, _>>_, require, noLeftover, inForm, productAt, combined, formOf, mustShow, Kind, qubit, quantum, classical, Scope, kindOf}
 use Rattle.language.proofs.FormLaws.{Zeros, also, Within, constant-within, variable-within, within-sum, within-difference, within-multiple}
 use Rattle.forms.specs.Flat.{Kept, asForm}
-use Rattle.check_declaration.specs.Types.{typeTold}
+use Rattle.check_declaration.specs.Types.{checkedType}
 use Rattle.check_declaration.specs.declared.TypeRead.{TypeRead}
 use Rattle.check_declaration.specs.declared.TypeRead.the-variants.{Many}
 
@@ -95,9 +95,9 @@ zeros-all [] z = refl
 zeros-all (c ∷ cs) (also e z) = λ i. e i ∷ zeros-all cs z i
 
 -- beyond its first five numbers, the list of such a form has only zeros
-pub narrow : (r : TypeRead) (n : ℕ) (l : List ℤ) (s : Scope) (x : ParameterType) → r ≡ Many n → Kept l → typeTold r l ≡ kindOf s x → s .variables + length (s .loops) ≤ 4 → drop 5 l ≡ replicate 8 (pos 0)
-unfolding typeTold asForm
-narrow r n l s x u k e h = by l k (subst (λ (c : Checked Kind). FewKind 4 c) (sym e ∙ ap (λ (y : TypeRead). typeTold y l) u) (kind-few 4 s x h))
+pub narrow : (r : TypeRead) (n : ℕ) (l : List ℤ) (s : Scope) (x : ParameterType) → r ≡ Many n → Kept l → checkedType r l ≡ kindOf s x → s .variables + length (s .loops) ≤ 4 → drop 5 l ≡ replicate 8 (pos 0)
+unfolding checkedType asForm
+narrow r n l s x u k e h = by l k (subst (λ (c : Checked Kind). FewKind 4 c) (sym e ∙ ap (λ (y : TypeRead). checkedType y l) u) (kind-few 4 s x h))
   where
     by : (l : List ℤ) → Kept l → Within 4 (asForm l) → drop 5 l ≡ replicate 8 (pos 0)
     by [] k w = absurd (let z = k .long in omega arith)

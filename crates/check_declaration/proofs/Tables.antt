@@ -9,11 +9,14 @@ use lib.IntN.{ℤ}
 use lib.ListN.{length, getD, set, length-set}
 use lib.Seq.{getD-set-same, getD-set-other}
 use borrow.Author.Tests.{eqb-true, eqb-false}
+use Rattle.language.specs.Form.{Form}
+use Rattle.kinds.specs.Numbers.{numberOf, kindWith, kind-back}
+use Rattle.kinds.specs.declared.Kind.{Kind}
 use Rattle.forms.specs.Flat.{Short, widened, asForm}
 use Rattle.forms.specs.Rows.{ShortRows}
-use Rattle.check_operand.specs.Tables.{kindBy, kindAt, kindsAt}
+use Rattle.check_operand.specs.Tables.{kindIn, kindBy, kindAt, kindsAt}
 use Rattle.check_operand.proofs.Tables.{rows-same}
-use Rattle.check_declaration.specs.Types.{OperandTable, Apart}
+use Rattle.check_declaration.specs.Types.{tableRows, OperandTable, Apart}
 
 short-set : (rows : List (List ℤ)) (n i : ℕ) (l : List ℤ) → ShortRows rows n → Short l → ShortRows (set rows i l) n
 short-set rows n i l r k = record {
@@ -28,10 +31,14 @@ short-set rows n i l r k = record {
         rw (z, getD-set-same rows i l [] q) k
     by j h false e = rw (getD-set-other rows i j l [] (eqb-false j i e)) (r .each j h)
 
+-- the kind in a row that holds the number of a kind
+pub numbered : (k : Kind) (b : ℕ) (f : Form) → b ≡ numberOf k → kindBy b f ≡ kindIn k f
+numbered k b f e = ap (λ (x : ℕ). kindBy x f) e ∙ ap (λ (x : Kind). kindIn x f) (kind-back k)
+
 pub apart-none : (first count : ℕ) (kinds : List ℕ) (sizes : List (List ℤ)) → OperandTable kinds sizes → Apart first count kinds sizes kinds sizes
 apart-none first count kinds sizes t = record { table = t; below = λ j h. refl; above = λ j h. refl }
 
-module _ (row : ℕ) (kinds : List ℕ) (sizes : List (List ℤ)) (t : OperandTable kinds sizes) (h : row < 2295) (b : ℕ) where
+module _ (row : ℕ) (kinds : List ℕ) (sizes : List (List ℤ)) (t : OperandTable kinds sizes) (h : row < tableRows) (b : ℕ) where
   pub apart-kind : Apart row 1 kinds sizes (set kinds row b) sizes
   apart-kind = record {
     table = record { kindsLong = length-set kinds row b ∙ t .kindsLong; sizesLong = t .sizesLong; sizeRows = t .sizeRows };
@@ -45,7 +52,7 @@ module _ (row : ℕ) (kinds : List ℕ) (sizes : List (List ℤ)) (t : OperandTa
   module _ (l : List ℤ) (k : Short l) where
     pub apart-both : Apart row 1 kinds sizes (set kinds row b) (set sizes row l)
     apart-both = record {
-      table = record { kindsLong = length-set kinds row b ∙ t .kindsLong; sizesLong = length-set sizes row l ∙ t .sizesLong; sizeRows = short-set sizes 2295 row l (t .sizeRows) k };
+      table = record { kindsLong = length-set kinds row b ∙ t .kindsLong; sizesLong = length-set sizes row l ∙ t .sizesLong; sizeRows = short-set sizes tableRows row l (t .sizeRows) k };
       below = λ j q. other j (λ e. omega arith);
       above = λ j q. other j (λ e. omega arith);
     }

@@ -10,153 +10,155 @@ use borrow.Author.Tests.{ne-eqb}
 use types.Run.{OneOf}
 use denote.Enum.Declared.{tagOf}
 use Rattle.language.specs.Tree.{badIndex, badType}
-use Rattle.language.specs.Form.{Form, built, showing}
+use Rattle.language.specs.Form.{Form, built}
 use Rattle.language.specs.Read.{Field, field, choose, due, ending, qbitsOf, outerIndex, readType, readQbit, badHeader, typesOf}
-use Rattle.language.specs.Check.{Checked, good, refused, _>>=_, _>>_, Kind, qubit, quantum, Signature, formOf, byShowing, mustShow, kindOf, noLeftover, kindsOf}
+use Rattle.language.specs.Check.{Checked, good, refused, _>>=_, _>>_, Kind, qubit, quantum, Signature, formOf, mustShow, kindOf, noLeftover, kindsOf}
 use Rattle.fields.proofs.Reading.{Wholly, one-byte, slice-none}
 use Rattle.fields.specs.Header.{fieldsAt}
 use Rattle.forms.specs.Flat.{Kept, asForm, Short, widened}
 use Rattle.check_index.proofs.Read.{the-type}
 use Rattle.check_index.proofs.Answers.{more-left, none-left, not-first, then-goes}
-use Rattle.check_index.specs.Answers.{PastField, EndsAt, formTold, partTold}
+use Rattle.check_index.specs.Answers.{PastField, FormEndsAt, checkedForm, checkedPart}
 use Rattle.check_index.specs.Indexes.{scopeOf}
-use Rattle.check_operand.specs.Tables.{scopeWith, kindBy, kindAt, kindsAt, tabulated}
-use Rattle.check_declaration.specs.Types.{sizeTold, typeTold, TypePast, OperandTable, Apart, rowTold, rowsTold}
+use Rattle.kinds.specs.Numbers.{numberOf}
+use Rattle.kinds.specs.declared.Kind.the-variants.{Qubit, Quantum}
+use Rattle.check_operand.specs.Tables.{scopeWith, kindIn, kindAt, kindsAt, tabulated}
+use Rattle.check_declaration.specs.Types.{tableRows, checkedSizedType, checkedType, TypePasses, OperandTable, Apart, checkedRow, checkedRows}
 use Rattle.check_index.specs.declared.Read.{Read}
 use Rattle.check_index.specs.declared.Read.the-variants.{Upto, Refused}
 use Rattle.check_operand.proofs.Tables.{same-forms, row-more}
 use Rattle.check_declaration.specs.declared.TypeRead.{TypeRead}
 use Rattle.check_declaration.specs.declared.TypeRead.the-variants.{Single, Many, Bad}
-use Rattle.check_declaration.proofs.Tables.{row-kind, row-both, rows-below}
+use Rattle.check_declaration.proofs.Tables.{row-kind, row-both, rows-below, numbered}
 use Rattle.language.specs.Tree as T
 use Rattle.language.specs.Check as C
 
-pub size-stops : (r : Read) (l : List ℤ) (next : Form → Checked Kind) (k : List ℤ) → OneOf (1 ∷ []) (tagOf the-type r) → sizeTold r k ≡ (formTold r l >>= next)
-unfolding sizeTold formTold _>>=_
+pub size-stops : (r : Read) (l : List ℤ) (next : Form → Checked Kind) (k : List ℤ) → OneOf (1 ∷ []) (tagOf the-type r) → checkedSizedType r k ≡ (checkedForm r l >>= next)
+unfolding checkedSizedType checkedForm _>>=_
 size-stops (Upto n) l next k h = not-first h
 size-stops (Refused n p) l next k h = refl
 
-pub shown-stops : (t : Read) (next : Checked Kind) (k : List ℤ) → OneOf (1 ∷ []) (tagOf the-type t) → sizeTold t k ≡ (partTold t >> next)
-unfolding sizeTold partTold _>>_
+pub shown-stops : (t : Read) (next : Checked Kind) (k : List ℤ) → OneOf (1 ∷ []) (tagOf the-type t) → checkedSizedType t k ≡ (checkedPart t >> next)
+unfolding checkedSizedType checkedPart _>>_
 shown-stops (Upto n) next k h = not-first h
 shown-stops (Refused n p) next k h = refl
 
-module _ (fs : List Signature) (ks : List Kind) (m : ℕ) (p : List ℕ) (at next : ℕ) (r : Read) (l : List ℤ) (e : formTold r l ≡ formOf (scopeOf m) (due outerIndex (badIndex 4 at) (fieldsAt p (at + 3) next))) where
+module _ (fs : List Signature) (ks : List Kind) (m : ℕ) (program : List ℕ) (at next : ℕ) (r : Read) (l : List ℤ) (e : checkedForm r l ≡ formOf (scopeOf m) (due outerIndex (badIndex 4 at) (fieldsAt program (at + 3) next))) where
   abbrev pub typed : Checked Kind
-  typed = kindOf (scopeWith fs ks m []) (qbitsOf at (fieldsAt p (at + 3) next))
+  typed = kindOf (scopeWith fs ks m []) (qbitsOf at (fieldsAt program (at + 3) next))
 
   abbrev finish : List Field → Form → Checked Kind
   finish gs f = noLeftover at (ending gs) >> (mustShow at (scopeWith fs ks m []) (built f) >> good (quantum f))
 
-  typed-is : typed ≡ (formTold r l >>= finish (drop 1 (fieldsAt p (at + 3) next)))
+  typed-is : typed ≡ (checkedForm r l >>= finish (drop 1 (fieldsAt program (at + 3) next)))
   unfolding kindOf qbitsOf scopeOf
-  typed-is = ap (λ (c : Checked Form). c >>= finish (drop 1 (fieldsAt p (at + 3) next))) (sym (e ∙ same-forms (scopeOf m) (scopeWith fs ks m []) (due outerIndex (badIndex 4 at) (fieldsAt p (at + 3) next)) refl))
+  typed-is = ap (λ (c : Checked Form). c >>= finish (drop 1 (fieldsAt program (at + 3) next))) (sym (e ∙ same-forms (scopeOf m) (scopeWith fs ks m []) (due outerIndex (badIndex 4 at) (fieldsAt program (at + 3) next)) refl))
 
-  pub type-stops : (k : List ℤ) → OneOf (1 ∷ []) (tagOf the-type r) → sizeTold r k ≡ typed
-  type-stops k h = size-stops r l (finish (drop 1 (fieldsAt p (at + 3) next))) k h ∙ sym typed-is
+  pub type-stops : (k : List ℤ) → OneOf (1 ∷ []) (tagOf the-type r) → checkedSizedType r k ≡ typed
+  type-stops k h = size-stops r l (finish (drop 1 (fieldsAt program (at + 3) next))) k h ∙ sym typed-is
 
-  module _ (end : ℕ) (u : r ≡ Upto end) (v : PastField p (at + 3) next end) where
-    type-end : typed ≡ finish (fieldsAt p end next) (asForm l)
-    unfolding formTold _>>=_
-    type-end = typed-is ∙ ap (λ (x : Read). formTold x l >>= finish (drop 1 (fieldsAt p (at + 3) next))) u ∙ ap (λ (gs : List Field). finish gs (asForm l)) (v .rest)
+  module _ (end : ℕ) (u : r ≡ Upto end) (v : PastField program (at + 3) next end) where
+    type-end : typed ≡ finish (fieldsAt program end next) (asForm l)
+    unfolding checkedForm _>>=_
+    type-end = typed-is ∙ ap (λ (x : Read). checkedForm x l >>= finish (drop 1 (fieldsAt program (at + 3) next))) u ∙ ap (λ (gs : List Field). finish gs (asForm l)) (v .rest)
 
-    pub type-long : end < next → next ≤ length p → refused 4 at ≡ typed
+    pub type-long : end < next → next ≤ length program → refused 4 at ≡ typed
     unfolding noLeftover _>>_
-    type-long h k = sym (type-end ∙ ap (λ (x : T.Ending). noLeftover at x >> (mustShow at (scopeWith fs ks m []) (built (asForm l)) >> good (quantum (asForm l)))) (more-left p end next h k))
+    type-long h k = sym (type-end ∙ ap (λ (x : T.Ending). noLeftover at x >> (mustShow at (scopeWith fs ks m []) (built (asForm l)) >> good (quantum (asForm l)))) (more-left program end next h k))
 
-    module _ (h : next ≤ end) (t : Read) (d : partTold t ≡ byShowing at (showing m [] (built (asForm l)))) where
-      type-shown : typed ≡ (partTold t >> good (quantum (asForm l)))
-      unfolding noLeftover _>>_ mustShow
+    module _ (h : next ≤ end) (t : Read) (d : checkedPart t ≡ mustShow at (scopeWith fs ks m []) (built (asForm l))) where
+      type-shown : typed ≡ (checkedPart t >> good (quantum (asForm l)))
+      unfolding noLeftover _>>_
       type-shown =
-          type-end ∙ ap (λ (x : T.Ending). noLeftover at x >> (mustShow at (scopeWith fs ks m []) (built (asForm l)) >> good (quantum (asForm l)))) (none-left p end next h)
+          type-end ∙ ap (λ (x : T.Ending). noLeftover at x >> (mustShow at (scopeWith fs ks m []) (built (asForm l)) >> good (quantum (asForm l)))) (none-left program end next h)
           ∙ ap (λ (c : Checked (Unit {0})). c >> good (quantum (asForm l))) (sym d)
 
-      pub type-not : (k : List ℤ) → OneOf (1 ∷ []) (tagOf the-type t) → sizeTold t k ≡ typed
+      pub type-not : (k : List ℤ) → OneOf (1 ∷ []) (tagOf the-type t) → checkedSizedType t k ≡ typed
       type-not k q = shown-stops t (good (quantum (asForm l))) k q ∙ sym type-shown
 
-      pub type-good : OneOf (0 ∷ []) (tagOf the-type t) → sizeTold (Upto next) l ≡ typed
-      unfolding sizeTold
+      pub type-good : OneOf (0 ∷ []) (tagOf the-type t) → checkedSizedType (Upto next) l ≡ typed
+      unfolding checkedSizedType
       type-good q = sym (type-shown ∙ then-goes t (good (quantum (asForm l))) q)
 
-module _ (s : C.Scope) (p : List ℕ) (at to place : ℕ) where
+module _ (s : C.Scope) (program : List ℕ) (at to parent : ℕ) where
   abbrev pub typeMeant : Checked Kind
-  typeMeant = kindOf s (due readType (badType 4 place) (fieldsAt p at to))
+  typeMeant = kindOf s (due readType (badType 4 parent) (fieldsAt program at to))
 
-  pub type-none : fieldsAt p at to ≡ [] → refused 4 place ≡ typeMeant
+  pub type-none : fieldsAt program at to ≡ [] → refused 4 parent ≡ typeMeant
   unfolding due kindOf
-  type-none e = sym (ap (λ (fs : List Field). kindOf s (due readType (badType 4 place) fs)) e)
+  type-none e = sym (ap (λ (fs : List Field). kindOf s (due readType (badType 4 parent) fs)) e)
 
-  pub type-cut : fieldsAt p at to ≡ (badHeader at ∷ []) → refused 2 at ≡ typeMeant
+  pub type-cut : fieldsAt program at to ≡ (badHeader at ∷ []) → refused 2 at ≡ typeMeant
   unfolding due kindOf readType
-  type-cut e = sym (ap (λ (fs : List Field). kindOf s (due readType (badType 4 place) fs)) e)
+  type-cut e = sym (ap (λ (fs : List Field). kindOf s (due readType (badType 4 parent) fs)) e)
 
-  module _ (tag next : ℕ) (w : Wholly p at to tag next) where
-    type-is : typeMeant ≡ kindOf s (readType (field at tag (slice (at + 3) next p)))
+  module _ (tag next : ℕ) (w : Wholly program at to tag next) where
+    type-is : typeMeant ≡ kindOf s (readType (field at tag (slice (at + 3) next program)))
     unfolding due
-    type-is = ap (λ (fs : List Field). kindOf s (due readType (badType 4 place) fs)) (w .first)
+    type-is = ap (λ (fs : List Field). kindOf s (due readType (badType 4 parent) fs)) (w .first)
 
     pub type-single : tag ≡ 16 → next ≤ at + 3 → good qubit ≡ typeMeant
     unfolding readType choose readQbit kindOf noLeftover ending _>>_
     type-single e h =
-        sym (type-is ∙ ap (λ (t : ℕ). kindOf s (readType (field at t (slice (at + 3) next p)))) e
-        ∙ ap (λ (l : List ℕ). noLeftover at (ending l) >> good qubit) (slice-none (at + 3) next p h))
+        sym (type-is ∙ ap (λ (t : ℕ). kindOf s (readType (field at t (slice (at + 3) next program)))) e
+        ∙ ap (λ (l : List ℕ). noLeftover at (ending l) >> good qubit) (slice-none (at + 3) next program h))
 
-    pub type-more : tag ≡ 16 → at + 3 < next → next ≤ length p → refused 4 at ≡ typeMeant
+    pub type-more : tag ≡ 16 → at + 3 < next → next ≤ length program → refused 4 at ≡ typeMeant
     unfolding readType choose readQbit kindOf noLeftover ending _>>_
     type-more e h k =
-        sym (type-is ∙ ap (λ (t : ℕ). kindOf s (readType (field at t (slice (at + 3) next p)))) e
-        ∙ ap (λ (l : List ℕ). noLeftover at (ending l) >> good qubit) (one-byte (at + 3) next p h k))
+        sym (type-is ∙ ap (λ (t : ℕ). kindOf s (readType (field at t (slice (at + 3) next program)))) e
+        ∙ ap (λ (l : List ℕ). noLeftover at (ending l) >> good qubit) (one-byte (at + 3) next program h k))
 
-    pub type-many : tag ≡ 17 → kindOf s (qbitsOf at (fieldsAt p (at + 3) next)) ≡ typeMeant
+    pub type-many : tag ≡ 17 → kindOf s (qbitsOf at (fieldsAt program (at + 3) next)) ≡ typeMeant
     unfolding readType choose fieldsAt
-    type-many e = sym (type-is ∙ ap (λ (t : ℕ). kindOf s (readType (field at t (slice (at + 3) next p)))) e)
+    type-many e = sym (type-is ∙ ap (λ (t : ℕ). kindOf s (readType (field at t (slice (at + 3) next program)))) e)
 
     pub type-other : (tag ≡ 16 → ⊥) → (tag ≡ 17 → ⊥) → refused 3 at ≡ typeMeant
     unfolding readType choose kindOf
     type-other x y = sym (type-is ∙ rw (ne-eqb tag 16 x, ne-eqb tag 17 y))
 
-pub ends-kept : (next : ℕ) (r : Read) (l : List ℤ) → OneOf (0 ∷ []) (tagOf the-type r) → EndsAt next r l → Kept l
+pub ends-kept : (next : ℕ) (r : Read) (l : List ℤ) → OneOf (0 ∷ []) (tagOf the-type r) → FormEndsAt next r l → Kept l
 ends-kept next (Upto n) l h e = e .1
 ends-kept next (Refused n p) l h e = absurd (let z : _≡_ {A = ℕ} 1 0 = h in omega arith)
 
-pub size-many : (next : ℕ) (r : Read) (l : List ℤ) → OneOf (0 ∷ []) (tagOf the-type r) → good (quantum (asForm l)) ≡ sizeTold r l
-unfolding sizeTold
+pub size-many : (next : ℕ) (r : Read) (l : List ℤ) → OneOf (0 ∷ []) (tagOf the-type r) → good (quantum (asForm l)) ≡ checkedSizedType r l
+unfolding checkedSizedType
 size-many next (Upto n) l h = refl
 size-many next (Refused n p) l h = absurd (let z : _≡_ {A = ℕ} 1 0 = h in omega arith)
 
-pub size-refused : (n q : ℕ) (r : Read) (l : List ℤ) → r ≡ Refused n q → refused n q ≡ sizeTold r l
-unfolding sizeTold
-size-refused n q r l e = sym (ap (λ (x : Read). sizeTold x l) e)
+pub size-refused : (n q : ℕ) (r : Read) (l : List ℤ) → r ≡ Refused n q → refused n q ≡ checkedSizedType r l
+unfolding checkedSizedType
+size-refused n q r l e = sym (ap (λ (x : Read). checkedSizedType x l) e)
 
-pub row-stops : (r : Read) (count first row : ℕ) (kinds : List ℕ) (sizes : List (List ℤ)) (next : Kind → Checked (List Kind)) → OneOf (1 ∷ []) (tagOf the-type r) → rowsTold r count first kinds sizes ≡ (rowTold r row kinds sizes >>= next)
-unfolding rowsTold rowTold _>>=_
+pub row-stops : (r : Read) (count first row : ℕ) (kinds : List ℕ) (sizes : List (List ℤ)) (next : Kind → Checked (List Kind)) → OneOf (1 ∷ []) (tagOf the-type r) → checkedRows r count first kinds sizes ≡ (checkedRow r row kinds sizes >>= next)
+unfolding checkedRows checkedRow _>>=_
 row-stops (Upto n) count first row kinds sizes next h = not-first h
 row-stops (Refused n p) count first row kinds sizes next h = refl
 
-pub rows-stop : (r : Read) (count first : ℕ) (kinds : List ℕ) (sizes : List (List ℤ)) (next : List Kind → Checked (List Kind)) → OneOf (1 ∷ []) (tagOf the-type r) → rowsTold r count first kinds sizes ≡ (rowsTold r count first kinds sizes >>= next)
-unfolding rowsTold _>>=_
+pub rows-stop : (r : Read) (count first : ℕ) (kinds : List ℕ) (sizes : List (List ℤ)) (next : List Kind → Checked (List Kind)) → OneOf (1 ∷ []) (tagOf the-type r) → checkedRows r count first kinds sizes ≡ (checkedRows r count first kinds sizes >>= next)
+unfolding checkedRows _>>=_
 rows-stop (Upto n) count first kinds sizes next h = not-first h
 rows-stop (Refused n p) count first kinds sizes next h = refl
 
-module _ (s : C.Scope) (place n : ℕ) (p : List ℕ) (at to : ℕ) (r : Read) (row : ℕ) (kinds : List ℕ) (sizes : List (List ℤ)) (e : rowTold r row kinds sizes ≡ kindOf s (due readType (badType 4 place) (fieldsAt p at to))) where
+module _ (s : C.Scope) (parent n : ℕ) (program : List ℕ) (at to : ℕ) (r : Read) (row : ℕ) (kinds : List ℕ) (sizes : List (List ℤ)) (e : checkedRow r row kinds sizes ≡ kindOf s (due readType (badType 4 parent) (fieldsAt program at to))) where
   abbrev typesHere : Checked (List Kind)
-  typesHere = kindsOf s (typesOf place (suc n) (fieldsAt p at to))
+  typesHere = kindsOf s (typesOf parent (suc n) (fieldsAt program at to))
 
   abbrev typesAfter : Kind → Checked (List Kind)
-  typesAfter k = kindsOf s (typesOf place n (drop 1 (fieldsAt p at to))) >>= λ ks. good (k ∷ ks)
+  typesAfter k = kindsOf s (typesOf parent n (drop 1 (fieldsAt program at to))) >>= λ ks. good (k ∷ ks)
 
-  types-are : typesHere ≡ (rowTold r row kinds sizes >>= typesAfter)
+  types-are : typesHere ≡ (checkedRow r row kinds sizes >>= typesAfter)
   unfolding kindsOf typesOf
   types-are = ap (λ (c : Checked Kind). c >>= typesAfter) (sym e)
 
-  pub types-stop : (count first : ℕ) → OneOf (1 ∷ []) (tagOf the-type r) → rowsTold r count first kinds sizes ≡ typesHere
+  pub types-stop : (count first : ℕ) → OneOf (1 ∷ []) (tagOf the-type r) → checkedRows r count first kinds sizes ≡ typesHere
   types-stop count first h = row-stops r count first row kinds sizes typesAfter h ∙ sym types-are
 
-  pub types-go : (next : ℕ) → r ≡ Upto next → PastField p at to next → typesHere ≡ (kindsOf s (typesOf place n (fieldsAt p next to)) >>= λ ks. good (kindAt row kinds sizes ∷ ks))
-  unfolding rowTold _>>=_
+  pub types-go : (next : ℕ) → r ≡ Upto next → PastField program at to next → typesHere ≡ (kindsOf s (typesOf parent n (fieldsAt program next to)) >>= λ ks. good (kindAt row kinds sizes ∷ ks))
+  unfolding checkedRow _>>=_
   types-go next u v =
-      types-are ∙ ap (λ (x : Read). rowTold x row kinds sizes >>= typesAfter) u
-      ∙ ap (λ (fs : List Field). kindsOf s (typesOf place n fs) >>= λ ks. good (kindAt row kinds sizes ∷ ks)) (v .rest)
+      types-are ∙ ap (λ (x : Read). checkedRow x row kinds sizes >>= typesAfter) u
+      ∙ ap (λ (fs : List Field). kindsOf s (typesOf parent n fs) >>= λ ks. good (kindAt row kinds sizes ∷ ks)) (v .rest)
 
 -- the kinds so far, and one more
 pub more-kinds : (c : Checked (List Kind)) (first count j : ℕ) {k₀ : List ℕ} {s₀ : List (List ℤ)} {k₁ : List ℕ} {s₁ : List (List ℤ)} → Apart (first + j) 1 k₀ s₀ k₁ s₁
@@ -174,30 +176,30 @@ unfolding _>>=_ tabulated
 no-kinds (good ks) first kinds sizes = refl
 no-kinds (refused n p) first kinds sizes = refl
 
-pub all-kinds : (s : C.Scope) (place : ℕ) (fs : List Field) (ks : List Kind) → (kindsOf s (typesOf place 0 fs) >>= λ rest. good (ks ++ rest)) ≡ good ks
+pub all-kinds : (s : C.Scope) (parent : ℕ) (fs : List Field) (ks : List Kind) → (kindsOf s (typesOf parent 0 fs) >>= λ rest. good (ks ++ rest)) ≡ good ks
 unfolding kindsOf typesOf _>>=_
-all-kinds s place fs ks = ap good (append-nil ks)
+all-kinds s parent fs ks = ap good (append-nil ks)
   where
     append-nil : (xs : List Kind) → xs ++ [] ≡ xs
     append-nil [] = refl
     append-nil (x ∷ xs) = ap (λ (y : List Kind). x ∷ y) (append-nil xs)
 
-module _ (r : TypeRead) (n q : ℕ) (l : List ℤ) (row : ℕ) (kinds : List ℕ) (sizes : List (List ℤ)) (t : OperandTable kinds sizes) (h : row < 2295) where
-  pub typed-single : r ≡ Single n → rowTold (Upto n) row (set kinds row 0) sizes ≡ typeTold r l
-  unfolding rowTold typeTold kindBy
-  typed-single e = ap good (row-kind row kinds sizes t h 0) ∙ sym (ap (λ (x : TypeRead). typeTold x l) e)
+module _ (r : TypeRead) (n q : ℕ) (l : List ℤ) (row : ℕ) (kinds : List ℕ) (sizes : List (List ℤ)) (t : OperandTable kinds sizes) (h : row < tableRows) where
+  pub typed-single : (b : ℕ) → b ≡ numberOf Qubit → r ≡ Single n → checkedRow (Upto n) row (set kinds row b) sizes ≡ checkedType r l
+  unfolding checkedRow checkedType kindIn
+  typed-single b u e = ap good (row-kind row kinds sizes t h b ∙ numbered Qubit b _ u) ∙ sym (ap (λ (x : TypeRead). checkedType x l) e)
 
-  pub typed-many : (short : List ℤ) → r ≡ Many n → Short short → widened short ≡ l → rowTold (Upto n) row (set kinds row 1) (set sizes row short) ≡ typeTold r l
-  unfolding rowTold typeTold kindBy
-  typed-many short e k w = ap good (row-both row kinds sizes t h 1 short k ∙ ap (λ (x : List ℤ). quantum (asForm x)) w) ∙ sym (ap (λ (x : TypeRead). typeTold x l) e)
+  pub typed-many : (b : ℕ) → b ≡ numberOf Quantum → (short : List ℤ) → r ≡ Many n → Short short → widened short ≡ l → checkedRow (Upto n) row (set kinds row b) (set sizes row short) ≡ checkedType r l
+  unfolding checkedRow checkedType kindIn
+  typed-many b u short e k w = ap good (row-both row kinds sizes t h b short k ∙ numbered Quantum b _ u ∙ ap (λ (x : List ℤ). quantum (asForm x)) w) ∙ sym (ap (λ (x : TypeRead). checkedType x l) e)
 
-  pub typed-bad : r ≡ Bad n q → rowTold (Refused n q) row kinds sizes ≡ typeTold r l
-  unfolding rowTold typeTold
-  typed-bad e = sym (ap (λ (x : TypeRead). typeTold x l) e)
+  pub typed-bad : r ≡ Bad n q → checkedRow (Refused n q) row kinds sizes ≡ checkedType r l
+  unfolding checkedRow checkedType
+  typed-bad e = sym (ap (λ (x : TypeRead). checkedType x l) e)
 
-module _ (p : List ℕ) (at to : ℕ) (r : TypeRead) (l : List ℤ) (n : ℕ) (h : TypePast p at to r l) where
-  pub past-single : r ≡ Single n → PastField p at to n
+module _ (program : List ℕ) (at to : ℕ) (r : TypeRead) (l : List ℤ) (n : ℕ) (h : TypePasses program at to r l) where
+  pub past-single : r ≡ Single n → PastField program at to n
   past-single e = rw e at h
 
-  pub past-many : r ≡ Many n → PastField p at to n × Kept l
+  pub past-many : r ≡ Many n → PastField program at to n × Kept l
   past-many e = rw e at h

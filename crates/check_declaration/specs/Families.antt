@@ -1,11 +1,9 @@
 -- The two numbers of a family.
 use mathlib.Core.List.{List, [], _∷_}
-use mathlib.Core.Bool.{_&&_}
 use Prim.Native.Nat.{ℕ, _+_, _≤_, _<_}
-use lib.Dec.{leb, ltb}
 use Rattle.language.specs.Limits.{mostFamilies, mostVariables, mostParameters}
 use Rattle.language.specs.Tree.{Place, Number, number, missing}
-use Rattle.language.specs.Check.{Checked, good, refused, _>>=_, _>>_, require, checkNumber}
+use Rattle.language.specs.Check.{Checked, good, refused, checkCounts}
 use Rattle.check_declaration.specs.declared.Counts.{Counts}
 use Rattle.check_declaration.specs.declared.Counts.the-variants.{Both, Bad}
 
@@ -17,18 +15,18 @@ firstIn (m ∷ rest) = number m
 unfoldable pub secondIn : List ℕ → Number
 secondIn [] = missing
 secondIn (m ∷ []) = missing
-secondIn (m ∷ p ∷ rest) = number p
+secondIn (m ∷ n ∷ rest) = number n
 
--- the two numbers of a family, after so many families
-abbrev pub countsMeant : Place → ℕ → List ℕ → Checked (ℕ × ℕ)
-countsMeant q families content =
-    require 6 q (ltb families mostFamilies) >> (checkNumber q (firstIn content) >>= λ m. (require 6 q (leb m mostVariables) >> (checkNumber q (secondIn content) >>= λ p. (require 6 q (leb 1 p && leb p mostParameters) >> good (m, p)))))
+-- the two numbers of the family at p with this content, after so many families
+abbrev pub countsIn : Place → ℕ → List ℕ → Checked (ℕ × ℕ)
+countsIn p families content = checkCounts p families (firstIn content) (secondIn content)
 
-unfoldable pub countsTold : Counts → Checked (ℕ × ℕ)
-countsTold (Both m p) = good (m, p)
-countsTold (Bad n p) = refused n p
+-- what an answer on them stands for
+unfoldable pub checkedCounts : Counts → Checked (ℕ × ℕ)
+checkedCounts (Both m n) = good (m, n)
+checkedCounts (Bad r p) = refused r p
 
 -- the two numbers are within their limits, and stand in the field
 abbrev pub BothRight : ℕ → ℕ → ℕ → Counts → Type 0
-BothRight at next families (Both m p) = (m ≤ mostVariables) × (p ≤ mostParameters) × (families < mostFamilies) × (at + 5 ≤ next)
-BothRight at next families (Bad n p) = Unit {0}
+BothRight at next families (Both m n) = (m ≤ mostVariables) × (n ≤ mostParameters) × (families < mostFamilies) × (at + 5 ≤ next)
+BothRight at next families (Bad r p) = Unit {0}

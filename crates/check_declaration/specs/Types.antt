@@ -19,21 +19,21 @@ use Rattle.check_operand.specs.Tables.{kindAt, kindsAt}
 abbrev pub tableRows : ℕ
 tableRows = mostRegisters + mostFamilies * mostParameters
 
--- the kind that an answer on a type Qbit[I] and the form beside it tell
-unfoldable pub sizeTold : Read → List ℤ → Checked Kind
-sizeTold (Upto n) l = good (quantum (asForm l))
-sizeTold (Refused n p) l = refused n p
+-- what the answer on a type Qbit[I], with the form beside it, stands for
+unfoldable pub checkedSizedType : Read → List ℤ → Checked Kind
+checkedSizedType (Upto n) l = good (quantum (asForm l))
+checkedSizedType (Refused n p) l = refused n p
 
--- the kind that an answer on a parameter's type and the form beside it tell
-unfoldable pub typeTold : TypeRead → List ℤ → Checked Kind
-typeTold (Single n) l = good qubit
-typeTold (Many n) l = good (quantum (asForm l))
-typeTold (Bad n p) l = refused n p
+-- what the answer on a parameter's type, with the form beside it, stands for
+unfoldable pub checkedType : TypeRead → List ℤ → Checked Kind
+checkedType (Single n) l = good qubit
+checkedType (Many n) l = good (quantum (asForm l))
+checkedType (Bad n p) l = refused n p
 
-abbrev pub TypePast : List ℕ → ℕ → ℕ → TypeRead → List ℤ → Type 0
-TypePast program at to (Single n) l = PastField program at to n
-TypePast program at to (Many n) l = PastField program at to n × Kept l
-TypePast program at to (Bad n p) l = Unit {0}
+abbrev pub TypePasses : List ℕ → ℕ → ℕ → TypeRead → List ℤ → Type 0
+TypePasses program at to (Single n) l = PastField program at to n
+TypePasses program at to (Many n) l = PastField program at to n × Kept l
+TypePasses program at to (Bad n p) l = Unit {0}
 
 -- a kind and a size in each row
 pub record OperandTable (kinds : List ℕ) (sizes : List (List ℤ)) : Type 0 where
@@ -47,12 +47,12 @@ pub record Apart (first count : ℕ) (kinds : List ℕ) (sizes : List (List ℤ)
   pub below : (j : ℕ) → j < first → kindAt j kinds' sizes' ≡ kindAt j kinds sizes
   pub above : (j : ℕ) → first + count ≤ j → kindAt j kinds' sizes' ≡ kindAt j kinds sizes
 
--- the kind that an answer and a row tell
-unfoldable pub rowTold : Read → ℕ → List ℕ → List (List ℤ) → Checked Kind
-rowTold (Upto n) row kinds sizes = good (kindAt row kinds sizes)
-rowTold (Refused n p) row kinds sizes = refused n p
+-- what the answer on a parameter, with its row, stands for
+unfoldable pub checkedRow : Read → ℕ → List ℕ → List (List ℤ) → Checked Kind
+checkedRow (Upto n) row kinds sizes = good (kindAt row kinds sizes)
+checkedRow (Refused n p) row kinds sizes = refused n p
 
--- the kinds that an answer and so many rows tell
-unfoldable pub rowsTold : Read → (count first : ℕ) → List ℕ → List (List ℤ) → Checked (List Kind)
-rowsTold (Upto n) count first kinds sizes = good (kindsAt count first kinds sizes)
-rowsTold (Refused n p) count first kinds sizes = refused n p
+-- what the answer on parameters, with their rows, stands for
+unfoldable pub checkedRows : Read → (count first : ℕ) → List ℕ → List (List ℤ) → Checked (List Kind)
+checkedRows (Upto n) count first kinds sizes = good (kindsAt count first kinds sizes)
+checkedRows (Refused n p) count first kinds sizes = refused n p

@@ -7,31 +7,24 @@ ghost use lib.Seq.{slice};
 ghost use Rattle.language.specs.Tree.{badType};
 ghost use Rattle.language.specs.Read.{due, qbitsOf, readType, typesOf};
 ghost use Rattle.language.specs.Check.{Kind, Signature, kindOf, kindsOf};
-ghost use Rattle.language.specs.Limits.{mostWires, mostVariables};
+ghost use Rattle.language.specs.Limits.{mostVariables, furthest};
 ghost use Rattle.fields.specs.Header.{fieldsAt};
-ghost use Rattle.check_index.specs.Answers.{EndsAt, Passes, PastCount};
+ghost use Rattle.check_index.specs.Answers.{FormEndsAt, Passes, PassesCount};
 ghost use Rattle.check_operand.specs.Tables.{scopeWith};
-ghost use Rattle.check_declaration.specs.Registers.{numberTold, registerMeant, RegisterSet};
-ghost use Rattle.check_declaration.specs.Types.{sizeTold, typeTold, TypePast, OperandTable, Apart, rowTold, rowsTold, tableRows};
-ghost use Rattle.check_declaration.specs.Families.{countsTold, countsMeant, BothRight};
-use check_index::DEEPEST;
-use check_index::FORM_NUMBERS;
-use check_index::Form;
-use check_index::MOST_VARIABLES;
+ghost use Rattle.check_declaration.specs.Registers.{checkedRegister, registerIn, RegisterSet};
+ghost use Rattle.check_declaration.specs.Types.{checkedSizedType, checkedType, TypePasses, OperandTable, Apart, checkedRow, checkedRows, tableRows};
+ghost use Rattle.check_declaration.specs.Families.{checkedCounts, countsIn, BothRight};
 use check_index::Read;
-use check_index::SIZE_NUMBERS;
-use check_index::Size;
 use fields::Header;
-
-pub const MOST_FAMILIES: usize = 255;
-
-pub const MOST_REGISTERS: usize = 255;
-
-// Qubits, or bits, of a program.
-pub const MOST_WIRES: usize = 65_535;
-
-// Parameters of a family.
-pub const MOST_PARAMETERS: usize = 8;
+use forms::FORM_NUMBERS;
+use forms::Form;
+use forms::SIZE_NUMBERS;
+use forms::Size;
+use limits::DEEPEST;
+use limits::MOST_FAMILIES;
+use limits::MOST_PARAMETERS;
+use limits::MOST_REGISTERS;
+use limits::MOST_VARIABLES;
 
 // The rows of the table of operands: one for each register, and then those of the families' parameters, as they come.
 pub const TABLE_ROWS: usize = MOST_REGISTERS + MOST_FAMILIES * MOST_PARAMETERS;
@@ -53,8 +46,8 @@ pub enum Counts {
 fn sized_type(program: &[u8], at: usize, next: usize, m: usize, f: &mut Form) -> Read
     requires { ⌜ (at + 3 ≤ next) × (next ≤ length (now program)) ⌝ }
     requires { ⌜ m ≤ mostVariables ⌝ }
-    ensures { λ r. ⌜ ((fs : List Signature) (ks : List Kind) → sizeTold r (now (f .exit)) ≡ kindOf (scopeWith fs ks m []) (qbitsOf at (fieldsAt (now (program .entry)) (at + 3) next))) ⌝ }
-    ensures { λ r. ⌜ EndsAt next r (now (f .exit)) ⌝ }
+    ensures { λ r. ⌜ ((fs : List Signature) (ks : List Kind) → checkedSizedType r (now (f .exit)) ≡ kindOf (scopeWith fs ks m []) (qbitsOf at (fieldsAt (now (program .entry)) (at + 3) next))) ⌝ }
+    ensures { λ r. ⌜ FormEndsAt next r (now (f .exit)) ⌝ }
 {
     let from = at + 3;
     let r = check_index::index(program, from, next, at, DEEPEST, m, f);
@@ -73,22 +66,22 @@ fn sized_type(program: &[u8], at: usize, next: usize, m: usize, f: &mut Form) ->
     Read::Upto(next)
 }
 
-// The type that is due at `at` in the family at `place` of m index variables, whose content ends at `to`; its size goes to f.
+// The type that is due at `at` in the family at `parent` of m index variables, whose content ends at `to`; its size goes to f.
 fn parameter_type(
     program: &[u8],
     at: usize,
     to: usize,
-    place: usize,
+    parent: usize,
     m: usize,
     f: &mut Form,
 ) -> TypeRead
     requires { ⌜ to ≤ length (now program) ⌝ }
     requires { ⌜ m ≤ mostVariables ⌝ }
-    ensures { λ r. ⌜ ((fs : List Signature) (ks : List Kind) → typeTold r (now (f .exit)) ≡ kindOf (scopeWith fs ks m []) (due readType (badType 4 place) (fieldsAt (now (program .entry)) at to))) ⌝ }
-    ensures { λ r. ⌜ TypePast (now (program .entry)) at to r (now (f .exit)) ⌝ }
+    ensures { λ r. ⌜ ((fs : List Signature) (ks : List Kind) → checkedType r (now (f .exit)) ≡ kindOf (scopeWith fs ks m []) (due readType (badType 4 parent) (fieldsAt (now (program .entry)) at to))) ⌝ }
+    ensures { λ r. ⌜ TypePasses (now (program .entry)) at to r (now (f .exit)) ⌝ }
 {
     match fields::header_at(program, at, to) {
-        Header::End => TypeRead::Bad(4, place),
+        Header::End => TypeRead::Bad(4, parent),
         Header::Cut => TypeRead::Bad(2, at),
         Header::Whole(tag, next) => {
             let from = at + 3;
@@ -109,12 +102,12 @@ fn parameter_type(
     }
 }
 
-// The type that is due at `at` in the family at `place` of m index variables, put into a row of the tables.
+// The type that is due at `at` in the family at `parent` of m index variables, put into a row of the tables.
 fn typed_row(
     program: &[u8],
     at: usize,
     to: usize,
-    place: usize,
+    parent: usize,
     m: usize,
     row: usize,
     kinds: &mut [u8],
@@ -124,20 +117,20 @@ fn typed_row(
     requires { ⌜ m ≤ mostVariables ⌝ }
     requires { ⌜ row < tableRows ⌝ }
     requires { ⌜ OperandTable (now kinds) (now sizes) ⌝ }
-    ensures { λ r. ⌜ ((fs : List Signature) (ks : List Kind) → rowTold r row (now (kinds .exit)) (now (sizes .exit)) ≡ kindOf (scopeWith fs ks m []) (due readType (badType 4 place) (fieldsAt (now (program .entry)) at to))) ⌝ }
+    ensures { λ r. ⌜ ((fs : List Signature) (ks : List Kind) → checkedRow r row (now (kinds .exit)) (now (sizes .exit)) ≡ kindOf (scopeWith fs ks m []) (due readType (badType 4 parent) (fieldsAt (now (program .entry)) at to))) ⌝ }
     ensures { λ r. ⌜ Passes (now (program .entry)) at to r ⌝ }
     ensures { λ _. ⌜ Apart row 1 (now (kinds .entry)) (now (sizes .entry)) (now (kinds .exit)) (now (sizes .exit)) ⌝ }
 {
     let mut f = [0i64; FORM_NUMBERS];
-    match parameter_type(program, at, to, place, m, &mut f) {
+    match parameter_type(program, at, to, parent, m, &mut f) {
         TypeRead::Single(next) => {
-            kinds[row] = check_operand::QUBIT;
+            kinds[row] = kinds::number(kinds::Kind::Qubit);
             Read::Upto(next)
         }
         TypeRead::Many(next) => {
             let mut size = [0i64; SIZE_NUMBERS];
             forms::store(&mut size, &f);
-            kinds[row] = check_operand::QUANTUM;
+            kinds[row] = kinds::number(kinds::Kind::Quantum);
             sizes[row] = size;
             Read::Upto(next)
         }
@@ -145,12 +138,12 @@ fn typed_row(
     }
 }
 
-// The types of the `count` parameters of the family at `place`, from `at` on, put into the rows from `first` on.
+// The types of the `count` parameters of the family at `parent`, from `at` on, put into the rows from `first` on.
 pub fn parameter_types(
     program: &[u8],
     at: usize,
     to: usize,
-    place: usize,
+    parent: usize,
     m: usize,
     count: usize,
     first: usize,
@@ -161,14 +154,14 @@ pub fn parameter_types(
     requires { ⌜ m ≤ mostVariables ⌝ }
     requires { ⌜ first + count ≤ tableRows ⌝ }
     requires { ⌜ OperandTable (now kinds) (now sizes) ⌝ }
-    ensures { λ r. ⌜ ((fs : List Signature) (ks : List Kind) → rowsTold r count first (now (kinds .exit)) (now (sizes .exit)) ≡ kindsOf (scopeWith fs ks m []) (typesOf place count (fieldsAt (now (program .entry)) at to))) ⌝ }
-    ensures { λ r. ⌜ PastCount (now (program .entry)) at to count r ⌝ }
+    ensures { λ r. ⌜ ((fs : List Signature) (ks : List Kind) → checkedRows r count first (now (kinds .exit)) (now (sizes .exit)) ≡ kindsOf (scopeWith fs ks m []) (typesOf parent count (fieldsAt (now (program .entry)) at to))) ⌝ }
+    ensures { λ r. ⌜ PassesCount (now (program .entry)) at to count r ⌝ }
     ensures { λ _. ⌜ Apart first count (now (kinds .entry)) (now (sizes .entry)) (now (kinds .exit)) (now (sizes .exit)) ⌝ }
 {
     let mut from = at;
     for j in 0..count {
         let row = first + j;
-        let r = typed_row(program, from, to, place, m, row, kinds, sizes);
+        let r = typed_row(program, from, to, parent, m, row, kinds, sizes);
         let Read::Upto(next) = r else {
             return r;
         };
@@ -180,7 +173,7 @@ pub fn parameter_types(
 // The two numbers of the family at `at`, whose field ends at `next`, after so many families.
 pub fn family_counts(program: &[u8], at: usize, next: usize, families: usize) -> Counts
     requires { ⌜ (at + 3 ≤ next) × (next ≤ length (now program)) ⌝ }
-    ensures { λ r. ⌜ countsTold r ≡ countsMeant at families (slice (at + 3) next (now (program .entry))) ⌝ }
+    ensures { λ r. ⌜ checkedCounts r ≡ countsIn at families (slice (at + 3) next (now (program .entry))) ⌝ }
     ensures { λ r. ⌜ BothRight at next families r ⌝ }
 {
     if MOST_FAMILIES <= families {
@@ -198,21 +191,29 @@ pub fn family_counts(program: &[u8], at: usize, next: usize, families: usize) ->
     if next <= second {
         return Counts::Bad(4, at);
     }
-    let p = fields::wide(program[second]);
-    if p == 0 {
+    let n = fields::wide(program[second]);
+    if n == 0 {
         return Counts::Bad(6, at);
     }
-    if MOST_PARAMETERS < p {
+    if MOST_PARAMETERS < n {
         return Counts::Bad(6, at);
     }
-    Counts::Both(m, p)
+    Counts::Both(m, n)
 }
 
-// The size of the register at `at`, whose field ends at `next`, after `count` registers with `total` qubits or bits.
-fn register_size(program: &[u8], at: usize, next: usize, count: usize, total: usize) -> Read
+// The size of the register at `at`, whose field ends at `next`, after `count` registers with `total` qubits or bits, of which there may be at most `most`.
+fn register_size(
+    program: &[u8],
+    at: usize,
+    next: usize,
+    count: usize,
+    total: usize,
+    most: usize,
+) -> Read
     requires { ⌜ (at + 3 ≤ next) × (next ≤ length (now program)) ⌝ }
-    requires { ⌜ total ≤ mostWires ⌝ }
-    ensures { λ r. ⌜ numberTold r ≡ registerMeant at count total (slice (at + 3) next (now (program .entry))) ⌝ }
+    requires { ⌜ total ≤ most ⌝ }
+    requires { ⌜ most ≤ furthest ⌝ }
+    ensures { λ r. ⌜ checkedRegister r ≡ registerIn at count total most (slice (at + 3) next (now (program .entry))) ⌝ }
 {
     if MOST_REGISTERS <= count {
         return Read::Refused(6, at);
@@ -222,7 +223,7 @@ fn register_size(program: &[u8], at: usize, next: usize, count: usize, total: us
         return Read::Refused(4, at);
     }
     let n = fields::two_bytes(program, from);
-    if MOST_WIRES < total + n {
+    if most < total + n {
         return Read::Refused(7, at);
     }
     if next - from != 2 {
@@ -231,24 +232,26 @@ fn register_size(program: &[u8], at: usize, next: usize, count: usize, total: us
     Read::Upto(n)
 }
 
-// The register of a kind at `at`, whose field ends at `next`, after `count` registers with `total` qubits or bits, put into its row.
+// The register of a kind at `at`, put into its row; the rest is as for its size.
 pub fn register(
     program: &[u8],
     at: usize,
     next: usize,
-    kind: u8,
+    kind: kinds::Kind,
     count: usize,
     total: usize,
+    most: usize,
     kinds: &mut [u8],
     sizes: &mut [Size],
 ) -> Read
     requires { ⌜ (at + 3 ≤ next) × (next ≤ length (now program)) ⌝ }
-    requires { ⌜ total ≤ mostWires ⌝ }
+    requires { ⌜ total ≤ most ⌝ }
+    requires { ⌜ most ≤ furthest ⌝ }
     requires { ⌜ OperandTable (now kinds) (now sizes) ⌝ }
-    ensures { λ r. ⌜ numberTold r ≡ registerMeant at count total (slice (at + 3) next (now (program .entry))) ⌝ }
-    ensures { λ r. ⌜ RegisterSet r kind count total (now (kinds .entry)) (now (sizes .entry)) (now (kinds .exit)) (now (sizes .exit)) ⌝ }
+    ensures { λ r. ⌜ checkedRegister r ≡ registerIn at count total most (slice (at + 3) next (now (program .entry))) ⌝ }
+    ensures { λ r. ⌜ RegisterSet r kind count total most (now (kinds .entry)) (now (sizes .entry)) (now (kinds .exit)) (now (sizes .exit)) ⌝ }
 {
-    let r = register_size(program, at, next, count, total);
+    let r = register_size(program, at, next, count, total, most);
     let Read::Upto(size) = r else {
         return r;
     };
@@ -256,7 +259,7 @@ pub fn register(
     forms::set_constant(&mut f, size as i64);
     let mut short = [0i64; SIZE_NUMBERS];
     forms::store(&mut short, &f);
-    kinds[count] = kind;
+    kinds[count] = kinds::number(kind);
     sizes[count] = short;
     Read::Upto(size)
 }

@@ -20,14 +20,14 @@ use Rattle.fields.specs.Header.{fieldsAt}
 use Rattle.fields.proofs.Reading.{Wholly}
 use Rattle.forms.specs.Flat.{asForm, builtOf}
 use Rattle.check_index.proofs.Read.{the-type}
-use Rattle.check_index.specs.Indexes.{readerOf, IndexSays, scopeOf, treeOperation}
-use Rattle.check_index.specs.Answers.{formTold, PastField}
+use Rattle.check_index.specs.Indexes.{indexReader, IndexSays, scopeOf, treeOperation}
+use Rattle.check_index.specs.Answers.{checkedForm, PastField}
 use Rattle.check_index.specs.declared.Operation.{Operation}
 use Rattle.check_index.specs.declared.IndexTag.{IndexTag}
 use Rattle.check_index.specs.declared.IndexTag.the-variants.{Both}
 use Rattle.check_index.specs.declared.Read.{Read}
 use Rattle.check_index.specs.declared.Read.the-variants.{Upto, Refused}
-use Rattle.check_index.proofs.Answers.{told-then, told-stop, drop-two, more-left, none-left}
+use Rattle.check_index.proofs.Answers.{checked-then, checked-stop, drop-two, more-left, none-left}
 use Rattle.language.specs.Tree as T
 
 -- past the deepest level
@@ -81,26 +81,26 @@ module _ (p n v : ℕ) (l more : List ℕ) (e : l ≡ (v ∷ more)) where
   unfolding require _>>_ noLeftover ending
   variable-good h k = sym (read-is ∙ rw (add-zero n, lt-ltb v n h, k))
 
-pub made : (p next : ℕ) (l : List ℤ) {t : Bool} {b : Built} → builtOf t l ≡ b → t ≡ true → formTold (Upto next) l ≡ inForm p b
-unfolding formTold inForm
+pub made : (p next : ℕ) (l : List ℤ) {t : Bool} {b : Built} → builtOf t l ≡ b → t ≡ true → checkedForm (Upto next) l ≡ inForm p b
+unfolding checkedForm inForm
 made p next l e q = ap (λ (t : Bool). inForm p (builtOf t l)) (sym q) ∙ ap (inForm p) e
 
-pub unmade : (p : ℕ) (l m : List ℤ) {t : Bool} {b : Built} → builtOf t l ≡ b → t ≡ false → formTold (Refused 11 p) m ≡ inForm p b
-unfolding formTold inForm
+pub unmade : (p : ℕ) (l m : List ℤ) {t : Bool} {b : Built} → builtOf t l ≡ b → t ≡ false → checkedForm (Refused 11 p) m ≡ inForm p b
+unfolding checkedForm inForm
 unmade p l m e q = ap (λ (t : Bool). inForm p (builtOf t l)) (sym q) ∙ ap (inForm p) e
 
-module _ (p : List ℕ) (at to place levels n : ℕ) where
+module _ (program : List ℕ) (at to parent levels n : ℕ) where
   abbrev pub meant : Checked Form
-  meant = formOf (scopeOf n) (due (readIndex levels) (badIndex 4 place) (fieldsAt p at to))
+  meant = formOf (scopeOf n) (due (readIndex levels) (badIndex 4 parent) (fieldsAt program at to))
 
-  due-by : {fs : List Field} → fieldsAt p at to ≡ fs → meant ≡ formOf (scopeOf n) (due (readIndex levels) (badIndex 4 place) fs)
-  due-by e = ap (λ (fs : List Field). formOf (scopeOf n) (due (readIndex levels) (badIndex 4 place) fs)) e
+  due-by : {fs : List Field} → fieldsAt program at to ≡ fs → meant ≡ formOf (scopeOf n) (due (readIndex levels) (badIndex 4 parent) fs)
+  due-by e = ap (λ (fs : List Field). formOf (scopeOf n) (due (readIndex levels) (badIndex 4 parent) fs)) e
 
-  pub index-end : fieldsAt p at to ≡ [] → refused 4 place ≡ meant
+  pub index-end : fieldsAt program at to ≡ [] → refused 4 parent ≡ meant
   unfolding due formOf
   index-end e = sym (due-by e)
 
-  pub index-cut : fieldsAt p at to ≡ (badHeader at ∷ []) → refused 2 at ≡ meant
+  pub index-cut : fieldsAt program at to ≡ (badHeader at ∷ []) → refused 2 at ≡ meant
   unfolding due formOf readIndex deepIndex indexBy
   index-cut e = sym (due-by e ∙ by levels)
     where
@@ -108,25 +108,25 @@ module _ (p : List ℕ) (at to place levels n : ℕ) where
       by zero = refl
       by (suc k) = refl
 
-  module _ (tag next : ℕ) (w : Wholly p at to tag next) where
-    pub index-deep : (r : ℕ) → badIndex r at ≡ deepIndex (field at tag (slice (at + 3) next p)) → levels ≡ 0 → refused r at ≡ meant
+  module _ (tag next : ℕ) (w : Wholly program at to tag next) where
+    pub index-deep : (r : ℕ) → badIndex r at ≡ deepIndex (field at tag (slice (at + 3) next program)) → levels ≡ 0 → refused r at ≡ meant
     unfolding due formOf readIndex
     index-deep r e z =
-        sym (due-by (w .first) ∙ ap (λ (k : ℕ). formOf (scopeOf n) (readIndex k (field at tag (slice (at + 3) next p)))) z ∙ ap (formOf (scopeOf n)) (sym e))
+        sym (due-by (w .first) ∙ ap (λ (k : ℕ). formOf (scopeOf n) (readIndex k (field at tag (slice (at + 3) next program)))) z ∙ ap (formOf (scopeOf n)) (sym e))
 
-    pub index-acts : (k : IndexTag) → (levels ≡ 0 → ⊥) → (i : IndexTag) → IndexSays tag i → i ≡ k → formOf (scopeOf n) (readerOf (readIndex (levels - 1)) k at (slice (at + 3) next p)) ≡ meant
+    pub index-acts : (k : IndexTag) → (levels ≡ 0 → ⊥) → (i : IndexTag) → IndexSays tag i → i ≡ k → formOf (scopeOf n) (indexReader (readIndex (levels - 1)) k at (slice (at + 3) next program)) ≡ meant
     unfolding due readIndex
     index-acts k z i says e = sym (due-by (w .first) ∙ by levels z)
       where
-        by : (m : ℕ) → (m ≡ 0 → ⊥) → formOf (scopeOf n) (readIndex m (field at tag (slice (at + 3) next p))) ≡ formOf (scopeOf n) (readerOf (readIndex (m - 1)) k at (slice (at + 3) next p))
+        by : (m : ℕ) → (m ≡ 0 → ⊥) → formOf (scopeOf n) (readIndex m (field at tag (slice (at + 3) next program))) ≡ formOf (scopeOf n) (indexReader (readIndex (m - 1)) k at (slice (at + 3) next program))
         by zero z = absurd (z refl)
         by (suc m) z =
             let q : suc m - 1 ≡ m = omega arith in
-            rw q (ap (formOf (scopeOf n)) (says (readIndex m) at (slice (at + 3) next p)) ∙ ap (λ (j : IndexTag). formOf (scopeOf n) (readerOf (readIndex m) j at (slice (at + 3) next p))) e)
+            rw q (ap (formOf (scopeOf n)) (says (readIndex m) at (slice (at + 3) next program)) ∙ ap (λ (j : IndexTag). formOf (scopeOf n) (indexReader (readIndex m) j at (slice (at + 3) next program))) e)
 
-module _ (p : List ℕ) (at next n below : ℕ) (o : Operation) where
+module _ (program : List ℕ) (at next n below : ℕ) (o : Operation) where
   abbrev pub both : Checked Form
-  both = formOf (scopeOf n) (readerOf (readIndex below) (Both o) at (slice (at + 3) next p))
+  both = formOf (scopeOf n) (indexReader (readIndex below) (Both o) at (slice (at + 3) next program))
 
   abbrev side : List Field → Checked Form
   side fs = formOf (scopeOf n) (due (readIndex below) (badIndex 4 at) fs)
@@ -134,44 +134,44 @@ module _ (p : List ℕ) (at next n below : ℕ) (o : Operation) where
   abbrev after : List Field → List Field → Form → Checked Form
   after fs gs f = side fs >>= λ g. (noLeftover at (ending gs) >> combined at (treeOperation o) f g)
 
-  both-is : both ≡ (side (fieldsAt p (at + 3) next) >>= after (drop 1 (fieldsAt p (at + 3) next)) (drop 2 (fieldsAt p (at + 3) next)))
+  both-is : both ≡ (side (fieldsAt program (at + 3) next) >>= after (drop 1 (fieldsAt program (at + 3) next)) (drop 2 (fieldsAt program (at + 3) next)))
   unfolding formOf operationOf fieldsAt
   both-is = refl
 
-  module _ (r : Read) (l : List ℤ) (partTold : formTold r l ≡ side (fieldsAt p (at + 3) next)) where
-    pub both-left : OneOf (1 ∷ []) (tagOf the-type r) → formTold r l ≡ both
+  module _ (r : Read) (l : List ℤ) (checkedPart : checkedForm r l ≡ side (fieldsAt program (at + 3) next)) where
+    pub both-left : OneOf (1 ∷ []) (tagOf the-type r) → checkedForm r l ≡ both
     both-left h =
-        told-stop r l l (after (drop 1 (fieldsAt p (at + 3) next)) (drop 2 (fieldsAt p (at + 3) next))) h
-        ∙ ap (λ (c : Checked Form). c >>= after (drop 1 (fieldsAt p (at + 3) next)) (drop 2 (fieldsAt p (at + 3) next))) partTold
+        checked-stop r l l (after (drop 1 (fieldsAt program (at + 3) next)) (drop 2 (fieldsAt program (at + 3) next))) h
+        ∙ ap (λ (c : Checked Form). c >>= after (drop 1 (fieldsAt program (at + 3) next)) (drop 2 (fieldsAt program (at + 3) next))) checkedPart
         ∙ sym both-is
 
-    module _ (mid : ℕ) (e : r ≡ Upto mid) (w : PastField p (at + 3) next mid) where
-      both-mid : both ≡ after (fieldsAt p mid next) (drop 1 (fieldsAt p mid next)) (asForm l)
+    module _ (mid : ℕ) (e : r ≡ Upto mid) (w : PastField program (at + 3) next mid) where
+      both-mid : both ≡ after (fieldsAt program mid next) (drop 1 (fieldsAt program mid next)) (asForm l)
       both-mid =
           both-is
-          ∙ ap (λ (c : Checked Form). c >>= after (drop 1 (fieldsAt p (at + 3) next)) (drop 2 (fieldsAt p (at + 3) next))) (sym partTold)
-          ∙ told-then r l mid (after (drop 1 (fieldsAt p (at + 3) next)) (drop 2 (fieldsAt p (at + 3) next))) e
-          ∙ (λ j. after (w .rest j) ((drop-two (fieldsAt p (at + 3) next) ∙ ap (drop 1) (w .rest)) j) (asForm l))
+          ∙ ap (λ (c : Checked Form). c >>= after (drop 1 (fieldsAt program (at + 3) next)) (drop 2 (fieldsAt program (at + 3) next))) (sym checkedPart)
+          ∙ checked-then r l mid (after (drop 1 (fieldsAt program (at + 3) next)) (drop 2 (fieldsAt program (at + 3) next))) e
+          ∙ (λ j. after (w .rest j) ((drop-two (fieldsAt program (at + 3) next) ∙ ap (drop 1) (w .rest)) j) (asForm l))
 
-      module _ (s : Read) (k : List ℤ) (tells : formTold s k ≡ side (fieldsAt p mid next)) where
-        pub both-right : (m : List ℤ) → OneOf (1 ∷ []) (tagOf the-type s) → formTold s m ≡ both
+      module _ (s : Read) (k : List ℤ) (tells : checkedForm s k ≡ side (fieldsAt program mid next)) where
+        pub both-right : (m : List ℤ) → OneOf (1 ∷ []) (tagOf the-type s) → checkedForm s m ≡ both
         both-right m h =
-            told-stop s k m (λ g. noLeftover at (ending (drop 1 (fieldsAt p mid next))) >> combined at (treeOperation o) (asForm l) g) h
-            ∙ ap (λ (c : Checked Form). c >>= λ g. (noLeftover at (ending (drop 1 (fieldsAt p mid next))) >> combined at (treeOperation o) (asForm l) g)) tells
+            checked-stop s k m (λ g. noLeftover at (ending (drop 1 (fieldsAt program mid next))) >> combined at (treeOperation o) (asForm l) g) h
+            ∙ ap (λ (c : Checked Form). c >>= λ g. (noLeftover at (ending (drop 1 (fieldsAt program mid next))) >> combined at (treeOperation o) (asForm l) g)) tells
             ∙ sym both-mid
 
-        module _ (end : ℕ) (d : s ≡ Upto end) (v : PastField p mid next end) where
-          both-end : both ≡ (noLeftover at (ending (fieldsAt p end next)) >> combined at (treeOperation o) (asForm l) (asForm k))
+        module _ (end : ℕ) (d : s ≡ Upto end) (v : PastField program mid next end) where
+          both-end : both ≡ (noLeftover at (ending (fieldsAt program end next)) >> combined at (treeOperation o) (asForm l) (asForm k))
           both-end =
               both-mid
-              ∙ ap (λ (c : Checked Form). c >>= λ g. (noLeftover at (ending (drop 1 (fieldsAt p mid next))) >> combined at (treeOperation o) (asForm l) g)) (sym tells)
-              ∙ told-then s k end (λ g. noLeftover at (ending (drop 1 (fieldsAt p mid next))) >> combined at (treeOperation o) (asForm l) g) d
+              ∙ ap (λ (c : Checked Form). c >>= λ g. (noLeftover at (ending (drop 1 (fieldsAt program mid next))) >> combined at (treeOperation o) (asForm l) g)) (sym tells)
+              ∙ checked-then s k end (λ g. noLeftover at (ending (drop 1 (fieldsAt program mid next))) >> combined at (treeOperation o) (asForm l) g) d
               ∙ ap (λ (fs : List Field). noLeftover at (ending fs) >> combined at (treeOperation o) (asForm l) (asForm k)) (v .rest)
 
-          pub both-leftover : end < next → next ≤ length p → refused 4 at ≡ both
+          pub both-leftover : end < next → next ≤ length program → refused 4 at ≡ both
           unfolding noLeftover _>>_
-          both-leftover h q = sym (both-end ∙ ap (λ (x : T.Ending). noLeftover at x >> combined at (treeOperation o) (asForm l) (asForm k)) (more-left p end next h q))
+          both-leftover h q = sym (both-end ∙ ap (λ (x : T.Ending). noLeftover at x >> combined at (treeOperation o) (asForm l) (asForm k)) (more-left program end next h q))
 
           pub both-good : next ≤ end → combined at (treeOperation o) (asForm l) (asForm k) ≡ both
           unfolding noLeftover _>>_
-          both-good h = sym (both-end ∙ ap (λ (x : T.Ending). noLeftover at x >> combined at (treeOperation o) (asForm l) (asForm k)) (none-left p end next h))
+          both-good h = sym (both-end ∙ ap (λ (x : T.Ending). noLeftover at x >> combined at (treeOperation o) (asForm l) (asForm k)) (none-left program end next h))

@@ -1,4 +1,4 @@
--- What an answer of the check stands for: what it tells, and how far it goes.
+-- What the answers of the check stand for, and how far the fields are read then.
 use mathlib.Core.Path.{_≡_}
 use mathlib.Core.List.{List}
 use Prim.Native.Nat.{ℕ, _+_, _≤_}
@@ -11,25 +11,25 @@ use Rattle.forms.specs.Flat.{Kept, asForm}
 use Rattle.check_index.specs.declared.Read.{Read}
 use Rattle.check_index.specs.declared.Read.the-variants.{Upto, Refused}
 
--- what an answer tells
-unfoldable pub partTold : Read → Checked (Unit {0})
-partTold (Upto n) = good tt
-partTold (Refused n p) = refused n p
+-- what the answer on a part stands for
+unfoldable pub checkedPart : Read → Checked (Unit {0})
+checkedPart (Upto n) = good tt
+checkedPart (Refused n p) = refused n p
 
--- an answer that goes on does so at `next`
-abbrev pub Upon : ℕ → Read → Type 0
-Upon next (Upto n) = n ≡ next
-Upon next (Refused n p) = Unit {0}
+-- a part that is right ends at `next`
+abbrev pub EndsAt : ℕ → Read → Type 0
+EndsAt next (Upto n) = n ≡ next
+EndsAt next (Refused n p) = Unit {0}
 
--- what an answer and the form beside it tell
-unfoldable pub formTold : Read → List ℤ → Checked Form
-formTold (Upto n) l = good (asForm l)
-formTold (Refused n p) l = refused n p
+-- what the answer on an index, with the form beside it, stands for
+unfoldable pub checkedForm : Read → List ℤ → Checked Form
+checkedForm (Upto n) l = good (asForm l)
+checkedForm (Refused n p) l = refused n p
 
--- an answer that goes on does so at `next`, with a form
-abbrev pub EndsAt : ℕ → Read → List ℤ → Type 0
-EndsAt next (Upto n) l = (n ≡ next) × Kept l
-EndsAt next (Refused n p) l = Unit {0}
+-- an index that is right ends at `next`, and its form is beside the answer
+abbrev pub FormEndsAt : ℕ → Read → List ℤ → Type 0
+FormEndsAt next (Upto n) l = (n ≡ next) × Kept l
+FormEndsAt next (Refused n p) l = Unit {0}
 
 -- past the first of the fields from `at` to `to`
 pub record PastField (program : List ℕ) (at to next : ℕ) : Type 0 where
@@ -37,10 +37,12 @@ pub record PastField (program : List ℕ) (at to next : ℕ) : Type 0 where
   pub low : at + 3 ≤ next
   pub high : next ≤ to
 
-abbrev pub Past : List ℕ → ℕ → ℕ → Read → List ℤ → Type 0
-Past program at to (Upto n) l = PastField program at to n × Kept l
-Past program at to (Refused n p) l = Unit {0}
+-- an index that is right is the first of the fields from `at` to `to`
+abbrev pub FormPasses : List ℕ → ℕ → ℕ → Read → List ℤ → Type 0
+FormPasses program at to (Upto n) l = PastField program at to n × Kept l
+FormPasses program at to (Refused n p) l = Unit {0}
 
+-- a part that is right is the first of them
 abbrev pub Passes : List ℕ → ℕ → ℕ → Read → Type 0
 Passes program at to (Upto n) = PastField program at to n
 Passes program at to (Refused n p) = Unit {0}
@@ -50,6 +52,7 @@ pub record Beyond (program : List ℕ) (at to count next : ℕ) : Type 0 where
   pub rest : drop count (fieldsAt program at to) ≡ fieldsAt program next to
   pub low : at ≤ next
 
-abbrev pub PastCount : List ℕ → ℕ → ℕ → ℕ → Read → Type 0
-PastCount program at to count (Upto n) = Beyond program at to count n
-PastCount program at to count (Refused n p) = Unit {0}
+-- parts that are right are the first of them, so many
+abbrev pub PassesCount : List ℕ → ℕ → ℕ → ℕ → Read → Type 0
+PassesCount program at to count (Upto n) = Beyond program at to count n
+PassesCount program at to count (Refused n p) = Unit {0}

@@ -1,8 +1,7 @@
 -- What the code's tags, operations and counts of variables stand for.
 use mathlib.Core.Path.{_≡_}
 use mathlib.Core.List.{List, []}
-use Prim.Native.Nat.{ℕ, _+_}
-use Rattle.language.specs.Limits.{allVariables}
+use Prim.Native.Nat.{ℕ}
 use Rattle.language.specs.Tree.{Index, badIndex}
 use Rattle.language.specs.Read.{Field, field, Reader, ofFields, readLiteral, readVariable, operationOf, indexBy}
 use Rattle.language.specs.Check.{Scope}
@@ -12,25 +11,21 @@ use Rattle.check_index.specs.declared.IndexTag.{IndexTag}
 use Rattle.check_index.specs.declared.IndexTag.the-variants.{Literal, Variable, Both, Other}
 use Rattle.language.specs.Tree as T
 
--- the numbers of a form: the constant, and a coefficient for each variable
-abbrev pub formNumbers : ℕ
-formNumbers = allVariables + 1
-
 unfoldable pub treeOperation : Operation → T.Operation
 treeOperation Sum = T.sum
 treeOperation Difference = T.difference
 treeOperation Product = T.product
 
 -- how the content of an index field is read, by what its tag says
-abbrev pub readerOf : (Field → Index) → IndexTag → Reader Index
-readerOf part Literal = readLiteral
-readerOf part Variable = readVariable
-readerOf part (Both o) = ofFields (operationOf part (treeOperation o))
-readerOf part Other = λ q rest. badIndex 3 q
+abbrev pub indexReader : (Field → Index) → IndexTag → Reader Index
+indexReader part Literal = readLiteral
+indexReader part Variable = readVariable
+indexReader part (Both o) = ofFields (operationOf part (treeOperation o))
+indexReader part Other = λ q rest. badIndex 3 q
 
 -- a tag says this of an index field
 abbrev pub IndexSays : ℕ → IndexTag → Type 0
-IndexSays tag k = (part : Field → Index) (p : ℕ) (content : List ℕ) → indexBy part (field p tag content) ≡ readerOf part k p content
+IndexSays tag k = (part : Field → Index) (p : ℕ) (content : List ℕ) → indexBy part (field p tag content) ≡ indexReader part k p content
 
 -- a scope with so many index variables; forms ask no more of a scope
 unfoldable pub scopeOf : ℕ → Scope

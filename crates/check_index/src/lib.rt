@@ -11,31 +11,11 @@ ghost use Rattle.language.specs.Limits.{allVariables};
 ghost use Rattle.fields.specs.Header.{fieldsAt};
 ghost use Rattle.forms.specs.Flat.{Kept, asForm};
 ghost use Rattle.check_index.specs.Indexes.{IndexSays, treeOperation, scopeOf};
-ghost use Rattle.check_index.specs.Answers.{formTold, EndsAt, Past};
+ghost use Rattle.check_index.specs.Answers.{checkedForm, FormEndsAt, FormPasses};
 use fields::Header;
+use forms::FORM_NUMBERS;
+use forms::Form;
 use forms::Product;
-
-// Index variables of a family.
-pub const MOST_VARIABLES: usize = 4;
-
-// Loops open at once.
-pub const MOST_LOOPS: usize = 8;
-
-// Index variables in scope at once.
-pub const ALL_VARIABLES: usize = MOST_VARIABLES + MOST_LOOPS;
-
-// Levels of nested statements, and of nested indexes.
-pub const DEEPEST: usize = 16;
-
-// The numbers of a form: the constant, and a coefficient for each variable.
-pub const FORM_NUMBERS: usize = ALL_VARIABLES + 1;
-
-// The numbers of a size in a table: the constant, and a coefficient for each variable of a family.
-pub const SIZE_NUMBERS: usize = MOST_VARIABLES + 1;
-
-pub type Form = [i64; FORM_NUMBERS];
-
-pub type Size = [i64; SIZE_NUMBERS];
 
 // The tags of index fields, from the first to the last.
 const FIRST_TAG: u8 = 64;
@@ -92,8 +72,8 @@ fn too_deep(tag: u8) -> u32
 // The literal at `at`, whose field ends at `next`.
 fn literal(program: &[u8], at: usize, next: usize, f: &mut Form) -> Read
     requires { ⌜ (at + 3 ≤ next) × (next ≤ length (now program)) ⌝ }
-    ensures { λ r. ⌜ ((n : ℕ) → formTold r (now (f .exit)) ≡ formOf (scopeOf n) (readLiteral at (slice (at + 3) next (now (program .entry))))) ⌝ }
-    ensures { λ r. ⌜ EndsAt next r (now (f .exit)) ⌝ }
+    ensures { λ r. ⌜ ((n : ℕ) → checkedForm r (now (f .exit)) ≡ formOf (scopeOf n) (readLiteral at (slice (at + 3) next (now (program .entry))))) ⌝ }
+    ensures { λ r. ⌜ FormEndsAt next r (now (f .exit)) ⌝ }
 {
     let from = at + 3;
     if next - from != 2 {
@@ -108,8 +88,8 @@ fn literal(program: &[u8], at: usize, next: usize, f: &mut Form) -> Read
 fn variable(program: &[u8], at: usize, next: usize, variables: usize, f: &mut Form) -> Read
     requires { ⌜ (at + 3 ≤ next) × (next ≤ length (now program)) ⌝ }
     requires { ⌜ variables ≤ allVariables ⌝ }
-    ensures { λ r. ⌜ formTold r (now (f .exit)) ≡ formOf (scopeOf variables) (readVariable at (slice (at + 3) next (now (program .entry)))) ⌝ }
-    ensures { λ r. ⌜ EndsAt next r (now (f .exit)) ⌝ }
+    ensures { λ r. ⌜ checkedForm r (now (f .exit)) ≡ formOf (scopeOf variables) (readVariable at (slice (at + 3) next (now (program .entry)))) ⌝ }
+    ensures { λ r. ⌜ FormEndsAt next r (now (f .exit)) ⌝ }
 {
     let from = at + 3;
     if next <= from {
@@ -130,8 +110,8 @@ fn variable(program: &[u8], at: usize, next: usize, variables: usize, f: &mut Fo
 fn product(at: usize, next: usize, f: &mut Form, g: &Form) -> Read
     requires { ⌜ Kept (now f) ⌝ }
     requires { ⌜ Kept (now g) ⌝ }
-    ensures { λ r. ⌜ formTold r (now (f .exit)) ≡ combined at (treeOperation Operation.Product) (asForm (now (f .entry))) (asForm (now (g .entry))) ⌝ }
-    ensures { λ r. ⌜ EndsAt next r (now (f .exit)) ⌝ }
+    ensures { λ r. ⌜ checkedForm r (now (f .exit)) ≡ combined at (treeOperation Operation.Product) (asForm (now (f .entry))) (asForm (now (g .entry))) ⌝ }
+    ensures { λ r. ⌜ FormEndsAt next r (now (f .exit)) ⌝ }
 {
     match forms::multiply(f, g) {
         Product::Made => Read::Upto(next),
@@ -144,8 +124,8 @@ fn product(at: usize, next: usize, f: &mut Form, g: &Form) -> Read
 fn combine(op: Operation, at: usize, next: usize, f: &mut Form, g: &Form) -> Read
     requires { ⌜ Kept (now f) ⌝ }
     requires { ⌜ Kept (now g) ⌝ }
-    ensures { λ r. ⌜ formTold r (now (f .exit)) ≡ combined at (treeOperation op) (asForm (now (f .entry))) (asForm (now (g .entry))) ⌝ }
-    ensures { λ r. ⌜ EndsAt next r (now (f .exit)) ⌝ }
+    ensures { λ r. ⌜ checkedForm r (now (f .exit)) ≡ combined at (treeOperation op) (asForm (now (f .entry))) (asForm (now (g .entry))) ⌝ }
+    ensures { λ r. ⌜ FormEndsAt next r (now (f .exit)) ⌝ }
 {
     match op {
         Operation::Sum => {
@@ -164,23 +144,23 @@ fn combine(op: Operation, at: usize, next: usize, f: &mut Form, g: &Form) -> Rea
     }
 }
 
-// The index that is due at `at` in the field at `place` whose content ends at `to`; its form goes to f.
+// The index that is due at `at` in the field at `parent` whose content ends at `to`; its form goes to f.
 pub fn index(
     program: &[u8],
     at: usize,
     to: usize,
-    place: usize,
+    parent: usize,
     levels: usize,
     variables: usize,
     f: &mut Form,
 ) -> Read
     requires { ⌜ to ≤ length (now program) ⌝ }
     requires { ⌜ variables ≤ allVariables ⌝ }
-    ensures { λ r. ⌜ formTold r (now (f .exit)) ≡ formOf (scopeOf variables) (due (readIndex levels) (badIndex 4 place) (fieldsAt (now (program .entry)) at to)) ⌝ }
-    ensures { λ r. ⌜ Past (now (program .entry)) at to r (now (f .exit)) ⌝ }
+    ensures { λ r. ⌜ checkedForm r (now (f .exit)) ≡ formOf (scopeOf variables) (due (readIndex levels) (badIndex 4 parent) (fieldsAt (now (program .entry)) at to)) ⌝ }
+    ensures { λ r. ⌜ FormPasses (now (program .entry)) at to r (now (f .exit)) ⌝ }
 {
     match fields::header_at(program, at, to) {
-        Header::End => Read::Refused(4, place),
+        Header::End => Read::Refused(4, parent),
         Header::Cut => Read::Refused(2, at),
         Header::Whole(tag, next) => {
             let kind = index_tag(tag);

@@ -1,3 +1,3 @@
-pub mod Fits
+pub mod OperandKinds
 pub mod Tables
 pub mod Operands

@@ -12,19 +12,17 @@ use types.Run.{OneOf}
 use denote.Enum.Declared.{tagOf}
 use Rattle.language.specs.Tree.{badIndex, badOperand}
 use Rattle.language.specs.Read.{Field, field, badHeader, choose, ending, due, outerIndex, readWhole, readElement, elementOf, readOperand}
-use Rattle.language.specs.Form.{Form, Built, built, outOfRange, constantForm, differenceOf, _thenBuild_, Loop, showing}
-use Rattle.language.specs.Check.{Checked, refused, _>>=_, _>>_, noLeftover, inScope, formOf, Kind, Signature, byShowing, mustShow, wholeFits, elementSize, roomAfter, checkOperand}
+use Rattle.language.specs.Form.{Form, Built, built, outOfRange, constantForm, differenceOf, _thenBuild_}
+use Rattle.language.specs.Check.{Checked, refused, _>>=_, _>>_, noLeftover, inScope, formOf, Kind, mustShow, wholeFits, elementSize, roomAfter, checkWithin, checkOperand}
 use Rattle.fields.specs.Header.{fieldsAt}
 use Rattle.fields.proofs.Reading.{Wholly}
 use Rattle.forms.specs.Flat.{asForm}
 use Rattle.check_index.proofs.Read.{the-type}
-use Rattle.check_index.specs.Answers.{formTold, PastField, partTold}
-use Rattle.check_operand.specs.Tables.{kindBy, scopeWith}
-use Rattle.check_operand.specs.Operands.{wantedOf, sizeKnown, withinShown}
-use Rattle.check_operand.specs.declared.Wanted.{Wanted}
+use Rattle.check_index.specs.Answers.{checkedForm, PastField, checkedPart}
+use Rattle.check_operand.specs.Operands.{sizeKnown}
 use Rattle.check_index.specs.declared.Read.{Read}
 use Rattle.check_index.specs.declared.Read.the-variants.{Upto, Refused}
-use Rattle.check_index.proofs.Answers.{more-left, none-left, then-goes, then-stops, form-stops, told-then, drop-two}
+use Rattle.check_index.proofs.Answers.{not-first, more-left, none-left, form-stops, checked-then, drop-two, part-stops, part-went}
 use Rattle.language.specs.Tree as T
 use Rattle.language.specs.Check as C
 
@@ -59,12 +57,14 @@ module _ (s : C.Scope) (d : C.Due) (at : ℕ) (content : List ℕ) where
       unfolding noLeftover ending _>>_
       whole-good z = sym (whole-some ∙ ap (λ (l : List ℕ). noLeftover at (ending l) >> wholeFits at s d k) z)
 
-module _ (at m : ℕ) (ls : List Loop) (f size : Form) (r : Read) (e : partTold r ≡ byShowing at (showing m ls (built f))) where
-  pub within-stops : OneOf (1 ∷ []) (tagOf the-type r) → partTold r ≡ withinShown at m ls f size
-  within-stops h = then-stops r (byShowing at (showing m ls (roomAfter size f))) h ∙ ap (λ (c : Checked (Unit {0})). c >> byShowing at (showing m ls (roomAfter size f))) e
+module _ (at : ℕ) (s : C.Scope) (size f : Form) (r : Read) (e : checkedPart r ≡ mustShow at s (built f)) where
+  pub within-stops : OneOf (1 ∷ []) (tagOf the-type r) → checkedPart r ≡ checkWithin at s size f
+  unfolding checkWithin
+  within-stops h = part-stops r (mustShow at s (built f)) (mustShow at s (roomAfter size f)) e h
 
-  pub within-goes : OneOf (0 ∷ []) (tagOf the-type r) → byShowing at (showing m ls (roomAfter size f)) ≡ withinShown at m ls f size
-  within-goes h = sym (ap (λ (c : Checked (Unit {0})). c >> byShowing at (showing m ls (roomAfter size f))) (sym e) ∙ then-goes r (byShowing at (showing m ls (roomAfter size f))) h)
+  pub within-goes : OneOf (0 ∷ []) (tagOf the-type r) → mustShow at s (roomAfter size f) ≡ checkWithin at s size f
+  unfolding checkWithin
+  within-goes h = sym (part-went r (mustShow at s (built f)) (mustShow at s (roomAfter size f)) e h)
 
 pub room-none : (size i : Form) → differenceOf size (constantForm (pos 1)) ≡ outOfRange → roomAfter size i ≡ outOfRange
 unfolding roomAfter _thenBuild_
@@ -79,12 +79,12 @@ module _ (s : C.Scope) (d : C.Due) (at : ℕ) (content : List ℕ) where
   unfolding checkOperand readElement
   element-none e = sym (ap (λ (l : List ℕ). checkOperand s d (readElement at l)) e)
 
-  module _ (n : ℕ) (p : List ℕ) (next : ℕ) (e : content ≡ (n ∷ slice (at + 3 + 1) next p)) where
+  module _ (n : ℕ) (program : List ℕ) (next : ℕ) (e : content ≡ (n ∷ slice (at + 3 + 1) next program)) where
     abbrev inside : List Field
-    inside = fieldsAt p (at + 4) next
+    inside = fieldsAt program (at + 4) next
 
     abbrev sized : Kind → Form → Checked (Unit {0})
-    sized k f = elementSize at d k >>= λ size. (mustShow at s (built f) >> mustShow at s (roomAfter size f))
+    sized k f = elementSize at d k >>= λ size. checkWithin at s size f
 
     abbrev typed : Kind → Checked (Unit {0})
     typed k = formOf s (due outerIndex (badIndex 4 at) inside) >>= λ f. (noLeftover at (ending (drop 1 inside)) >> sized k f)
@@ -93,79 +93,84 @@ module _ (s : C.Scope) (d : C.Due) (at : ℕ) (content : List ℕ) where
     unfolding checkOperand readElement elementOf fieldsAt
     element-is =
         let q : at + 3 + 1 ≡ at + 4 = omega arith in
-        ap (λ (l : List ℕ). checkOperand s d (readElement at l)) (e ∙ ap (λ (k : ℕ). n ∷ slice k next p) q)
+        ap (λ (l : List ℕ). checkOperand s d (readElement at l)) (e ∙ ap (λ (k : ℕ). n ∷ slice k next program) q)
 
     pub element-beyond : getElem? (s .operands) n ≡ none → refused 8 at ≡ checkOperand s d (readElement at content)
     unfolding inScope _>>=_
     element-beyond q = sym (element-is ∙ ap (λ (o : Option Kind). inScope at o >>= typed) q)
 
-    module _ (k : Kind) (q : getElem? (s .operands) n ≡ some k) (r : Read) (l : List ℤ) (t : formTold r l ≡ formOf s (due outerIndex (badIndex 4 at) inside)) where
-      element-some : checkOperand s d (readElement at content) ≡ (formTold r l >>= λ f. (noLeftover at (ending (drop 1 inside)) >> sized k f))
+    module _ (k : Kind) (q : getElem? (s .operands) n ≡ some k) (r : Read) (l : List ℤ) (t : checkedForm r l ≡ formOf s (due outerIndex (badIndex 4 at) inside)) where
+      element-some : checkOperand s d (readElement at content) ≡ (checkedForm r l >>= λ f. (noLeftover at (ending (drop 1 inside)) >> sized k f))
       unfolding inScope _>>=_
       element-some = element-is ∙ ap (λ (o : Option Kind). inScope at o >>= typed) q ∙ ap (λ (c : Checked Form). c >>= λ f. (noLeftover at (ending (drop 1 inside)) >> sized k f)) (sym t)
 
-      pub element-stops : OneOf (1 ∷ []) (tagOf the-type r) → partTold r ≡ checkOperand s d (readElement at content)
+      pub element-stops : OneOf (1 ∷ []) (tagOf the-type r) → checkedPart r ≡ checkOperand s d (readElement at content)
       element-stops h = form-stops r l (λ f. noLeftover at (ending (drop 1 inside)) >> sized k f) h ∙ sym element-some
 
-      module _ (end : ℕ) (u : r ≡ Upto end) (v : PastField p (at + 4) next end) where
-        element-end : checkOperand s d (readElement at content) ≡ (noLeftover at (ending (fieldsAt p end next)) >> sized k (asForm l))
+      module _ (end : ℕ) (u : r ≡ Upto end) (v : PastField program (at + 4) next end) where
+        element-end : checkOperand s d (readElement at content) ≡ (noLeftover at (ending (fieldsAt program end next)) >> sized k (asForm l))
         element-end =
-            element-some ∙ told-then r l end (λ f. noLeftover at (ending (drop 1 inside)) >> sized k f) u
+            element-some ∙ checked-then r l end (λ f. noLeftover at (ending (drop 1 inside)) >> sized k f) u
             ∙ ap (λ (fs : List Field). noLeftover at (ending fs) >> sized k (asForm l)) (v .rest)
 
-        pub element-long : end < next → next ≤ length p → refused 4 at ≡ checkOperand s d (readElement at content)
+        pub element-long : end < next → next ≤ length program → refused 4 at ≡ checkOperand s d (readElement at content)
         unfolding noLeftover _>>_
-        element-long h w = sym (element-end ∙ ap (λ (x : T.Ending). noLeftover at x >> sized k (asForm l)) (more-left p end next h w))
+        element-long h w = sym (element-end ∙ ap (λ (x : T.Ending). noLeftover at x >> sized k (asForm l)) (more-left program end next h w))
 
         pub element-good : next ≤ end → sized k (asForm l) ≡ checkOperand s d (readElement at content)
         unfolding noLeftover _>>_
-        element-good h = sym (element-end ∙ ap (λ (x : T.Ending). noLeftover at x >> sized k (asForm l)) (none-left p end next h))
+        element-good h = sym (element-end ∙ ap (λ (x : T.Ending). noLeftover at x >> sized k (asForm l)) (none-left program end next h))
 
--- the kind of an element
-module _ (fs : List Signature) (ks : List Kind) (m : ℕ) (ls : List Loop) (at : ℕ) (w : Wanted) (z : List ℤ) (b : ℕ) (size f : Form) where
-  abbrev pub sizing : Checked (Unit {0})
-  sizing = elementSize at (wantedOf w z) (kindBy b size) >>= λ size. (mustShow at (scopeWith fs ks m ls) (built f) >> mustShow at (scopeWith fs ks m ls) (roomAfter size f))
-
-  pub kind-tested : (k : Read) → sizeKnown k size ≡ elementSize at (wantedOf w z) (kindBy b size) → (partTold k >> withinShown at m ls f size) ≡ sizing
-  unfolding sizeKnown partTold mustShow _>>=_ _>>_
-  kind-tested k e = by k ∙ ap (λ (c : Checked Form). c >>= λ size. (mustShow at (scopeWith fs ks m ls) (built f) >> mustShow at (scopeWith fs ks m ls) (roomAfter size f))) e
+-- an element, from the answer on its kind
+module _ (s : C.Scope) (d : C.Due) (at : ℕ) (k : Kind) (size f : Form) (r : Read) (e : sizeKnown r size ≡ elementSize at d k) where
+  pub kind-stops : OneOf (1 ∷ []) (tagOf the-type r) → checkedPart r ≡ (elementSize at d k >>= λ size. checkWithin at s size f)
+  unfolding sizeKnown checkedPart _>>=_
+  kind-stops h = by r h ∙ ap (λ (c : Checked Form). c >>= λ size. checkWithin at s size f) e
     where
-      by : (k : Read) → (partTold k >> withinShown at m ls f size) ≡ (sizeKnown k size >>= λ size. (mustShow at (scopeWith fs ks m ls) (built f) >> mustShow at (scopeWith fs ks m ls) (roomAfter size f)))
-      by (Upto n) = refl
-      by (Refused n q) = refl
+      by : (r : Read) → OneOf (1 ∷ []) (tagOf the-type r) → checkedPart r ≡ (sizeKnown r size >>= λ size. checkWithin at s size f)
+      by (Upto n) h = not-first h
+      by (Refused n p) h = refl
 
-module _ (s : C.Scope) (d : C.Due) (p : List ℕ) (at to place : ℕ) where
+  pub kind-goes : OneOf (0 ∷ []) (tagOf the-type r) → checkWithin at s size f ≡ (elementSize at d k >>= λ size. checkWithin at s size f)
+  unfolding sizeKnown _>>=_
+  kind-goes h = by r h ∙ ap (λ (c : Checked Form). c >>= λ size. checkWithin at s size f) e
+    where
+      by : (r : Read) → OneOf (0 ∷ []) (tagOf the-type r) → checkWithin at s size f ≡ (sizeKnown r size >>= λ size. checkWithin at s size f)
+      by (Upto n) h = refl
+      by (Refused n p) h = absurd (let z : _≡_ {A = ℕ} 1 0 = h in omega arith)
+
+module _ (s : C.Scope) (d : C.Due) (program : List ℕ) (at to parent : ℕ) where
   abbrev pub operandMeant : Checked (Unit {0})
-  operandMeant = checkOperand s d (due readOperand (badOperand 4 place) (fieldsAt p at to))
+  operandMeant = checkOperand s d (due readOperand (badOperand 4 parent) (fieldsAt program at to))
 
-  pub operand-end : fieldsAt p at to ≡ [] → refused 4 place ≡ operandMeant
+  pub operand-end : fieldsAt program at to ≡ [] → refused 4 parent ≡ operandMeant
   unfolding due checkOperand
-  operand-end e = sym (ap (λ (fs : List Field). checkOperand s d (due readOperand (badOperand 4 place) fs)) e)
+  operand-end e = sym (ap (λ (fs : List Field). checkOperand s d (due readOperand (badOperand 4 parent) fs)) e)
 
-  pub operand-cut : fieldsAt p at to ≡ (badHeader at ∷ []) → refused 2 at ≡ operandMeant
+  pub operand-cut : fieldsAt program at to ≡ (badHeader at ∷ []) → refused 2 at ≡ operandMeant
   unfolding due checkOperand readOperand
-  operand-cut e = sym (ap (λ (fs : List Field). checkOperand s d (due readOperand (badOperand 4 place) fs)) e)
+  operand-cut e = sym (ap (λ (fs : List Field). checkOperand s d (due readOperand (badOperand 4 parent) fs)) e)
 
-  module _ (tag next : ℕ) (w : Wholly p at to tag next) where
-    operand-is : operandMeant ≡ checkOperand s d (readOperand (field at tag (slice (at + 3) next p)))
+  module _ (tag next : ℕ) (w : Wholly program at to tag next) where
+    operand-is : operandMeant ≡ checkOperand s d (readOperand (field at tag (slice (at + 3) next program)))
     unfolding due
-    operand-is = ap (λ (fs : List Field). checkOperand s d (due readOperand (badOperand 4 place) fs)) (w .first)
+    operand-is = ap (λ (fs : List Field). checkOperand s d (due readOperand (badOperand 4 parent) fs)) (w .first)
 
-    pub operand-whole : tag ≡ 48 → checkOperand s d (readWhole at (slice (at + 3) next p)) ≡ operandMeant
+    pub operand-whole : tag ≡ 48 → checkOperand s d (readWhole at (slice (at + 3) next program)) ≡ operandMeant
     unfolding readOperand choose
-    operand-whole e = sym (operand-is ∙ ap (λ (t : ℕ). checkOperand s d (readOperand (field at t (slice (at + 3) next p)))) e)
+    operand-whole e = sym (operand-is ∙ ap (λ (t : ℕ). checkOperand s d (readOperand (field at t (slice (at + 3) next program)))) e)
 
-    pub operand-element : tag ≡ 49 → checkOperand s d (readElement at (slice (at + 3) next p)) ≡ operandMeant
+    pub operand-element : tag ≡ 49 → checkOperand s d (readElement at (slice (at + 3) next program)) ≡ operandMeant
     unfolding readOperand choose
-    operand-element e = sym (operand-is ∙ ap (λ (t : ℕ). checkOperand s d (readOperand (field at t (slice (at + 3) next p)))) e)
+    operand-element e = sym (operand-is ∙ ap (λ (t : ℕ). checkOperand s d (readOperand (field at t (slice (at + 3) next program)))) e)
 
     pub operand-other : (tag ≡ 48 → ⊥) → (tag ≡ 49 → ⊥) → refused 3 at ≡ operandMeant
     unfolding readOperand choose checkOperand
     operand-other x y = sym (operand-is ∙ rw (ne-eqb tag 48 x, ne-eqb tag 49 y))
 
 -- the second operand and the end, seen from where the first ends
-pub second-is : (s : C.Scope) (d : C.Due) (p : List ℕ) (at from to mid : ℕ) → PastField p from to mid →
-    (checkOperand s d (due readOperand (badOperand 4 at) (drop 1 (fieldsAt p from to))) >> noLeftover at (ending (drop 2 (fieldsAt p from to))))
-    ≡ (checkOperand s d (due readOperand (badOperand 4 at) (fieldsAt p mid to)) >> noLeftover at (ending (drop 1 (fieldsAt p mid to))))
-second-is s d p at from to mid v =
-    (λ j. checkOperand s d (due readOperand (badOperand 4 at) (v .rest j)) >> noLeftover at (ending ((drop-two (fieldsAt p from to) ∙ ap (drop 1) (v .rest)) j)))
+pub second-is : (s : C.Scope) (d : C.Due) (program : List ℕ) (at from to mid : ℕ) → PastField program from to mid →
+    (checkOperand s d (due readOperand (badOperand 4 at) (drop 1 (fieldsAt program from to))) >> noLeftover at (ending (drop 2 (fieldsAt program from to))))
+    ≡ (checkOperand s d (due readOperand (badOperand 4 at) (fieldsAt program mid to)) >> noLeftover at (ending (drop 1 (fieldsAt program mid to))))
+second-is s d program at from to mid v =
+    (λ j. checkOperand s d (due readOperand (badOperand 4 at) (v .rest j)) >> noLeftover at (ending ((drop-two (fieldsAt program from to) ∙ ap (drop 1) (v .rest)) j)))

@@ -1,12 +1,12 @@
--- What an operand is due to be, and what is shown of it.
+-- What an operand is due to be, and what the answers on operands stand for.
 use mathlib.Core.Path.{_≡_}
 use mathlib.Core.List.{List}
 use mathlib.Core.Bool.{true}
 use Prim.Native.Nat.{ℕ}
 use lib.IntN.{ℤ}
 use lib.ListN.{drop}
-use Rattle.language.specs.Form.{Form, Loop, built, showing}
-use Rattle.language.specs.Check.{Checked, good, refused, _>>_, byShowing, roomAfter, noLeftover, checkOperand}
+use Rattle.language.specs.Form.{Form}
+use Rattle.language.specs.Check.{Checked, good, refused, checkOneWire, checkTwo}
 use Rattle.language.specs.Read.{Field, ending, operandDue}
 use Rattle.forms.specs.Flat.{Kept, builtOf}
 use Rattle.check_index.specs.declared.Read.{Read}
@@ -31,18 +31,10 @@ SizeRight Wire l = Unit {0}
 SizeRight Bit l = Unit {0}
 SizeRight (Register t) l = t ≡ true → Kept l
 
--- one test after the other
-abbrev pub firstRefusal : Checked (Unit {0}) → Checked (Unit {0}) → Checked (Unit {0})
-firstRefusal x y = x >> y
-
--- the two showings of an element
-abbrev pub withinShown : ℕ → ℕ → List Loop → (f size : Form) → Checked (Unit {0})
-withinShown at m ls f size = byShowing at (showing m ls (built f)) >> byShowing at (showing m ls (roomAfter size f))
-
--- a wire, and nothing after it
+-- a wire, the only one of the fields in the field at p
 abbrev pub oneWire : C.Scope → ℕ → List Field → Checked (Unit {0})
-oneWire s p fs = checkOperand s C.wire (operandDue p 0 fs) >> noLeftover p (ending (drop 1 fs))
+oneWire s p fs = checkOneWire p s (operandDue p 0 fs) (ending (drop 1 fs))
 
--- a wire and another operand, and nothing after them
+-- a wire and another operand, the only two of the fields in the field at p
 abbrev pub twoOperands : C.Scope → C.Due → ℕ → List Field → Checked (Unit {0})
-twoOperands s d p fs = checkOperand s C.wire (operandDue p 0 fs) >> (checkOperand s d (operandDue p 1 fs) >> noLeftover p (ending (drop 2 fs)))
+twoOperands s d p fs = checkTwo p s d (operandDue p 0 fs) (operandDue p 1 fs) (ending (drop 2 fs))

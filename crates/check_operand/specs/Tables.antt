@@ -1,21 +1,28 @@
 -- The scope that the tables of operands and of loops stand for.
 use mathlib.Core.List.{List, [], _∷_}
-use mathlib.Core.Bool.{cond}
 use Prim.Native.Nat.{ℕ, zero, suc, _+_, _≤_}
 use lib.IntN.{ℤ}
-use lib.Dec.{eqb}
 use lib.ListN.{length, getD}
 use Rattle.language.specs.Limits.{mostVariables, mostLoops}
 use Rattle.language.specs.Form.{Form, Loop}
 use Rattle.language.specs.Check.{Kind, qubit, quantum, classical, Signature}
 use Rattle.forms.specs.Flat.{widened, asForm}
 use Rattle.forms.specs.Rows.{Rows, ShortRows, loopsOf}
+use Rattle.kinds.specs.Numbers.{kindWith}
+use Rattle.kinds.specs.declared.Kind.the-variants.{Qubit, Quantum, Classical}
 use Rattle.check_operand.specs.declared.Visible.{Visible}
+use Rattle.kinds.specs.declared.Kind as K
 use Rattle.language.specs.Check as C
 
--- a row of the table of operands: a byte for the kind (0 a Qbit parameter, 1 quantum, else classical), and a short row for the size
-unfoldable pub kindBy : ℕ → Form → Kind
-kindBy b f = cond (eqb b 0) qubit (cond (eqb b 1) (quantum f) (classical f))
+-- a kind with its size
+unfoldable pub kindIn : K.Kind → Form → Kind
+kindIn Qubit f = qubit
+kindIn Quantum f = quantum f
+kindIn Classical f = classical f
+
+-- a row of the table of operands: the number of a kind, and a size
+abbrev pub kindBy : ℕ → Form → Kind
+kindBy b f = kindIn (kindWith b) f
 
 abbrev pub kindAt : ℕ → List ℕ → List (List ℤ) → Kind
 kindAt i kinds sizes = kindBy (getD kinds i 0) (asForm (widened (getD sizes i [])))

@@ -8,30 +8,23 @@ ghost use lib.Seq.{slice};
 ghost use lib.IntN.{ℤ, pos};
 ghost use Rattle.language.specs.Tree.{badOperand};
 ghost use Rattle.language.specs.Read.{due, readOperand, readWhole, readElement};
-ghost use Rattle.language.specs.Form.{Form, built, differenceOf, _thenBuild_, showing};
-ghost use Rattle.language.specs.Check.{Kind, Signature, elementSize, byShowing, wire, wholeFits, checkOperand};
+ghost use Rattle.language.specs.Form.{Form, built, differenceOf, _thenBuild_};
+ghost use Rattle.language.specs.Check.{Kind, Signature, elementSize, mustShow, wire, wholeFits, checkWithin, checkOperand};
 ghost use Rattle.language.specs.Limits.{allVariables};
+ghost use Rattle.kinds.specs.Numbers.{kindWith};
 ghost use Rattle.fields.specs.Header.{fieldsAt};
-ghost use Rattle.forms.specs.Flat.{Kept, Short, widened, asForm, builtOf};
+ghost use Rattle.forms.specs.Flat.{formNumbers, Kept, Short, widened, asForm, builtOf};
 ghost use Rattle.forms.specs.Rows.{Rows, loopsOf};
-ghost use Rattle.check_operand.specs.Tables.{kindBy, TablesRight, scopeWith, scopeAt};
-ghost use Rattle.check_operand.specs.Operands.{sizeKnown, firstRefusal, withinShown, wantedOf, SizeRight, oneWire, twoOperands};
-ghost use Rattle.check_index.specs.Answers.{partTold, Upon, Passes};
-ghost use Rattle.check_index.specs.Indexes.{formNumbers};
-use check_index::DEEPEST;
-use check_index::FORM_NUMBERS;
-use check_index::Form;
+ghost use Rattle.check_operand.specs.Tables.{kindIn, TablesRight, scopeWith, scopeAt};
+ghost use Rattle.check_operand.specs.Operands.{sizeKnown, wantedOf, SizeRight, oneWire, twoOperands};
+ghost use Rattle.check_index.specs.Answers.{checkedPart, EndsAt, Passes};
 use check_index::Read;
-use check_index::Size;
 use fields::Header;
+use forms::FORM_NUMBERS;
+use forms::Form;
+use forms::Size;
 use forms::Verdict;
-
-// The kinds in a table of operands: a Qbit parameter; a quantum register or Qbit[I] parameter; a classical register.
-pub const QUBIT: u8 = 0;
-
-pub const QUANTUM: u8 = 1;
-
-pub const CLASSICAL: u8 = 2;
+use limits::DEEPEST;
 
 // What is in scope: how many families, the rows of the table of operands, and how many index variables and open loops.
 pub struct Visible {
@@ -49,6 +42,13 @@ pub enum Wanted {
     Register(bool),
 }
 
+// The kind that a number in the table of operands stands for.
+pub fn kind_by(number: u8) -> kinds::Kind
+    ensures { λ r. ⌜ r ≡ kindWith number ⌝ }
+{
+    kinds::with_number(number as u16)
+}
+
 // Shows f, which is then of no use, to be 0 or more, for the field from `at` to `next`.
 pub fn must_show(
     f: &mut Form,
@@ -63,8 +63,8 @@ pub fn must_show(
     requires { ⌜ variables + loops ≤ allVariables ⌝ }
     requires { ⌜ Rows (now lows) loops ⌝ }
     requires { ⌜ Rows (now highs) loops ⌝ }
-    ensures { λ r. ⌜ partTold r ≡ byShowing at (showing variables (loopsOf loops (now (lows .entry)) (now (highs .entry))) (built (asForm (now (f .entry))))) ⌝ }
-    ensures { λ r. ⌜ Upon next r ⌝ }
+    ensures { λ r. ⌜ ((fs : List Signature) (ks : List Kind) → checkedPart r ≡ mustShow at (scopeWith fs ks variables (loopsOf loops (now (lows .entry)) (now (highs .entry)))) (built (asForm (now (f .entry))))) ⌝ }
+    ensures { λ r. ⌜ EndsAt next r ⌝ }
 {
     match forms::show(f, variables, loops, lows, highs) {
         Verdict::Shown => Read::Upto(next),
@@ -89,8 +89,8 @@ fn within(
     requires { ⌜ variables + loops ≤ allVariables ⌝ }
     requires { ⌜ Rows (now lows) loops ⌝ }
     requires { ⌜ Rows (now highs) loops ⌝ }
-    ensures { λ r. ⌜ partTold r ≡ withinShown at variables (loopsOf loops (now (lows .entry)) (now (highs .entry))) (asForm (now (f .entry))) (asForm (widened (now (size .entry)))) ⌝ }
-    ensures { λ r. ⌜ Upon next r ⌝ }
+    ensures { λ r. ⌜ ((fs : List Signature) (ks : List Kind) → checkedPart r ≡ checkWithin at (scopeWith fs ks variables (loopsOf loops (now (lows .entry)) (now (highs .entry)))) (asForm (widened (now (size .entry)))) (asForm (now (f .entry)))) ⌝ }
+    ensures { λ r. ⌜ EndsAt next r ⌝ }
 {
     let mut g = *f;
     let r = must_show(&mut g, at, next, variables, loops, lows, highs);
@@ -127,8 +127,8 @@ fn large_enough(
     requires { ⌜ variables + loops ≤ allVariables ⌝ }
     requires { ⌜ Rows (now lows) loops ⌝ }
     requires { ⌜ Rows (now highs) loops ⌝ }
-    ensures { λ r. ⌜ partTold r ≡ byShowing at (showing variables (loopsOf loops (now (lows .entry)) (now (highs .entry))) (builtOf known (now (size .entry)) thenBuild differenceOf (asForm (widened (now (own .entry)))))) ⌝ }
-    ensures { λ r. ⌜ Upon next r ⌝ }
+    ensures { λ r. ⌜ ((fs : List Signature) (ks : List Kind) → checkedPart r ≡ mustShow at (scopeWith fs ks variables (loopsOf loops (now (lows .entry)) (now (highs .entry)))) (builtOf known (now (size .entry)) thenBuild differenceOf (asForm (widened (now (own .entry)))))) ⌝ }
+    ensures { λ r. ⌜ EndsAt next r ⌝ }
 {
     if known {
         let mut room = [0i64; FORM_NUMBERS];
@@ -145,7 +145,7 @@ fn large_enough(
 fn whole_fits(
     wanted: Wanted,
     size: &Form,
-    kind: u8,
+    kind: kinds::Kind,
     own: &Size,
     at: usize,
     next: usize,
@@ -159,59 +159,39 @@ fn whole_fits(
     requires { ⌜ variables + loops ≤ allVariables ⌝ }
     requires { ⌜ Rows (now lows) loops ⌝ }
     requires { ⌜ Rows (now highs) loops ⌝ }
-    ensures { λ r. ⌜ ((fs : List Signature) (ks : List Kind) → partTold r ≡ wholeFits at (scopeWith fs ks variables (loopsOf loops (now (lows .entry)) (now (highs .entry)))) (wantedOf wanted (now (size .entry))) (kindBy kind (asForm (widened (now (own .entry)))))) ⌝ }
-    ensures { λ r. ⌜ Upon next r ⌝ }
+    ensures { λ r. ⌜ ((fs : List Signature) (ks : List Kind) → checkedPart r ≡ wholeFits at (scopeWith fs ks variables (loopsOf loops (now (lows .entry)) (now (highs .entry)))) (wantedOf wanted (now (size .entry))) (kindIn kind (asForm (widened (now (own .entry)))))) ⌝ }
+    ensures { λ r. ⌜ EndsAt next r ⌝ }
 {
     match wanted {
-        Wanted::Wire => {
-            if kind == QUBIT {
-                return Read::Upto(next);
-            }
-            Read::Refused(9, at)
-        }
+        Wanted::Wire => match kind {
+            kinds::Kind::Qubit => Read::Upto(next),
+            _ => Read::Refused(9, at),
+        },
         Wanted::Bit => Read::Refused(9, at),
-        Wanted::Register(known) => {
-            if kind == QUANTUM {
-                return large_enough(known, size, own, at, next, variables, loops, lows, highs);
+        Wanted::Register(known) => match kind {
+            kinds::Kind::Quantum => {
+                large_enough(known, size, own, at, next, variables, loops, lows, highs)
             }
-            Read::Refused(9, at)
-        }
+            _ => Read::Refused(9, at),
+        },
     }
 }
 
 // Whether an element of an operand of a kind is what is due, for the field from `at` to `next`.
-fn element_kind(wanted: Wanted, kind: u8, at: usize, next: usize) -> Read
-    ensures { λ r. ⌜ ((f : Form) (l : List ℤ) → sizeKnown r f ≡ elementSize at (wantedOf wanted l) (kindBy kind f)) ⌝ }
-    ensures { λ r. ⌜ Upon next r ⌝ }
+fn element_kind(wanted: Wanted, kind: kinds::Kind, at: usize, next: usize) -> Read
+    ensures { λ r. ⌜ ((f : Form) (l : List ℤ) → sizeKnown r f ≡ elementSize at (wantedOf wanted l) (kindIn kind f)) ⌝ }
+    ensures { λ r. ⌜ EndsAt next r ⌝ }
 {
     match wanted {
-        Wanted::Wire => {
-            if kind == QUANTUM {
-                return Read::Upto(next);
-            }
-            Read::Refused(9, at)
-        }
-        Wanted::Bit => {
-            if kind == QUBIT {
-                return Read::Refused(9, at);
-            }
-            if kind == QUANTUM {
-                return Read::Refused(9, at);
-            }
-            Read::Upto(next)
-        }
+        Wanted::Wire => match kind {
+            kinds::Kind::Quantum => Read::Upto(next),
+            _ => Read::Refused(9, at),
+        },
+        Wanted::Bit => match kind {
+            kinds::Kind::Classical => Read::Upto(next),
+            _ => Read::Refused(9, at),
+        },
         Wanted::Register(_) => Read::Refused(9, at),
-    }
-}
-
-// The first refusal of two tests of the same field, if there is one.
-fn first_refusal(first: Read, second: Read) -> Read
-    ensures { λ r. ⌜ partTold r ≡ firstRefusal (partTold first) (partTold second) ⌝ }
-    ensures { λ r. ⌜ ((n : ℕ) → Upon n first → Upon n second → Upon n r) ⌝ }
-{
-    match first {
-        Read::Upto(_) => second,
-        Read::Refused(n, p) => Read::Refused(n, p),
     }
 }
 
@@ -231,8 +211,8 @@ fn whole(
     requires { ⌜ (at + 3 ≤ next) × (next ≤ length (now program)) ⌝ }
     requires { ⌜ SizeRight wanted (now size) ⌝ }
     requires { ⌜ TablesRight s (now kinds) (now sizes) (now lows) (now highs) ⌝ }
-    ensures { λ r. ⌜ ((fs : List Signature) → partTold r ≡ checkOperand (scopeAt fs s (now (kinds .entry)) (now (sizes .entry)) (now (lows .entry)) (now (highs .entry))) (wantedOf wanted (now (size .entry))) (readWhole at (slice (at + 3) next (now (program .entry))))) ⌝ }
-    ensures { λ r. ⌜ Upon next r ⌝ }
+    ensures { λ r. ⌜ ((fs : List Signature) → checkedPart r ≡ checkOperand (scopeAt fs s (now (kinds .entry)) (now (sizes .entry)) (now (lows .entry)) (now (highs .entry))) (wantedOf wanted (now (size .entry))) (readWhole at (slice (at + 3) next (now (program .entry))))) ⌝ }
+    ensures { λ r. ⌜ EndsAt next r ⌝ }
 {
     let from = at + 3;
     if next <= from {
@@ -246,10 +226,11 @@ fn whole(
         return Read::Refused(4, at);
     }
     let row = s.first + n;
+    let kind = kind_by(kinds[row]);
     whole_fits(
         wanted,
         size,
-        kinds[row],
+        kind,
         &sizes[row],
         at,
         next,
@@ -275,8 +256,8 @@ fn element(
 ) -> Read
     requires { ⌜ (at + 3 ≤ next) × (next ≤ length (now program)) ⌝ }
     requires { ⌜ TablesRight s (now kinds) (now sizes) (now lows) (now highs) ⌝ }
-    ensures { λ r. ⌜ ((fs : List Signature) → partTold r ≡ checkOperand (scopeAt fs s (now (kinds .entry)) (now (sizes .entry)) (now (lows .entry)) (now (highs .entry))) (wantedOf wanted (now (size .entry))) (readElement at (slice (at + 3) next (now (program .entry))))) ⌝ }
-    ensures { λ r. ⌜ Upon next r ⌝ }
+    ensures { λ r. ⌜ ((fs : List Signature) → checkedPart r ≡ checkOperand (scopeAt fs s (now (kinds .entry)) (now (sizes .entry)) (now (lows .entry)) (now (highs .entry))) (wantedOf wanted (now (size .entry))) (readElement at (slice (at + 3) next (now (program .entry))))) ⌝ }
+    ensures { λ r. ⌜ EndsAt next r ⌝ }
 {
     let from = at + 3;
     if next <= from {
@@ -297,17 +278,20 @@ fn element(
     if end < next {
         return Read::Refused(4, at);
     }
-    let kind = element_kind(wanted, kinds[row], at, next);
-    let shown = within(&f, &sizes[row], at, next, s.variables, s.loops, lows, highs);
-    first_refusal(kind, shown)
+    let kind = kind_by(kinds[row]);
+    let fits = element_kind(wanted, kind, at, next);
+    let Read::Upto(_) = fits else {
+        return fits;
+    };
+    within(&f, &sizes[row], at, next, s.variables, s.loops, lows, highs)
 }
 
-// The operand that is due at `at` in the field at `place` whose content ends at `to`.
+// The operand that is due at `at` in the field at `parent` whose content ends at `to`.
 pub fn operand(
     program: &[u8],
     at: usize,
     to: usize,
-    place: usize,
+    parent: usize,
     wanted: Wanted,
     size: &Form,
     s: Visible,
@@ -319,11 +303,11 @@ pub fn operand(
     requires { ⌜ to ≤ length (now program) ⌝ }
     requires { ⌜ SizeRight wanted (now size) ⌝ }
     requires { ⌜ TablesRight s (now kinds) (now sizes) (now lows) (now highs) ⌝ }
-    ensures { λ r. ⌜ ((fs : List Signature) → partTold r ≡ checkOperand (scopeAt fs s (now (kinds .entry)) (now (sizes .entry)) (now (lows .entry)) (now (highs .entry))) (wantedOf wanted (now (size .entry))) (due readOperand (badOperand 4 place) (fieldsAt (now (program .entry)) at to))) ⌝ }
+    ensures { λ r. ⌜ ((fs : List Signature) → checkedPart r ≡ checkOperand (scopeAt fs s (now (kinds .entry)) (now (sizes .entry)) (now (lows .entry)) (now (highs .entry))) (wantedOf wanted (now (size .entry))) (due readOperand (badOperand 4 parent) (fieldsAt (now (program .entry)) at to))) ⌝ }
     ensures { λ r. ⌜ Passes (now (program .entry)) at to r ⌝ }
 {
     match fields::header_at(program, at, to) {
-        Header::End => Read::Refused(4, place),
+        Header::End => Read::Refused(4, parent),
         Header::Cut => Read::Refused(2, at),
         Header::Whole(tag, next) => match tag {
             48 => whole(
@@ -368,8 +352,8 @@ pub fn one_wire(
 ) -> Read
     requires { ⌜ (at + 3 ≤ next) × (next ≤ length (now program)) ⌝ }
     requires { ⌜ TablesRight s (now kinds) (now sizes) (now lows) (now highs) ⌝ }
-    ensures { λ r. ⌜ ((fs : List Signature) → partTold r ≡ oneWire (scopeAt fs s (now (kinds .entry)) (now (sizes .entry)) (now (lows .entry)) (now (highs .entry))) at (fieldsAt (now (program .entry)) (at + 3) next)) ⌝ }
-    ensures { λ r. ⌜ Upon next r ⌝ }
+    ensures { λ r. ⌜ ((fs : List Signature) → checkedPart r ≡ oneWire (scopeAt fs s (now (kinds .entry)) (now (sizes .entry)) (now (lows .entry)) (now (highs .entry))) at (fieldsAt (now (program .entry)) (at + 3) next)) ⌝ }
+    ensures { λ r. ⌜ EndsAt next r ⌝ }
 {
     let none = [0i64; FORM_NUMBERS];
     let from = at + 3;
@@ -410,8 +394,8 @@ pub fn two_operands(
     requires { ⌜ (at + 3 ≤ next) × (next ≤ length (now program)) ⌝ }
     requires { ⌜ ((l : List ℤ) → SizeRight second l) ⌝ }
     requires { ⌜ TablesRight s (now kinds) (now sizes) (now lows) (now highs) ⌝ }
-    ensures { λ r. ⌜ ((fs : List Signature) → partTold r ≡ twoOperands (scopeAt fs s (now (kinds .entry)) (now (sizes .entry)) (now (lows .entry)) (now (highs .entry))) (wantedOf second (replicate formNumbers (pos 0))) at (fieldsAt (now (program .entry)) (at + 3) next)) ⌝ }
-    ensures { λ r. ⌜ Upon next r ⌝ }
+    ensures { λ r. ⌜ ((fs : List Signature) → checkedPart r ≡ twoOperands (scopeAt fs s (now (kinds .entry)) (now (sizes .entry)) (now (lows .entry)) (now (highs .entry))) (wantedOf second (replicate formNumbers (pos 0))) at (fieldsAt (now (program .entry)) (at + 3) next)) ⌝ }
+    ensures { λ r. ⌜ EndsAt next r ⌝ }
 {
     let none = [0i64; FORM_NUMBERS];
     let from = at + 3;
@@ -466,7 +450,7 @@ pub fn two_wires(
 ) -> Read
     requires { ⌜ (at + 3 ≤ next) × (next ≤ length (now program)) ⌝ }
     requires { ⌜ TablesRight s (now kinds) (now sizes) (now lows) (now highs) ⌝ }
-    ensures { λ r. ⌜ ((fs : List Signature) → partTold r ≡ twoOperands (scopeAt fs s (now (kinds .entry)) (now (sizes .entry)) (now (lows .entry)) (now (highs .entry))) wire at (fieldsAt (now (program .entry)) (at + 3) next)) ⌝ }
+    ensures { λ r. ⌜ ((fs : List Signature) → checkedPart r ≡ twoOperands (scopeAt fs s (now (kinds .entry)) (now (sizes .entry)) (now (lows .entry)) (now (highs .entry))) wire at (fieldsAt (now (program .entry)) (at + 3) next)) ⌝ }
 {
     two_operands(
         program,

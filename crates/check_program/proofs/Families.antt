@@ -13,11 +13,13 @@ use borrow.Author.Tests.{eqb-true, eqb-false}
 use types.Run.{OneOf}
 use denote.Enum.Declared.{tagOf}
 use Rattle.language.specs.Read.{Field, fields, typesOf, statementsBy, outerStatement, familyOf, readFamily}
-use Rattle.language.specs.Check.{Checked, good, refused, _>>=_, _>>_, require, checkNumber, Kind, Signature, kindsOf, checkStatements, Declared, familyScope, withFamily, checkTop}
+use Rattle.language.specs.Limits.{mostFamilies, mostVariables, mostParameters}
+use Rattle.language.specs.Tree.{Number, number, missing}
+use Rattle.language.specs.Check.{Checked, good, refused, _>>=_, _>>_, require, checkNumber, Kind, Signature, kindsOf, checkStatements, Declared, familyScope, withFamily, checkCounts, checkFamily, checkTop}
 use Rattle.fields.specs.Header.{fieldsAt}
 use Rattle.forms.specs.Rows.{loopsOf}
 use Rattle.check_operand.specs.Tables.{kindsAt, tabulated}
-use Rattle.check_index.specs.Answers.{partTold, Beyond}
+use Rattle.check_index.specs.Answers.{checkedPart, Beyond}
 use Rattle.check_call.specs.Calls.{signatureAt, scopeFull, FamilyRight}
 use Rattle.check_operand.specs.declared.Visible.{Visible}
 use Rattle.check_index.specs.declared.Read.{Read}
@@ -25,9 +27,9 @@ use Rattle.check_index.specs.declared.Read.the-variants.{Upto, Refused}
 use Rattle.check_index.proofs.Read.{the-type}
 use Rattle.check_operand.proofs.Tables.{row-more, rows-same, length-rows}
 use Rattle.check_index.proofs.Answers.{not-first}
-use Rattle.check_declaration.specs.Types.{Apart, rowsTold}
-use Rattle.check_declaration.specs.Families.{firstIn, secondIn, countsMeant, countsTold, BothRight}
-use Rattle.check_program.specs.Declarations.{bodyMeant, declaredIn, DeclaredRight, stepTold}
+use Rattle.check_declaration.specs.Types.{Apart, checkedRows}
+use Rattle.check_declaration.specs.Families.{firstIn, secondIn, countsIn, checkedCounts, BothRight}
+use Rattle.check_program.specs.Declarations.{familyIn, declaredIn, DeclaredRight, checkedStep}
 use Rattle.check_program.specs.declared.SoFar.{SoFar}
 use Rattle.check_declaration.specs.declared.Counts.{Counts}
 use Rattle.check_declaration.specs.declared.Counts.the-variants.{Both, Bad}
@@ -35,8 +37,8 @@ use Rattle.check_program.specs.declared.Step.the-variants.{Stopped}
 use Rattle.check_declaration.proofs.Tables.{rows-below}
 use Rattle.check_program.proofs.Scopes.{families-below}
 
-rows-then : (r : Read) (count first : ℕ) (kinds : List ℕ) (sizes : List (List ℤ)) → rowsTold r count first kinds sizes ≡ (partTold r >> good (kindsAt count first kinds sizes))
-unfolding rowsTold partTold _>>_
+rows-then : (r : Read) (count first : ℕ) (kinds : List ℕ) (sizes : List (List ℤ)) → checkedRows r count first kinds sizes ≡ (checkedPart r >> good (kindsAt count first kinds sizes))
+unfolding checkedRows checkedPart _>>_
 rows-then (Upto n) count first kinds sizes = refl
 rows-then (Refused n p) count first kinds sizes = refl
 
@@ -44,16 +46,16 @@ rows-then (Refused n p) count first kinds sizes = refl
 abbrev pub familyRows : SoFar → (m p : ℕ) → Visible
 familyRows t m p = record { families = t .families; first = t .rows; count = p; variables = m; loops = 0 }
 
-module _ (t : SoFar) (families : List (List ℕ)) (at m p : ℕ) (l : List ℕ) (from next : ℕ) {k₀ : List ℕ} {s₀ : List (List ℤ)} {k₁ : List ℕ} {s₁ : List (List ℤ)} (h : DeclaredRight t families k₀ s₀) (a : Apart (t .rows) p k₀ s₀ k₁ s₁)
-    (r : Read) (e : rowsTold r p (t .rows) k₁ s₁ ≡ kindsOf (familyScope (declaredIn t families k₀ s₀) m []) (typesOf at p (fieldsAt l from next))) where
+module _ (t : SoFar) (families : List (List ℕ)) (at m p : ℕ) (program : List ℕ) (from next : ℕ) {k₀ : List ℕ} {s₀ : List (List ℤ)} {k₁ : List ℕ} {s₁ : List (List ℤ)} (h : DeclaredRight t families k₀ s₀) (a : Apart (t .rows) p k₀ s₀ k₁ s₁)
+    (r : Read) (e : checkedRows r p (t .rows) k₁ s₁ ≡ kindsOf (familyScope (declaredIn t families k₀ s₀) m []) (typesOf at p (fieldsAt program from next))) where
   abbrev bodyAfter : List Kind → Checked (List Kind)
-  bodyAfter ks = checkStatements (statementsBy outerStatement (drop p (fieldsAt l from next))) (familyScope (declaredIn t families k₀ s₀) m ks) >> good ks
+  bodyAfter ks = checkStatements (statementsBy outerStatement (drop p (fieldsAt program from next))) (familyScope (declaredIn t families k₀ s₀) m ks) >> good ks
 
-  pub body-stops : OneOf (1 ∷ []) (tagOf the-type r) → rowsTold r p (t .rows) k₁ s₁ ≡ bodyMeant (declaredIn t families k₀ s₀) at m p (fieldsAt l from next)
-  unfolding rowsTold _>>=_
+  pub body-stops : OneOf (1 ∷ []) (tagOf the-type r) → checkedRows r p (t .rows) k₁ s₁ ≡ familyIn (declaredIn t families k₀ s₀) at m p (fieldsAt program from next)
+  unfolding checkedRows checkFamily _>>=_
   body-stops o = by r o ∙ ap (λ (c : Checked (List Kind)). c >>= bodyAfter) e
     where
-      by : (r : Read) → OneOf (1 ∷ []) (tagOf the-type r) → rowsTold r p (t .rows) k₁ s₁ ≡ (rowsTold r p (t .rows) k₁ s₁ >>= bodyAfter)
+      by : (r : Read) → OneOf (1 ∷ []) (tagOf the-type r) → checkedRows r p (t .rows) k₁ s₁ ≡ (checkedRows r p (t .rows) k₁ s₁ >>= bodyAfter)
       by (Upto n) o = not-first o
       by (Refused n q) o = refl
 
@@ -61,85 +63,91 @@ module _ (t : SoFar) (families : List (List ℕ)) (at m p : ℕ) (l : List ℕ) 
   unfolding familyScope loopsOf
   family-scope lows highs = ap (λ (fs : List Signature). record { families = fs; operands = kindsAt p (t .rows) k₁ s₁; variables = m; loops = [] }) (families-below t families h p a)
 
-  pub body-goes : (mid : ℕ) → r ≡ Upto mid → Beyond l from next p mid → (o : Read) (lows highs : List (List ℤ))
-      → partTold o ≡ checkStatements (statementsBy outerStatement (fieldsAt l mid next)) (scopeFull (familyRows t m p) families k₁ s₁ lows highs)
-      → rowsTold o p (t .rows) k₁ s₁ ≡ bodyMeant (declaredIn t families k₀ s₀) at m p (fieldsAt l from next)
-  unfolding rowsTold _>>=_
+  pub body-goes : (mid : ℕ) → r ≡ Upto mid → Beyond program from next p mid → (o : Read) (lows highs : List (List ℤ))
+      → checkedPart o ≡ checkStatements (statementsBy outerStatement (fieldsAt program mid next)) (scopeFull (familyRows t m p) families k₁ s₁ lows highs)
+      → checkedRows o p (t .rows) k₁ s₁ ≡ familyIn (declaredIn t families k₀ s₀) at m p (fieldsAt program from next)
+  unfolding checkedRows checkFamily _>>=_
   body-goes mid u b o lows highs d =
       rows-then o p (t .rows) k₁ s₁
       ∙ ap (λ (c : Checked (Unit {0})). c >> good (kindsAt p (t .rows) k₁ s₁)) (d ∙ (λ i. checkStatements (statementsBy outerStatement (sym (b .rest) i)) (family-scope lows highs i)))
-      ∙ ap (λ (c : Checked (List Kind)). c >>= bodyAfter) (sym (ap (λ (x : Read). rowsTold x p (t .rows) k₁ s₁) u) ∙ e)
+      ∙ ap (λ (c : Checked (List Kind)). c >>= bodyAfter) (sym (ap (λ (x : Read). checkedRows x p (t .rows) k₁ s₁) u) ∙ e)
 
-bind-after : {A B : Type 0} (x : Checked A) (c : A → Checked (Unit {0})) (w : A → B) → (x >>= λ a. (c a >> good (w a))) ≡ ((x >>= λ a. (c a >> good a)) >>= λ a. good (w a))
-unfolding _>>=_ _>>_
-bind-after (refused n p) c w = refl
-bind-after (good a) c w = by (c a)
-  where
-    by : (x : Checked (Unit {0})) → (x >> good (w a)) ≡ ((x >> good a) >>= λ a. good (w a))
-    by (good u) = refl
-    by (refused n p) = refl
+-- what follows the two numbers of a family is asked only where both are right
+module _ {B : Type 0} (q families : ℕ) (f g : ℕ × ℕ → Checked B) where
+  abbrev pub Agree : Number → Type 0
+  Agree missing = Unit {0}
+  Agree (number p) = (m : ℕ) → f (m, p) ≡ g (m, p)
 
--- a test, and what is bound after it
-test-bind : {A B : Type 0} (n p : ℕ) (b : Bool) (x : Checked A) (f : A → Checked B) → ((require n p b >> x) >>= f) ≡ (require n p b >> (x >>= f))
-unfolding require _>>_ _>>=_
-test-bind n p true x f = refl
-test-bind n p false x f = refl
+  -- from the first of them on
+  abbrev fromFirst : ℕ → Number → Checked (ℕ × ℕ)
+  fromFirst m p = checkNumber q p >>= λ p. (require 6 q (leb 1 p && leb p mostParameters) >> good (m, p))
+
+  pub counts-same : (m p : Number) → Agree p → (checkCounts q families m p >>= f) ≡ (checkCounts q families m p >>= g)
+  unfolding checkCounts require checkNumber _>>=_ _>>_
+  counts-same m p h = by (ltb families mostFamilies) m
+    where
+      third : (m p : ℕ) → f (m, p) ≡ g (m, p) → (b : Bool) → ((require 6 q b >> good (m, p)) >>= f) ≡ ((require 6 q b >> good (m, p)) >>= g)
+      third m p h true = h
+      third m p h false = refl
+
+      second : (m : ℕ) (b : Bool) (p : Number) → Agree p → ((require 6 q b >> fromFirst m p) >>= f) ≡ ((require 6 q b >> fromFirst m p) >>= g)
+      second m false p h = refl
+      second m true missing h = refl
+      second m true (number p) h = third m p (h m) (leb 1 p && leb p mostParameters)
+
+      by : (b : Bool) (m : Number) → ((require 6 q b >> (checkNumber q m >>= λ m. (require 6 q (leb m mostVariables) >> fromFirst m p))) >>= f) ≡ ((require 6 q b >> (checkNumber q m >>= λ m. (require 6 q (leb m mostVariables) >> fromFirst m p))) >>= g)
+      by false m = refl
+      by true missing = refl
+      by true (number m) = second m (leb m mostVariables) p h
 
 -- what a family declares, after its two numbers
 abbrev pub familyAfter : Declared → ℕ → List ℕ → ℕ × ℕ → Checked Declared
-familyAfter d q content mp = bodyMeant d q (mp .0) (mp .1) (fields (q + 5) (drop 2 content)) >>= λ ks. good (withFamily d (record { variables = mp .0; parameters = ks }))
+familyAfter d q content mp = familyIn d q (mp .0) (mp .1) (fields (q + 5) (drop 2 content)) >>= λ ks. good (withFamily d (record { variables = mp .0; parameters = ks }))
 
-pub family-is : (q : ℕ) (content : List ℕ) (d : Declared) → checkTop (readFamily q content) d ≡ (countsMeant q (length (d .families)) content >>= familyAfter d q content)
-unfolding checkTop readFamily familyOf firstIn secondIn checkNumber _>>=_
-family-is q [] d = sym (test-bind 6 q (ltb (length (d .families)) 255) (refused 4 q) (familyAfter d q []))
-family-is q (m ∷ []) d =
-    sym (test-bind 6 q (ltb (length (d .families)) 255) (require 6 q (leb m 4) >> refused 4 q) (familyAfter d q (m ∷ []))
-    ∙ ap (λ (c : Checked Declared). require 6 q (ltb (length (d .families)) 255) >> c) (test-bind 6 q (leb m 4) (refused 4 q) (familyAfter d q (m ∷ []))))
-family-is q (m ∷ p ∷ rest) d =
-    ap (λ (c : Checked Declared). require 6 q (ltb (length (d .families)) 255) >> (require 6 q (leb m 4) >> (require 6 q (leb 1 p && leb p 8) >> c)))
-    (bind-after (kindsOf (familyScope d m []) (typesOf q p (fields (q + 5) rest))) (λ ks. checkStatements (statementsBy outerStatement (drop p (fields (q + 5) rest))) (familyScope d m ks)) (λ ks. withFamily d (record { variables = m; parameters = ks })))
-    ∙ sym (test-bind 6 q (ltb (length (d .families)) 255) (require 6 q (leb m 4) >> (require 6 q (leb 1 p && leb p 8) >> good (m, p))) (familyAfter d q (m ∷ p ∷ rest))
-    ∙ ap (λ (c : Checked Declared). require 6 q (ltb (length (d .families)) 255) >> c) (test-bind 6 q (leb m 4) (require 6 q (leb 1 p && leb p 8) >> good (m, p)) (familyAfter d q (m ∷ p ∷ rest))
-    ∙ ap (λ (c : Checked Declared). require 6 q (leb m 4) >> c) (test-bind 6 q (leb 1 p && leb p 8) (good (m, p)) (familyAfter d q (m ∷ p ∷ rest)))))
+pub family-is : (q : ℕ) (content : List ℕ) (d : Declared) → checkTop (readFamily q content) d ≡ (countsIn q (length (d .families)) content >>= familyAfter d q content)
+unfolding checkTop readFamily familyOf firstIn secondIn
+family-is q [] d = counts-same q (length (d .families)) _ (familyAfter d q []) missing missing tt
+family-is q (m ∷ []) d = counts-same q (length (d .families)) _ (familyAfter d q (m ∷ [])) (number m) missing tt
+family-is q (m ∷ p ∷ rest) d = counts-same q (length (d .families)) _ (familyAfter d q (m ∷ p ∷ rest)) (number m) (number p) (λ k. refl)
 
-two-on : (l : List ℕ) (at next : ℕ) → fields (at + 5) (drop 2 (slice (at + 3) next l)) ≡ fieldsAt l (at + 5) next
+two-on : (program : List ℕ) (at next : ℕ) → fields (at + 5) (drop 2 (slice (at + 3) next program)) ≡ fieldsAt program (at + 5) next
 unfolding fieldsAt
-two-on l at next = let e : at + 3 + 2 ≡ at + 5 = omega arith in ap (fields (at + 5)) (drop-drop 2 (at + 3) (take next l) ∙ ap (λ (k : ℕ). drop k (take next l)) e)
+two-on program at next = let e : at + 3 + 2 ≡ at + 5 = omega arith in ap (fields (at + 5)) (drop-drop 2 (at + 3) (take next program) ∙ ap (λ (k : ℕ). drop k (take next program)) e)
 
-module _ (t : SoFar) (families : List (List ℕ)) (kinds : List ℕ) (sizes : List (List ℤ)) (l : List ℕ) (at next : ℕ) (c : Counts) (e : countsTold c ≡ countsMeant at (t .families) (slice (at + 3) next l)) where
+module _ (t : SoFar) (families : List (List ℕ)) (kinds : List ℕ) (sizes : List (List ℤ)) (program : List ℕ) (at next : ℕ) (c : Counts) (e : checkedCounts c ≡ countsIn at (t .families) (slice (at + 3) next program)) where
   abbrev before : Declared
   before = declaredIn t families kinds sizes
 
-  family-meant : checkTop (readFamily at (slice (at + 3) next l)) before ≡ (countsTold c >>= familyAfter before at (slice (at + 3) next l))
+  family-meant : checkTop (readFamily at (slice (at + 3) next program)) before ≡ (checkedCounts c >>= familyAfter before at (slice (at + 3) next program))
   family-meant =
-      family-is at (slice (at + 3) next l) before
-      ∙ ap (λ (k : ℕ). countsMeant at k (slice (at + 3) next l) >>= familyAfter before at (slice (at + 3) next l)) (length-rows (signatureAt families kinds sizes) (t .families) 0)
-      ∙ ap (λ (x : Checked (ℕ × ℕ)). x >>= familyAfter before at (slice (at + 3) next l)) (sym e)
+      family-is at (slice (at + 3) next program) before
+      ∙ ap (λ (k : ℕ). countsIn at k (slice (at + 3) next program) >>= familyAfter before at (slice (at + 3) next program)) (length-rows (signatureAt families kinds sizes) (t .families) 0)
+      ∙ ap (λ (x : Checked (ℕ × ℕ)). x >>= familyAfter before at (slice (at + 3) next program)) (sym e)
 
-  pub family-bad : (n q : ℕ) (f₁ : List (List ℕ)) (k₁ : List ℕ) (s₁ : List (List ℤ)) → c ≡ Bad n q → stepTold (Stopped n q) f₁ k₁ s₁ ≡ checkTop (readFamily at (slice (at + 3) next l)) before
-  unfolding stepTold countsTold _>>=_
-  family-bad n q f₁ k₁ s₁ u = sym (family-meant ∙ ap (λ (x : Counts). countsTold x >>= familyAfter before at (slice (at + 3) next l)) u)
+  pub family-bad : (n q : ℕ) (f₁ : List (List ℕ)) (k₁ : List ℕ) (s₁ : List (List ℤ)) → c ≡ Bad n q → checkedStep (Stopped n q) f₁ k₁ s₁ ≡ checkTop (readFamily at (slice (at + 3) next program)) before
+  unfolding checkedStep checkedCounts _>>=_
+  family-bad n q f₁ k₁ s₁ u = sym (family-meant ∙ ap (λ (x : Counts). checkedCounts x >>= familyAfter before at (slice (at + 3) next program)) u)
 
-  module _ (m p : ℕ) (u : c ≡ Both m p) (r : Read) (k₁ : List ℕ) (s₁ : List (List ℤ)) (b : rowsTold r p (t .rows) k₁ s₁ ≡ bodyMeant before at m p (fieldsAt l (at + 5) next)) where
+  module _ (m p : ℕ) (u : c ≡ Both m p) (r : Read) (k₁ : List ℕ) (s₁ : List (List ℤ)) (b : checkedRows r p (t .rows) k₁ s₁ ≡ familyIn before at m p (fieldsAt program (at + 5) next)) where
     abbrev entered : List Kind → Checked Declared
     entered ks = good (withFamily before (record { variables = m; parameters = ks }))
 
-    family-both : checkTop (readFamily at (slice (at + 3) next l)) before ≡ (rowsTold r p (t .rows) k₁ s₁ >>= entered)
-    unfolding countsTold _>>=_
+    family-both : checkTop (readFamily at (slice (at + 3) next program)) before ≡ (checkedRows r p (t .rows) k₁ s₁ >>= entered)
+    unfolding checkedCounts _>>=_
     family-both =
-        family-meant ∙ ap (λ (x : Counts). countsTold x >>= familyAfter before at (slice (at + 3) next l)) u
-        ∙ ap (λ (fs : List Field). bodyMeant before at m p fs >>= entered) (two-on l at next)
+        family-meant ∙ ap (λ (x : Counts). checkedCounts x >>= familyAfter before at (slice (at + 3) next program)) u
+        ∙ ap (λ (fs : List Field). familyIn before at m p fs >>= entered) (two-on program at next)
         ∙ ap (λ (x : Checked (List Kind)). x >>= entered) (sym b)
 
-    pub family-stops : (n q : ℕ) (f₂ : List (List ℕ)) (k₂ : List ℕ) (s₂ : List (List ℤ)) → r ≡ Refused n q → stepTold (Stopped n q) f₂ k₂ s₂ ≡ checkTop (readFamily at (slice (at + 3) next l)) before
-    unfolding stepTold rowsTold _>>=_
-    family-stops n q f₂ k₂ s₂ v = sym (family-both ∙ ap (λ (x : Read). rowsTold x p (t .rows) k₁ s₁ >>= entered) v)
+    pub family-stops : (n q : ℕ) (f₂ : List (List ℕ)) (k₂ : List ℕ) (s₂ : List (List ℤ)) → r ≡ Refused n q → checkedStep (Stopped n q) f₂ k₂ s₂ ≡ checkTop (readFamily at (slice (at + 3) next program)) before
+    unfolding checkedStep checkedRows _>>=_
+    family-stops n q f₂ k₂ s₂ v = sym (family-both ∙ ap (λ (x : Read). checkedRows x p (t .rows) k₁ s₁ >>= entered) v)
 
-    pub family-goes : OneOf (0 ∷ []) (tagOf the-type r) → good (withFamily before (record { variables = m; parameters = kindsAt p (t .rows) k₁ s₁ })) ≡ checkTop (readFamily at (slice (at + 3) next l)) before
-    unfolding rowsTold _>>=_
+    pub family-goes : OneOf (0 ∷ []) (tagOf the-type r) → good (withFamily before (record { variables = m; parameters = kindsAt p (t .rows) k₁ s₁ })) ≡ checkTop (readFamily at (slice (at + 3) next program)) before
+    unfolding checkedRows _>>=_
     family-goes o = by r o ∙ sym family-both
       where
-        by : (r : Read) → OneOf (0 ∷ []) (tagOf the-type r) → good (withFamily before (record { variables = m; parameters = kindsAt p (t .rows) k₁ s₁ })) ≡ (rowsTold r p (t .rows) k₁ s₁ >>= entered)
+        by : (r : Read) → OneOf (0 ∷ []) (tagOf the-type r) → good (withFamily before (record { variables = m; parameters = kindsAt p (t .rows) k₁ s₁ })) ≡ (checkedRows r p (t .rows) k₁ s₁ >>= entered)
         by (Upto n) o = refl
         by (Refused n q) o = absurd (let z : _≡_ {A = ℕ} 1 0 = o in omega arith)
 

@@ -6,30 +6,32 @@ use native.Mathlib.Omega.{arith}
 use native.Mathlib.Nat.{zero-add}
 use lib.IntN.{ℤ, pos}
 use lib.ListN.{length}
+use Rattle.language.specs.Limits.{mostWires, mostBits}
 use Rattle.language.specs.Tree.{qreg, creg}
 use Rattle.language.specs.Read.{readRegister}
 use Rattle.language.specs.Form.{constantForm}
 use Rattle.language.specs.Check.{Checked, good, refused, _>>=_, Declared, withQubits, withBits, checkTop}
-use Rattle.check_operand.specs.Tables.{kindBy, kindAt, kindsAt, tabulated}
+use Rattle.kinds.specs.declared.Kind.{Kind}
+use Rattle.kinds.specs.declared.Kind.the-variants.{Quantum, Classical}
+use Rattle.check_operand.specs.Tables.{kindIn, kindAt, kindsAt, tabulated}
 use Rattle.check_call.specs.Calls.{signatureAt}
-use Rattle.check_declaration.specs.Registers.{numberTold, registerMeant, RegisterRow, RegisterSet}
+use Rattle.check_declaration.specs.Registers.{checkedRegister, registerIn, RegisterRow, RegisterSet}
 use Rattle.check_index.specs.declared.Read.{Read}
 use Rattle.check_index.specs.declared.Read.the-variants.{Upto, Refused}
 use Rattle.check_operand.proofs.Tables.{row-more, length-rows}
-use Rattle.check_declaration.proofs.Registers.{qreg-is, creg-is}
-use Rattle.check_program.specs.Declarations.{declaredIn, DeclaredRight, stepTold}
+use Rattle.check_program.specs.Declarations.{declaredIn, DeclaredRight, checkedStep}
 use Rattle.check_program.specs.declared.SoFar.{SoFar}
 use Rattle.check_program.specs.declared.Step.the-variants.{Going, Stopped}
 use Rattle.check_declaration.proofs.Tables.{rows-below}
 use Rattle.check_program.proofs.Scopes.{families-above}
 
-pub number-stops : (r : Read) (n q : ℕ) (x : Checked ℕ) (w : ℕ → Declared) → r ≡ Refused n q → numberTold r ≡ x → refused n q ≡ (x >>= λ m. good (w m))
-unfolding numberTold _>>=_
-number-stops r n q x w u e = ap (λ (c : Checked ℕ). c >>= λ m. good (w m)) (sym (ap numberTold u) ∙ e)
+pub number-stops : (r : Read) (n q : ℕ) (x : Checked ℕ) (w : ℕ → Declared) → r ≡ Refused n q → checkedRegister r ≡ x → refused n q ≡ (x >>= λ m. good (w m))
+unfolding checkedRegister _>>=_
+number-stops r n q x w u e = ap (λ (c : Checked ℕ). c >>= λ m. good (w m)) (sym (ap checkedRegister u) ∙ e)
 
-pub number-goes : (r : Read) (n : ℕ) (x : Checked ℕ) (w : ℕ → Declared) → r ≡ Upto n → numberTold r ≡ x → good (w n) ≡ (x >>= λ m. good (w m))
-unfolding numberTold _>>=_
-number-goes r n x w u e = ap (λ (c : Checked ℕ). c >>= λ m. good (w m)) (sym (ap numberTold u) ∙ e)
+pub number-goes : (r : Read) (n : ℕ) (x : Checked ℕ) (w : ℕ → Declared) → r ≡ Upto n → checkedRegister r ≡ x → good (w n) ≡ (x >>= λ m. good (w m))
+unfolding checkedRegister _>>=_
+number-goes r n x w u e = ap (λ (c : Checked ℕ). c >>= λ m. good (w m)) (sym (ap checkedRegister u) ∙ e)
 
 module _ (t : SoFar) (families : List (List ℕ)) (kinds : List ℕ) (sizes : List (List ℤ)) (at : ℕ) (content : List ℕ) where
   abbrev now : Declared
@@ -38,59 +40,61 @@ module _ (t : SoFar) (families : List (List ℕ)) (kinds : List ℕ) (sizes : Li
   registers-now : length (now .registers) ≡ t .registers
   registers-now = length-rows (λ j. kindAt j kinds sizes) (t .registers) 0
 
-  qreg-meant : checkTop (readRegister qreg at content) now ≡ (registerMeant at (t .registers) (t .qubits) content >>= λ n. good (withQubits now n))
-  qreg-meant = qreg-is at content now ∙ ap (λ (k : ℕ). registerMeant at k (t .qubits) content >>= λ n. good (withQubits now n)) registers-now
+  qreg-meant : checkTop (readRegister qreg at content) now ≡ (registerIn at (t .registers) (t .qubits) mostWires content >>= λ n. good (withQubits now n))
+  unfolding readRegister checkTop
+  qreg-meant = ap (λ (k : ℕ). registerIn at k (t .qubits) mostWires content >>= λ n. good (withQubits now n)) registers-now
 
-  creg-meant : checkTop (readRegister creg at content) now ≡ (registerMeant at (t .registers) (t .bits) content >>= λ n. good (withBits now n))
-  creg-meant = creg-is at content now ∙ ap (λ (k : ℕ). registerMeant at k (t .bits) content >>= λ n. good (withBits now n)) registers-now
+  creg-meant : checkTop (readRegister creg at content) now ≡ (registerIn at (t .registers) (t .bits) mostBits content >>= λ n. good (withBits now n))
+  unfolding readRegister checkTop
+  creg-meant = ap (λ (k : ℕ). registerIn at k (t .bits) mostBits content >>= λ n. good (withBits now n)) registers-now
 
   module _ (r : Read) where
-    pub qreg-stops : (n q : ℕ) (k₁ : List ℕ) (s₁ : List (List ℤ)) → r ≡ Refused n q → numberTold r ≡ registerMeant at (t .registers) (t .qubits) content → stepTold (Stopped n q) families k₁ s₁ ≡ checkTop (readRegister qreg at content) now
-    unfolding stepTold
+    pub qreg-stops : (n q : ℕ) (k₁ : List ℕ) (s₁ : List (List ℤ)) → r ≡ Refused n q → checkedRegister r ≡ registerIn at (t .registers) (t .qubits) mostWires content → checkedStep (Stopped n q) families k₁ s₁ ≡ checkTop (readRegister qreg at content) now
+    unfolding checkedStep
     qreg-stops n q k₁ s₁ u e = number-stops r n q _ (withQubits now) u e ∙ sym qreg-meant
 
-    pub creg-stops : (n q : ℕ) (k₁ : List ℕ) (s₁ : List (List ℤ)) → r ≡ Refused n q → numberTold r ≡ registerMeant at (t .registers) (t .bits) content → stepTold (Stopped n q) families k₁ s₁ ≡ checkTop (readRegister creg at content) now
-    unfolding stepTold
+    pub creg-stops : (n q : ℕ) (k₁ : List ℕ) (s₁ : List (List ℤ)) → r ≡ Refused n q → checkedRegister r ≡ registerIn at (t .registers) (t .bits) mostBits content → checkedStep (Stopped n q) families k₁ s₁ ≡ checkTop (readRegister creg at content) now
+    unfolding checkedStep
     creg-stops n q k₁ s₁ u e = number-stops r n q _ (withBits now) u e ∙ sym creg-meant
 
 -- one register more
-module _ (t : SoFar) (families : List (List ℕ)) (n kind total : ℕ) {k₀ : List ℕ} {s₀ : List (List ℤ)} {k₁ : List ℕ} {s₁ : List (List ℤ)} (h : DeclaredRight t families k₀ s₀) (r : RegisterRow n kind (t .registers) total k₀ s₀ k₁ s₁) where
+module _ (t : SoFar) (families : List (List ℕ)) (n : ℕ) (kind : Kind) (total most : ℕ) {k₀ : List ℕ} {s₀ : List (List ℤ)} {k₁ : List ℕ} {s₁ : List (List ℤ)} (h : DeclaredRight t families k₀ s₀) (r : RegisterRow n kind (t .registers) total most k₀ s₀ k₁ s₁) where
   families-same : tabulated (signatureAt families k₁ s₁) (t .families) 0 ≡ tabulated (signatureAt families k₀ s₀) (t .families) 0
   families-same = families-above t families h (t .registers) (r .room) (r .apart)
 
-  registers-more : kindsAt (t .registers + 1) 0 k₁ s₁ ≡ (kindsAt (t .registers) 0 k₀ s₀ ++ (kindBy kind (constantForm (pos n)) ∷ []))
+  registers-more : kindsAt (t .registers + 1) 0 k₁ s₁ ≡ (kindsAt (t .registers) 0 k₀ s₀ ++ (kindIn kind (constantForm (pos n)) ∷ []))
   registers-more =
       row-more (λ j. kindAt j k₁ s₁) (t .registers) 0
       ∙ ap (λ (k : ℕ). kindsAt (t .registers) 0 k₁ s₁ ++ (kindAt k k₁ s₁ ∷ [])) (zero-add (t .registers))
       ∙ (λ i. rows-below (t .registers) 1 (t .registers) 0 (r .apart) (omega arith) i ++ (r .row i ∷ []))
 
-  pub with-qubits : kind ≡ 1 → declaredIn (record { families = t .families; rows = t .rows; registers = t .registers + 1; qubits = t .qubits + n; bits = t .bits }) families k₁ s₁ ≡ withQubits (declaredIn t families k₀ s₀) n
-  unfolding withQubits kindBy
+  pub with-qubits : kind ≡ Quantum → declaredIn (record { families = t .families; rows = t .rows; registers = t .registers + 1; qubits = t .qubits + n; bits = t .bits }) families k₁ s₁ ≡ withQubits (declaredIn t families k₀ s₀) n
+  unfolding withQubits kindIn
   with-qubits e =
       (λ i. record { families = families-same i; registers = registers-more i; qubits = t .qubits + n; bits = t .bits })
-      ∙ ap (λ (k : ℕ). record { families = tabulated (signatureAt families k₀ s₀) (t .families) 0; registers = kindsAt (t .registers) 0 k₀ s₀ ++ (kindBy k (constantForm (pos n)) ∷ []); qubits = t .qubits + n; bits = t .bits }) e
+      ∙ ap (λ (k : Kind). record { families = tabulated (signatureAt families k₀ s₀) (t .families) 0; registers = kindsAt (t .registers) 0 k₀ s₀ ++ (kindIn k (constantForm (pos n)) ∷ []); qubits = t .qubits + n; bits = t .bits }) e
 
-  pub with-bits : kind ≡ 2 → declaredIn (record { families = t .families; rows = t .rows; registers = t .registers + 1; qubits = t .qubits; bits = t .bits + n }) families k₁ s₁ ≡ withBits (declaredIn t families k₀ s₀) n
-  unfolding withBits kindBy
+  pub with-bits : kind ≡ Classical → declaredIn (record { families = t .families; rows = t .rows; registers = t .registers + 1; qubits = t .qubits; bits = t .bits + n }) families k₁ s₁ ≡ withBits (declaredIn t families k₀ s₀) n
+  unfolding withBits kindIn
   with-bits e =
       (λ i. record { families = families-same i; registers = registers-more i; qubits = t .qubits; bits = t .bits + n })
-      ∙ ap (λ (k : ℕ). record { families = tabulated (signatureAt families k₀ s₀) (t .families) 0; registers = kindsAt (t .registers) 0 k₀ s₀ ++ (kindBy k (constantForm (pos n)) ∷ []); qubits = t .qubits; bits = t .bits + n }) e
+      ∙ ap (λ (k : Kind). record { families = tabulated (signatureAt families k₀ s₀) (t .families) 0; registers = kindsAt (t .registers) 0 k₀ s₀ ++ (kindIn k (constantForm (pos n)) ∷ []); qubits = t .qubits; bits = t .bits + n }) e
 
-  pub holds-register : (q b : ℕ) → q ≤ 65535 → b ≤ 65535 → DeclaredRight (record { families = t .families; rows = t .rows; registers = t .registers + 1; qubits = q; bits = b }) families k₁ s₁
+  pub holds-register : (q b : ℕ) → q ≤ mostWires → b ≤ mostBits → DeclaredRight (record { families = t .families; rows = t .rows; registers = t .registers + 1; qubits = q; bits = b }) families k₁ s₁
   holds-register q b x y =
       let z = r .room in
       record { table = r .apart .table; long = h .long; familiesFit = h .familiesFit; registersFit = omega arith; qubitsFit = x; bitsFit = y; leastRows = h .leastRows; rowsFit = h .rowsFit; each = h .each; behind = h .behind }
 
 module _ (t : SoFar) (families : List (List ℕ)) (k₀ : List ℕ) (s₀ : List (List ℤ)) (at : ℕ) (content : List ℕ) (r : Read) (n : ℕ) (u : r ≡ Upto n) (h : DeclaredRight t families k₀ s₀) where
-  pub register-row : (kind count total : ℕ) (k₁ : List ℕ) (s₁ : List (List ℤ)) → RegisterSet r kind count total k₀ s₀ k₁ s₁ → RegisterRow n kind count total k₀ s₀ k₁ s₁
-  register-row kind count total k₁ s₁ s = rw u at s
+  pub register-row : (kind : Kind) (count total most : ℕ) (k₁ : List ℕ) (s₁ : List (List ℤ)) → RegisterSet r kind count total most k₀ s₀ k₁ s₁ → RegisterRow n kind count total most k₀ s₀ k₁ s₁
+  register-row kind count total most k₁ s₁ s = rw u at s
 
-  pub qreg-goes : {k₁ : List ℕ} {s₁ : List (List ℤ)} → RegisterRow n 1 (t .registers) (t .qubits) k₀ s₀ k₁ s₁ → numberTold r ≡ registerMeant at (t .registers) (t .qubits) content
-      → stepTold (Going (record { families = t .families; rows = t .rows; registers = t .registers + 1; qubits = t .qubits + n; bits = t .bits })) families k₁ s₁ ≡ checkTop (readRegister qreg at content) (declaredIn t families k₀ s₀)
-  unfolding stepTold
-  qreg-goes s e = ap good (with-qubits t families n 1 (t .qubits) h s refl) ∙ number-goes r n _ (withQubits (declaredIn t families k₀ s₀)) u e ∙ sym (qreg-meant t families k₀ s₀ at content)
+  pub qreg-goes : {k₁ : List ℕ} {s₁ : List (List ℤ)} → RegisterRow n Quantum (t .registers) (t .qubits) mostWires k₀ s₀ k₁ s₁ → checkedRegister r ≡ registerIn at (t .registers) (t .qubits) mostWires content
+      → checkedStep (Going (record { families = t .families; rows = t .rows; registers = t .registers + 1; qubits = t .qubits + n; bits = t .bits })) families k₁ s₁ ≡ checkTop (readRegister qreg at content) (declaredIn t families k₀ s₀)
+  unfolding checkedStep
+  qreg-goes s e = ap good (with-qubits t families n Quantum (t .qubits) mostWires h s refl) ∙ number-goes r n _ (withQubits (declaredIn t families k₀ s₀)) u e ∙ sym (qreg-meant t families k₀ s₀ at content)
 
-  pub creg-goes : {k₁ : List ℕ} {s₁ : List (List ℤ)} → RegisterRow n 2 (t .registers) (t .bits) k₀ s₀ k₁ s₁ → numberTold r ≡ registerMeant at (t .registers) (t .bits) content
-      → stepTold (Going (record { families = t .families; rows = t .rows; registers = t .registers + 1; qubits = t .qubits; bits = t .bits + n })) families k₁ s₁ ≡ checkTop (readRegister creg at content) (declaredIn t families k₀ s₀)
-  unfolding stepTold
-  creg-goes s e = ap good (with-bits t families n 2 (t .bits) h s refl) ∙ number-goes r n _ (withBits (declaredIn t families k₀ s₀)) u e ∙ sym (creg-meant t families k₀ s₀ at content)
+  pub creg-goes : {k₁ : List ℕ} {s₁ : List (List ℤ)} → RegisterRow n Classical (t .registers) (t .bits) mostBits k₀ s₀ k₁ s₁ → checkedRegister r ≡ registerIn at (t .registers) (t .bits) mostBits content
+      → checkedStep (Going (record { families = t .families; rows = t .rows; registers = t .registers + 1; qubits = t .qubits; bits = t .bits + n })) families k₁ s₁ ≡ checkTop (readRegister creg at content) (declaredIn t families k₀ s₀)
+  unfolding checkedStep
+  creg-goes s e = ap good (with-bits t families n Classical (t .bits) mostBits h s refl) ∙ number-goes r n _ (withBits (declaredIn t families k₀ s₀)) u e ∙ sym (creg-meant t families k₀ s₀ at content)

@@ -17,74 +17,74 @@ use Rattle.language.specs.Form.{inRange, allInRange}
 use Rattle.fields.specs.Header.{fieldsAt}
 use Rattle.fields.proofs.Reading.{Wholly}
 use Rattle.check_operand.specs.Tables.{tabulated}
-use Rattle.check_statement.specs.Statements.{declaredTold}
+use Rattle.check_statement.specs.Statements.{checkedDeclared}
 use Rattle.check_index.specs.declared.Read.{Read}
 use Rattle.check_index.specs.declared.Read.the-variants.{Upto, Refused}
 use Rattle.check_index.proofs.Read.{the-type}
-use Rattle.check_program.specs.Declarations.{declaredIn, DeclaredRight, stepTold, noneSoFar, StepRight}
+use Rattle.check_program.specs.Declarations.{declaredIn, DeclaredRight, checkedStep, noneSoFar, StepRight}
 use Rattle.check_program.specs.declared.SoFar.{SoFar}
 use Rattle.check_program.specs.declared.Step.the-variants.{Going, Stopped}
 use Rattle.check_program.specs.Answers.{resultTold}
 use Rattle.check_program.specs.declared.Step.{Step}
 use Rattle.check_program.specs.declared.Outcome.the-variants.{Accepted, Turned}
 
-pub kept-refused : (r : Read) (n q : ℕ) (d : Declared) (families : List (List ℕ)) (kinds : List ℕ) (sizes : List (List ℤ)) → r ≡ Refused n q → stepTold (Stopped n q) families kinds sizes ≡ declaredTold r d
-unfolding declaredTold stepTold
-kept-refused r n q d families kinds sizes e = sym (ap (λ (x : Read). declaredTold x d) e)
+pub kept-refused : (r : Read) (n q : ℕ) (d : Declared) (families : List (List ℕ)) (kinds : List ℕ) (sizes : List (List ℤ)) → r ≡ Refused n q → checkedStep (Stopped n q) families kinds sizes ≡ checkedDeclared r d
+unfolding checkedDeclared checkedStep
+kept-refused r n q d families kinds sizes e = sym (ap (λ (x : Read). checkedDeclared x d) e)
 
-pub kept-going : (r : Read) (t : SoFar) (families : List (List ℕ)) (kinds : List ℕ) (sizes : List (List ℤ)) → OneOf (0 ∷ []) (tagOf the-type r) → stepTold (Going t) families kinds sizes ≡ declaredTold r (declaredIn t families kinds sizes)
-unfolding declaredTold stepTold
+pub kept-going : (r : Read) (t : SoFar) (families : List (List ℕ)) (kinds : List ℕ) (sizes : List (List ℤ)) → OneOf (0 ∷ []) (tagOf the-type r) → checkedStep (Going t) families kinds sizes ≡ checkedDeclared r (declaredIn t families kinds sizes)
+unfolding checkedDeclared checkedStep
 kept-going (Upto n) t families kinds sizes h = refl
 kept-going (Refused n p) t families kinds sizes h = absurd (let z : _≡_ {A = ℕ} 1 0 = h in omega arith)
 
-module _ (d : Declared) (at next tag : ℕ) (p : List ℕ) where
+module _ (d : Declared) (at next tag : ℕ) (program : List ℕ) where
   abbrev topped : Checked Declared
-  topped = checkTop (readTop (field at tag (slice (at + 3) next p))) d
+  topped = checkTop (readTop (field at tag (slice (at + 3) next program))) d
 
-  pub top-family : tag ≡ 1 → checkTop (readFamily at (slice (at + 3) next p)) d ≡ topped
+  pub top-family : tag ≡ 1 → checkTop (readFamily at (slice (at + 3) next program)) d ≡ topped
   unfolding readTop choose
-  top-family e = sym (ap (λ (t : ℕ). checkTop (readTop (field at t (slice (at + 3) next p))) d) e)
+  top-family e = sym (ap (λ (t : ℕ). checkTop (readTop (field at t (slice (at + 3) next program))) d) e)
 
-  pub top-qreg : tag ≡ 2 → checkTop (readRegister qreg at (slice (at + 3) next p)) d ≡ topped
+  pub top-qreg : tag ≡ 2 → checkTop (readRegister qreg at (slice (at + 3) next program)) d ≡ topped
   unfolding readTop choose
-  top-qreg e = sym (ap (λ (t : ℕ). checkTop (readTop (field at t (slice (at + 3) next p))) d) e)
+  top-qreg e = sym (ap (λ (t : ℕ). checkTop (readTop (field at t (slice (at + 3) next program))) d) e)
 
-  pub top-creg : tag ≡ 3 → checkTop (readRegister creg at (slice (at + 3) next p)) d ≡ topped
+  pub top-creg : tag ≡ 3 → checkTop (readRegister creg at (slice (at + 3) next program)) d ≡ topped
   unfolding readTop choose
-  top-creg e = sym (ap (λ (t : ℕ). checkTop (readTop (field at t (slice (at + 3) next p))) d) e)
+  top-creg e = sym (ap (λ (t : ℕ). checkTop (readTop (field at t (slice (at + 3) next program))) d) e)
 
 abbrev pub topsAt : List ℕ → (at to : ℕ) → Declared → Checked Declared
 topsAt p at to d = checkTops (map readTop (fieldsAt p at to)) d
 
-module _ (p : List ℕ) (at to : ℕ) (d : Declared) where
-  pub tops-end : fieldsAt p at to ≡ [] → resultTold Accepted ≡ verdict (topsAt p at to d)
+module _ (program : List ℕ) (at to : ℕ) (d : Declared) where
+  pub tops-end : fieldsAt program at to ≡ [] → resultTold Accepted ≡ verdict (topsAt program at to d)
   unfolding checkTops resultTold verdict
   tops-end e = sym (ap (λ (fs : List Field). verdict (checkTops (map readTop fs) d)) e)
 
-  pub tops-cut : fieldsAt p at to ≡ (badHeader at ∷ []) → resultTold (Turned 2 at) ≡ verdict (topsAt p at to d)
+  pub tops-cut : fieldsAt program at to ≡ (badHeader at ∷ []) → resultTold (Turned 2 at) ≡ verdict (topsAt program at to d)
   unfolding checkTops checkTop readTop resultTold verdict _>>=_
   tops-cut e = sym (ap (λ (fs : List Field). verdict (checkTops (map readTop fs) d)) e)
 
-  module _ (tag next : ℕ) (w : Wholly p at to tag next) (s : Step) (families : List (List ℕ)) (kinds : List ℕ) (sizes : List (List ℤ))
-      (e : stepTold s families kinds sizes ≡ checkTop (readTop (field at tag (slice (at + 3) next p))) d) where
-    tops-next : topsAt p at to d ≡ (stepTold s families kinds sizes >>= topsAt p next to)
+  module _ (tag next : ℕ) (w : Wholly program at to tag next) (s : Step) (families : List (List ℕ)) (kinds : List ℕ) (sizes : List (List ℤ))
+      (e : checkedStep s families kinds sizes ≡ checkTop (readTop (field at tag (slice (at + 3) next program))) d) where
+    tops-next : topsAt program at to d ≡ (checkedStep s families kinds sizes >>= topsAt program next to)
     unfolding checkTops
-    tops-next = ap (λ (fs : List Field). checkTops (map readTop fs) d) (w .first) ∙ ap (λ (c : Checked Declared). c >>= topsAt p next to) (sym e)
+    tops-next = ap (λ (fs : List Field). checkTops (map readTop fs) d) (w .first) ∙ ap (λ (c : Checked Declared). c >>= topsAt program next to) (sym e)
 
-    pub tops-stop : (n q : ℕ) → s ≡ Stopped n q → resultTold (Turned n q) ≡ verdict (topsAt p at to d)
-    unfolding resultTold verdict stepTold _>>=_
-    tops-stop n q u = sym (ap verdict (tops-next ∙ ap (λ (x : Step). stepTold x families kinds sizes >>= topsAt p next to) u))
+    pub tops-stop : (n q : ℕ) → s ≡ Stopped n q → resultTold (Turned n q) ≡ verdict (topsAt program at to d)
+    unfolding resultTold verdict checkedStep _>>=_
+    tops-stop n q u = sym (ap verdict (tops-next ∙ ap (λ (x : Step). checkedStep x families kinds sizes >>= topsAt program next to) u))
 
-    pub tops-go : (t : SoFar) → s ≡ Going t → topsAt p at to d ≡ topsAt p next to (declaredIn t families kinds sizes)
-    unfolding stepTold _>>=_
-    tops-go t u = tops-next ∙ ap (λ (x : Step). stepTold x families kinds sizes >>= topsAt p next to) u
+    pub tops-go : (t : SoFar) → s ≡ Going t → topsAt program at to d ≡ topsAt program next to (declaredIn t families kinds sizes)
+    unfolding checkedStep _>>=_
+    tops-go t u = tops-next ∙ ap (λ (x : Step). checkedStep x families kinds sizes >>= topsAt program next to) u
 
 pub step-holds : (s : Step) (t : SoFar) (families : List (List ℕ)) (kinds : List ℕ) (sizes : List (List ℤ)) → s ≡ Going t → StepRight s families kinds sizes → DeclaredRight t families kinds sizes
 step-holds s t families kinds sizes e h = rw e at h
 
-pub tops-all : (p : List ℕ) (families : List (List ℕ)) (kinds : List ℕ) (sizes : List (List ℤ)) → check (read p) ≡ topsAt p 0 (length p) (declaredIn noneSoFar families kinds sizes)
+pub tops-all : (program : List ℕ) (families : List (List ℕ)) (kinds : List ℕ) (sizes : List (List ℤ)) → check (read program) ≡ topsAt program 0 (length program) (declaredIn noneSoFar families kinds sizes)
 unfolding check read fieldsAt tabulated
-tops-all p families kinds sizes = sym (ap (λ (l : List ℕ). checkTops (map readTop (fields 0 l)) (declaredIn noneSoFar families kinds sizes)) (take-length p))
+tops-all program families kinds sizes = sym (ap (λ (l : List ℕ). checkTops (map readTop (fields 0 l)) (declaredIn noneSoFar families kinds sizes)) (take-length program))
 
 pub zeros-hold : DeclaredRight noneSoFar (replicate 255 (replicate 3 0)) (replicate 2295 0) (replicate 2295 (replicate 5 (pos 0)))
 unfolding inRange allInRange
@@ -105,10 +105,10 @@ zeros-hold = record {
   behind = λ k h. absurd (omega arith);
 }
 
-pub program-long : (p : List ℕ) → 65535 < length p → resultTold (Turned 1 0) ≡ checkResult p
+pub program-long : (program : List ℕ) → 65535 < length program → resultTold (Turned 1 0) ≡ checkResult program
 unfolding checkResult checkProgram verdict resultTold require _>>_
-program-long p h = sym (rw (lt-leb (length p) 65535 h))
+program-long program h = sym (rw (lt-leb (length program) 65535 h))
 
-pub program-short : (p : List ℕ) → length p ≤ 65535 → verdict (check (read p)) ≡ checkResult p
+pub program-short : (program : List ℕ) → length program ≤ 65535 → verdict (check (read program)) ≡ checkResult program
 unfolding checkResult checkProgram require _>>_
-program-short p h = sym (rw (le-leb (length p) 65535 h))
+program-short program h = sym (rw (le-leb (length program) 65535 h))

@@ -7,7 +7,7 @@ use lib.ListN.{length, getD, drop}
 use Rattle.language.specs.Limits.{mostFamilies, mostRegisters, mostWires, mostBits, mostParameters}
 use Rattle.language.specs.Tree.{Place}
 use Rattle.language.specs.Read.{Field, typesOf, statementsBy, outerStatement}
-use Rattle.language.specs.Check.{Checked, good, refused, _>>=_, _>>_, Kind, Declared, familyScope, kindsOf, checkStatements}
+use Rattle.language.specs.Check.{Checked, good, refused, Kind, Declared, checkFamily}
 use Rattle.check_operand.specs.Tables.{kindsAt, tabulated}
 use Rattle.check_call.specs.Calls.{signatureAt, FamilyRight}
 use Rattle.check_program.specs.declared.SoFar.{SoFar}
@@ -36,15 +36,15 @@ pub record DeclaredRight (t : SoFar) (families : List (List ℕ)) (kinds : List 
 abbrev pub noneSoFar : SoFar
 noneSoFar = record { families = 0; rows = mostRegisters; registers = 0; qubits = 0; bits = 0 }
 
--- what an answer and the tables tell
-unfoldable pub stepTold : Step → List (List ℕ) → List ℕ → List (List ℤ) → Checked Declared
-stepTold (Going t) families kinds sizes = good (declaredIn t families kinds sizes)
-stepTold (Stopped n p) families kinds sizes = refused n p
+-- what the answer on a top field, with the tables, stands for
+unfoldable pub checkedStep : Step → List (List ℕ) → List ℕ → List (List ℤ) → Checked Declared
+checkedStep (Going t) families kinds sizes = good (declaredIn t families kinds sizes)
+checkedStep (Stopped n p) families kinds sizes = refused n p
 
 abbrev pub StepRight : Step → List (List ℕ) → List ℕ → List (List ℤ) → Type 0
 StepRight (Going t) families kinds sizes = DeclaredRight t families kinds sizes
 StepRight (Stopped n p) families kinds sizes = Unit {0}
 
--- the kinds of a family's parameters, where its types and its body are right
-abbrev pub bodyMeant : Declared → Place → (m p : ℕ) → List Field → Checked (List Kind)
-bodyMeant d q m p fs = kindsOf (familyScope d m []) (typesOf q p fs) >>= λ ks. (checkStatements (statementsBy outerStatement (drop p fs)) (familyScope d m ks) >> good ks)
+-- the kinds of the parameters of the family at q with these fields, of m index variables and n parameters
+abbrev pub familyIn : Declared → Place → (m n : ℕ) → List Field → Checked (List Kind)
+familyIn d q m n fs = checkFamily d m (typesOf q n fs) (statementsBy outerStatement (drop n fs))

@@ -9,25 +9,25 @@ ghost use Rattle.language.specs.Tree.{qreg, creg};
 ghost use Rattle.language.specs.Result.{verdict, checkResult};
 ghost use Rattle.language.specs.Limits.{mostFamilies, mostVariables, mostParameters};
 ghost use Rattle.fields.specs.Header.{fieldsAt};
-ghost use Rattle.check_declaration.specs.Types.{Apart, rowsTold};
-ghost use Rattle.check_program.specs.Declarations.{bodyMeant, declaredIn, DeclaredRight, stepTold, StepRight, noneSoFar};
+ghost use Rattle.check_declaration.specs.Types.{Apart, checkedRows};
+ghost use Rattle.check_program.specs.Declarations.{familyIn, declaredIn, DeclaredRight, checkedStep, StepRight, noneSoFar};
 ghost use Rattle.check_program.specs.Answers.{resultTold};
 use check_call::FamilyRow;
 use check_declaration::Counts;
-use check_declaration::MOST_FAMILIES;
-use check_declaration::MOST_REGISTERS;
 use check_declaration::TABLE_ROWS;
-use check_index::DEEPEST;
-use check_index::FORM_NUMBERS;
-use check_index::MOST_LOOPS;
 use check_index::Read;
-use check_index::SIZE_NUMBERS;
-use check_index::Size;
 use check_operand::Visible;
 use fields::Header;
-
-// Bytes of a program.
-const LONGEST_PROGRAM: usize = 65_535;
+use forms::FORM_NUMBERS;
+use forms::SIZE_NUMBERS;
+use forms::Size;
+use limits::DEEPEST;
+use limits::LONGEST_PROGRAM;
+use limits::MOST_BITS;
+use limits::MOST_FAMILIES;
+use limits::MOST_LOOPS;
+use limits::MOST_REGISTERS;
+use limits::MOST_WIRES;
 
 // How much is declared so far: families, registers, qubits and bits; and how many rows of the table of operands are in use.
 pub struct SoFar {
@@ -50,13 +50,13 @@ pub enum Outcome {
     Turned(u32, usize),
 }
 
-// The types and the body of the family at `at`, whose field ends at `next`; the types go to its rows.
+// The types and the body of the family at `at`, of m index variables, whose field ends at `next`; the types go to its rows.
 fn family_body(
     program: &[u8],
     at: usize,
     next: usize,
     m: usize,
-    p: usize,
+    parameters: usize,
     t: SoFar,
     families: &[FamilyRow],
     kinds: &mut [u8],
@@ -64,22 +64,32 @@ fn family_body(
 ) -> Read
     requires { ⌜ (at + 5 ≤ next) × (next ≤ length (now program)) ⌝ }
     requires { ⌜ m ≤ mostVariables ⌝ }
-    requires { ⌜ p ≤ mostParameters ⌝ }
+    requires { ⌜ parameters ≤ mostParameters ⌝ }
     requires { ⌜ t .families < mostFamilies ⌝ }
     requires { ⌜ DeclaredRight t (now families) (now kinds) (now sizes) ⌝ }
-    ensures { λ r. ⌜ rowsTold r p (t .rows) (now (kinds .exit)) (now (sizes .exit)) ≡ bodyMeant (declaredIn t (now (families .entry)) (now (kinds .entry)) (now (sizes .entry))) at m p (fieldsAt (now (program .entry)) (at + 5) next) ⌝ }
-    ensures { λ _. ⌜ Apart (t .rows) p (now (kinds .entry)) (now (sizes .entry)) (now (kinds .exit)) (now (sizes .exit)) ⌝ }
+    ensures { λ r. ⌜ checkedRows r parameters (t .rows) (now (kinds .exit)) (now (sizes .exit)) ≡ familyIn (declaredIn t (now (families .entry)) (now (kinds .entry)) (now (sizes .entry))) at m parameters (fieldsAt (now (program .entry)) (at + 5) next) ⌝ }
+    ensures { λ _. ⌜ Apart (t .rows) parameters (now (kinds .entry)) (now (sizes .entry)) (now (kinds .exit)) (now (sizes .exit)) ⌝ }
 {
     let from = at + 5;
     let first = t.rows;
-    let r = check_declaration::parameter_types(program, from, next, at, m, p, first, kinds, sizes);
+    let r = check_declaration::parameter_types(
+        program,
+        from,
+        next,
+        at,
+        m,
+        parameters,
+        first,
+        kinds,
+        sizes,
+    );
     let Read::Upto(mid) = r else {
         return r;
     };
     let s = Visible {
         families: t.families,
         first,
-        count: p,
+        count: parameters,
         variables: m,
         loops: 0,
     };
@@ -110,21 +120,21 @@ fn family(
 ) -> Step
     requires { ⌜ (at + 3 ≤ next) × (next ≤ length (now program)) ⌝ }
     requires { ⌜ DeclaredRight t (now families) (now kinds) (now sizes) ⌝ }
-    ensures { λ r. ⌜ stepTold r (now (families .exit)) (now (kinds .exit)) (now (sizes .exit)) ≡ checkTop (readFamily at (slice (at + 3) next (now (program .entry)))) (declaredIn t (now (families .entry)) (now (kinds .entry)) (now (sizes .entry))) ⌝ }
+    ensures { λ r. ⌜ checkedStep r (now (families .exit)) (now (kinds .exit)) (now (sizes .exit)) ≡ checkTop (readFamily at (slice (at + 3) next (now (program .entry)))) (declaredIn t (now (families .entry)) (now (kinds .entry)) (now (sizes .entry))) ⌝ }
     ensures { λ r. ⌜ StepRight r (now (families .exit)) (now (kinds .exit)) (now (sizes .exit)) ⌝ }
 {
     let n = t.families;
     match check_declaration::family_counts(program, at, next, n) {
         Counts::Bad(k, q) => Step::Stopped(k, q),
-        Counts::Both(m, p) => {
+        Counts::Both(m, parameters) => {
             let first = t.rows;
-            match family_body(program, at, next, m, p, t, families, kinds, sizes) {
+            match family_body(program, at, next, m, parameters, t, families, kinds, sizes) {
                 Read::Refused(k, q) => Step::Stopped(k, q),
                 Read::Upto(_) => {
-                    let entry = [m, p, first];
+                    let entry = [m, parameters, first];
                     families[n] = entry;
                     let after = n + 1;
-                    let rows = first + p;
+                    let rows = first + parameters;
                     Step::Going(SoFar {
                         families: after,
                         rows,
@@ -150,7 +160,7 @@ fn quantum_register(
 ) -> Step
     requires { ⌜ (at + 3 ≤ next) × (next ≤ length (now program)) ⌝ }
     requires { ⌜ DeclaredRight t (now families) (now kinds) (now sizes) ⌝ }
-    ensures { λ r. ⌜ stepTold r (now (families .entry)) (now (kinds .exit)) (now (sizes .exit)) ≡ checkTop (readRegister qreg at (slice (at + 3) next (now (program .entry)))) (declaredIn t (now (families .entry)) (now (kinds .entry)) (now (sizes .entry))) ⌝ }
+    ensures { λ r. ⌜ checkedStep r (now (families .entry)) (now (kinds .exit)) (now (sizes .exit)) ≡ checkTop (readRegister qreg at (slice (at + 3) next (now (program .entry)))) (declaredIn t (now (families .entry)) (now (kinds .entry)) (now (sizes .entry))) ⌝ }
     ensures { λ r. ⌜ StepRight r (now (families .entry)) (now (kinds .exit)) (now (sizes .exit)) ⌝ }
 {
     let n = t.registers;
@@ -159,9 +169,10 @@ fn quantum_register(
         program,
         at,
         next,
-        check_operand::QUANTUM,
+        kinds::Kind::Quantum,
         n,
         total,
+        MOST_WIRES,
         kinds,
         sizes,
     ) {
@@ -192,7 +203,7 @@ fn classical_register(
 ) -> Step
     requires { ⌜ (at + 3 ≤ next) × (next ≤ length (now program)) ⌝ }
     requires { ⌜ DeclaredRight t (now families) (now kinds) (now sizes) ⌝ }
-    ensures { λ r. ⌜ stepTold r (now (families .entry)) (now (kinds .exit)) (now (sizes .exit)) ≡ checkTop (readRegister creg at (slice (at + 3) next (now (program .entry)))) (declaredIn t (now (families .entry)) (now (kinds .entry)) (now (sizes .entry))) ⌝ }
+    ensures { λ r. ⌜ checkedStep r (now (families .entry)) (now (kinds .exit)) (now (sizes .exit)) ≡ checkTop (readRegister creg at (slice (at + 3) next (now (program .entry)))) (declaredIn t (now (families .entry)) (now (kinds .entry)) (now (sizes .entry))) ⌝ }
     ensures { λ r. ⌜ StepRight r (now (families .entry)) (now (kinds .exit)) (now (sizes .exit)) ⌝ }
 {
     let n = t.registers;
@@ -201,9 +212,10 @@ fn classical_register(
         program,
         at,
         next,
-        check_operand::CLASSICAL,
+        kinds::Kind::Classical,
         n,
         total,
+        MOST_BITS,
         kinds,
         sizes,
     ) {
@@ -222,8 +234,8 @@ fn classical_register(
     }
 }
 
-// The top field of a tag at `at`, whose field ends at `next`, that declares nothing.
-fn acting(
+// The top field of a tag at `at`, whose field ends at `next`, which declares nothing.
+fn top_action(
     program: &[u8],
     at: usize,
     next: usize,
@@ -236,7 +248,7 @@ fn acting(
     requires { ⌜ (at + 3 ≤ next) × (next ≤ length (now program)) ⌝ }
     requires { ⌜ DeclaredRight t (now families) (now kinds) (now sizes) ⌝ }
     requires { ⌜ (tag ≡ 1 → ⊥) × (tag ≡ 2 → ⊥) × (tag ≡ 3 → ⊥) ⌝ }
-    ensures { λ r. ⌜ stepTold r (now (families .entry)) (now (kinds .entry)) (now (sizes .entry)) ≡ checkTop (readTop (field at tag (slice (at + 3) next (now (program .entry))))) (declaredIn t (now (families .entry)) (now (kinds .entry)) (now (sizes .entry))) ⌝ }
+    ensures { λ r. ⌜ checkedStep r (now (families .entry)) (now (kinds .entry)) (now (sizes .entry)) ≡ checkTop (readTop (field at tag (slice (at + 3) next (now (program .entry))))) (declaredIn t (now (families .entry)) (now (kinds .entry)) (now (sizes .entry))) ⌝ }
     ensures { λ r. ⌜ StepRight r (now (families .entry)) (now (kinds .entry)) (now (sizes .entry)) ⌝ }
 {
     let s = Visible {
@@ -277,14 +289,14 @@ fn top_field(
 ) -> Step
     requires { ⌜ (at + 3 ≤ next) × (next ≤ length (now program)) ⌝ }
     requires { ⌜ DeclaredRight t (now families) (now kinds) (now sizes) ⌝ }
-    ensures { λ r. ⌜ stepTold r (now (families .exit)) (now (kinds .exit)) (now (sizes .exit)) ≡ checkTop (readTop (field at tag (slice (at + 3) next (now (program .entry))))) (declaredIn t (now (families .entry)) (now (kinds .entry)) (now (sizes .entry))) ⌝ }
+    ensures { λ r. ⌜ checkedStep r (now (families .exit)) (now (kinds .exit)) (now (sizes .exit)) ≡ checkTop (readTop (field at tag (slice (at + 3) next (now (program .entry))))) (declaredIn t (now (families .entry)) (now (kinds .entry)) (now (sizes .entry))) ⌝ }
     ensures { λ r. ⌜ StepRight r (now (families .exit)) (now (kinds .exit)) (now (sizes .exit)) ⌝ }
 {
     match tag {
         1 => family(program, at, next, t, families, kinds, sizes),
         2 => quantum_register(program, at, next, t, families, kinds, sizes),
         3 => classical_register(program, at, next, t, families, kinds, sizes),
-        _ => acting(program, at, next, tag, t, families, kinds, sizes),
+        _ => top_action(program, at, next, tag, t, families, kinds, sizes),
     }
 }
 

@@ -10,23 +10,23 @@ ghost use Rattle.language.specs.Check.{checkStatement, checkStatements, Declare
 ghost use Rattle.language.specs.Limits.{allVariables};
 ghost use Rattle.fields.specs.Header.{fieldsAt};
 ghost use Rattle.check_index.specs.Indexes.{scopeOf};
-ghost use Rattle.check_index.specs.Answers.{partTold};
+ghost use Rattle.check_index.specs.Answers.{checkedPart};
 ghost use Rattle.check_operand.specs.Tables.{TablesRight};
-ghost use Rattle.check_statement.specs.Statements.{StatementSays, loopTold, loopMeant, LoopPast, declaredTold};
+ghost use Rattle.check_statement.specs.Statements.{StatementSays, checkedBounds, boundsDue, BoundsPass, checkedDeclared};
 ghost use Rattle.check_call.specs.Calls.{FamiliesRight, scopeFull};
 use check_call::FamilyRow;
 use check_call::call;
-use check_index::DEEPEST;
-use check_index::FORM_NUMBERS;
-use check_index::Form;
-use check_index::MOST_LOOPS;
 use check_index::Read;
-use check_index::Size;
 use check_operand::Visible;
 use check_operand::Wanted;
 use check_operand::one_wire;
 use check_operand::two_wires;
 use fields::Header;
+use forms::FORM_NUMBERS;
+use forms::Form;
+use forms::Size;
+use limits::DEEPEST;
+use limits::MOST_LOOPS;
 
 // Levels of the statements in a conditional, which stands at the top.
 const IN_CONDITIONAL: usize = DEEPEST - 1;
@@ -47,7 +47,7 @@ pub enum StatementTag {
 }
 
 // The low and the high form of the loop at `at`.
-fn loop_forms(
+fn loop_bounds(
     program: &[u8],
     at: usize,
     next: usize,
@@ -57,8 +57,8 @@ fn loop_forms(
 ) -> Read
     requires { ⌜ (at + 3 ≤ next) × (next ≤ length (now program)) ⌝ }
     requires { ⌜ variables ≤ allVariables ⌝ }
-    ensures { λ r. ⌜ loopTold r (now (low .exit)) (now (high .exit)) ≡ loopMeant (scopeOf variables) at (fieldsAt (now (program .entry)) (at + 3) next) ⌝ }
-    ensures { λ r. ⌜ LoopPast (now (program .entry)) (at + 3) next r (now (low .exit)) (now (high .exit)) ⌝ }
+    ensures { λ r. ⌜ checkedBounds r (now (low .exit)) (now (high .exit)) ≡ boundsDue (scopeOf variables) at (fieldsAt (now (program .entry)) (at + 3) next) ⌝ }
+    ensures { λ r. ⌜ BoundsPass (now (program .entry)) (at + 3) next r (now (low .exit)) (now (high .exit)) ⌝ }
 {
     let from = at + 3;
     let r = check_index::index(program, from, next, at, DEEPEST, variables, low);
@@ -117,7 +117,7 @@ fn one_statement(
     requires { ⌜ (at + 3 ≤ next) × (next ≤ length (now program)) ⌝ }
     requires { ⌜ TablesRight s (now kinds) (now sizes) (now lows) (now highs) ⌝ }
     requires { ⌜ FamiliesRight s (now families) (now kinds) ⌝ }
-    ensures { λ r. ⌜ partTold r ≡ checkStatement (readStatement levels (field at tag (slice (at + 3) next (now (program .entry))))) (scopeFull s (now (families .entry)) (now (kinds .entry)) (now (sizes .entry)) (now (lows .entry)) (now (highs .entry))) ⌝ }
+    ensures { λ r. ⌜ checkedPart r ≡ checkStatement (readStatement levels (field at tag (slice (at + 3) next (now (program .entry))))) (scopeFull s (now (families .entry)) (now (kinds .entry)) (now (sizes .entry)) (now (lows .entry)) (now (highs .entry))) ⌝ }
 {
     if levels == 0 {
         return Read::Refused(too_deep(tag), at);
@@ -176,7 +176,7 @@ pub fn list(
     requires { ⌜ to ≤ length (now program) ⌝ }
     requires { ⌜ TablesRight s (now kinds) (now sizes) (now lows) (now highs) ⌝ }
     requires { ⌜ FamiliesRight s (now families) (now kinds) ⌝ }
-    ensures { λ r. ⌜ partTold r ≡ checkStatements (statementsBy (readStatement levels) (fieldsAt (now (program .entry)) from to)) (scopeFull s (now (families .entry)) (now (kinds .entry)) (now (sizes .entry)) (now (lows .entry)) (now (highs .entry))) ⌝ }
+    ensures { λ r. ⌜ checkedPart r ≡ checkStatements (statementsBy (readStatement levels) (fieldsAt (now (program .entry)) from to)) (scopeFull s (now (families .entry)) (now (kinds .entry)) (now (sizes .entry)) (now (lows .entry)) (now (highs .entry))) ⌝ }
 {
     let mut at = from;
     loop {
@@ -222,7 +222,7 @@ fn repeated(
     requires { ⌜ (at + 3 ≤ next) × (next ≤ length (now program)) ⌝ }
     requires { ⌜ TablesRight s (now kinds) (now sizes) (now lows) (now highs) ⌝ }
     requires { ⌜ FamiliesRight s (now families) (now kinds) ⌝ }
-    ensures { λ r. ⌜ partTold r ≡ checkStatement (forOf (readStatement levels) at (fieldsAt (now (program .entry)) (at + 3) next)) (scopeFull s (now (families .entry)) (now (kinds .entry)) (now (sizes .entry)) (now (lows .entry)) (now (highs .entry))) ⌝ }
+    ensures { λ r. ⌜ checkedPart r ≡ checkStatement (forOf (readStatement levels) at (fieldsAt (now (program .entry)) (at + 3) next)) (scopeFull s (now (families .entry)) (now (kinds .entry)) (now (sizes .entry)) (now (lows .entry)) (now (highs .entry))) ⌝ }
 {
     let n = s.loops;
     if MOST_LOOPS <= n {
@@ -232,7 +232,7 @@ fn repeated(
     let variables = s.variables + n;
     let mut low = [0i64; FORM_NUMBERS];
     let mut high = [0i64; FORM_NUMBERS];
-    let r = loop_forms(program, at, next, variables, &mut low, &mut high);
+    let r = loop_bounds(program, at, next, variables, &mut low, &mut high);
     let Read::Upto(from) = r else {
         return r;
     };
@@ -276,7 +276,7 @@ fn conditional(
     requires { ⌜ (at + 3 ≤ next) × (next ≤ length (now program)) ⌝ }
     requires { ⌜ TablesRight s (now kinds) (now sizes) (now lows) (now highs) ⌝ }
     requires { ⌜ FamiliesRight s (now families) (now kinds) ⌝ }
-    ensures { λ r. ⌜ ((d : Declared) → topScope d ≡ (scopeFull s (now (families .entry)) (now (kinds .entry)) (now (sizes .entry)) (now (lows .entry)) (now (highs .entry))) → declaredTold r d ≡ checkTop (readIf at (slice (at + 3) next (now (program .entry)))) d) ⌝ }
+    ensures { λ r. ⌜ ((d : Declared) → topScope d ≡ (scopeFull s (now (families .entry)) (now (kinds .entry)) (now (sizes .entry)) (now (lows .entry)) (now (highs .entry))) → checkedDeclared r d ≡ checkTop (readIf at (slice (at + 3) next (now (program .entry)))) d) ⌝ }
 {
     let from = at + 3;
     if next <= from {
@@ -335,7 +335,7 @@ pub fn action(
     requires { ⌜ TablesRight s (now kinds) (now sizes) (now lows) (now highs) ⌝ }
     requires { ⌜ FamiliesRight s (now families) (now kinds) ⌝ }
     requires { ⌜ (tag ≡ 1 → ⊥) × (tag ≡ 2 → ⊥) × (tag ≡ 3 → ⊥) ⌝ }
-    ensures { λ r. ⌜ ((d : Declared) → topScope d ≡ (scopeFull s (now (families .entry)) (now (kinds .entry)) (now (sizes .entry)) (now (lows .entry)) (now (highs .entry))) → declaredTold r d ≡ checkTop (readTop (field at tag (slice (at + 3) next (now (program .entry))))) d) ⌝ }
+    ensures { λ r. ⌜ ((d : Declared) → topScope d ≡ (scopeFull s (now (families .entry)) (now (kinds .entry)) (now (sizes .entry)) (now (lows .entry)) (now (highs .entry))) → checkedDeclared r d ≡ checkTop (readTop (field at tag (slice (at + 3) next (now (program .entry))))) d) ⌝ }
 {
     match tag {
         4 => check_operand::two_operands(

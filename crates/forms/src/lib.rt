@@ -1,4 +1,4 @@
-// Index forms: thirteen numbers, the constant and then the coefficient of each of twelve variables.
+// Index forms: the constant, and then the coefficient of each index variable.
 ghost use mathlib.Core.Path.{_≡_};
 ghost use mathlib.Core.Bool.{true, false};
 ghost use Prim.Native.Nat.{ℕ, _+_, _≤_, _<_};
@@ -6,11 +6,28 @@ ghost use lib.ListN.{length, getD, drop, replicate};
 ghost use lib.IntN.{pos};
 ghost use Rattle.language.specs.Form.{built, inRange, constantForm, variableForm, sumOf, differenceOf, multipleOf, _thenBuild_, allZero, closed, showingOf, showing, putIn};
 ghost use Rattle.language.specs.Tree.{Place, product};
+ghost use Rattle.language.specs.Limits.{mostVariables, mostLoops, allVariables};
 ghost use Rattle.language.specs.Check.{combined};
 ghost use Rattle.forms.specs.Products.{madeOf, productOf, MadeKept};
-ghost use Rattle.forms.specs.Flat.{Kept, Short, widened, asForm, builtOf, showingBy, shownOf};
+ghost use Rattle.forms.specs.Flat.{sizeNumbers, Kept, Short, widened, asForm, builtOf, showingBy, shownOf};
 ghost use Rattle.forms.specs.Entry.{entryOf};
 ghost use Rattle.forms.specs.Rows.{Rows, loopAt, loopsOf, formsOf};
+use limits::ALL_VARIABLES;
+use limits::FURTHEST;
+use limits::MOST_VARIABLES;
+
+// The numbers of a form: the constant, and a coefficient for each variable.
+pub const FORM_NUMBERS: usize = ALL_VARIABLES + 1;
+
+// The numbers of a size in a table: the constant, and a coefficient for each variable of a family.
+pub const SIZE_NUMBERS: usize = MOST_VARIABLES + 1;
+
+// The least number of a form.
+const LOWEST: i64 = -FURTHEST;
+
+pub type Form = [i64; FORM_NUMBERS];
+
+pub type Size = [i64; SIZE_NUMBERS];
 
 // A number of a form, or that it is out of range.
 pub enum Num {
@@ -32,11 +49,11 @@ pub enum Product {
     NotLinear,
 }
 
-// Whether z is within ±2,000,000,000.
+// Whether a form may have the number z.
 pub fn in_range(z: i64) -> bool
     ensures { λ r. ⌜ r ≡ inRange z ⌝ }
 {
-    -2_000_000_000 <= z && z <= 2_000_000_000
+    LOWEST <= z && z <= FURTHEST
 }
 
 // x + k * y, each in range.
@@ -58,14 +75,14 @@ pub fn entry(x: i64, k: i64, y: i64) -> Num
 }
 
 // f becomes f plus k times g; false where a number is out of range, and what f holds then is of no use.
-pub fn add_scaled(f: &mut [i64; 13], k: i64, g: &[i64; 13]) -> bool
+pub fn add_scaled(f: &mut Form, k: i64, g: &Form) -> bool
     requires { ⌜ Kept (now f) ⌝ }
     requires { ⌜ inRange k ≡ true ⌝ }
     requires { ⌜ Kept (now g) ⌝ }
     ensures { λ r. ⌜ builtOf r (now (f .exit)) ≡ (multipleOf k (asForm (now (g .entry))) thenBuild sumOf (asForm (now (f .entry)))) ⌝ }
     ensures { λ r. ⌜ (r ≡ true → Kept (now (f .exit))) ⌝ }
 {
-    for i in 0..13 {
+    for i in 0..FORM_NUMBERS {
         let x = f[i];
         let y = g[i];
         match entry(x, k, y) {
@@ -80,7 +97,7 @@ pub fn add_scaled(f: &mut [i64; 13], k: i64, g: &[i64; 13]) -> bool
     true
 }
 
-pub fn add(f: &mut [i64; 13], g: &[i64; 13]) -> bool
+pub fn add(f: &mut Form, g: &Form) -> bool
     requires { ⌜ Kept (now f) ⌝ }
     requires { ⌜ Kept (now g) ⌝ }
     ensures { λ r. ⌜ builtOf r (now (f .exit)) ≡ sumOf (asForm (now (f .entry))) (asForm (now (g .entry))) ⌝ }
@@ -89,7 +106,7 @@ pub fn add(f: &mut [i64; 13], g: &[i64; 13]) -> bool
     add_scaled(f, 1, g)
 }
 
-pub fn subtract(f: &mut [i64; 13], g: &[i64; 13]) -> bool
+pub fn subtract(f: &mut Form, g: &Form) -> bool
     requires { ⌜ Kept (now f) ⌝ }
     requires { ⌜ Kept (now g) ⌝ }
     ensures { λ r. ⌜ builtOf r (now (f .exit)) ≡ differenceOf (asForm (now (f .entry))) (asForm (now (g .entry))) ⌝ }
@@ -99,27 +116,27 @@ pub fn subtract(f: &mut [i64; 13], g: &[i64; 13]) -> bool
 }
 
 // f becomes the form of a number.
-pub fn set_constant(f: &mut [i64; 13], z: i64)
+pub fn set_constant(f: &mut Form, z: i64)
     requires { ⌜ inRange z ≡ true ⌝ }
     ensures { λ _. ⌜ asForm (now (f .exit)) ≡ constantForm z ⌝ }
     ensures { λ _. ⌜ Kept (now (f .exit)) ⌝ }
 {
-    *f = [0i64; 13];
+    *f = [0i64; FORM_NUMBERS];
     f[0] = z;
 }
 
 // f becomes the form of a variable.
-pub fn set_variable(f: &mut [i64; 13], v: usize)
-    requires { ⌜ v < 12 ⌝ }
+pub fn set_variable(f: &mut Form, v: usize)
+    requires { ⌜ v < allVariables ⌝ }
     ensures { λ _. ⌜ asForm (now (f .exit)) ≡ variableForm v ⌝ }
     ensures { λ _. ⌜ Kept (now (f .exit)) ⌝ }
 {
-    *f = [0i64; 13];
+    *f = [0i64; FORM_NUMBERS];
     f[v + 1] = 1;
 }
 
 // f becomes k times g.
-pub fn set_multiple(f: &mut [i64; 13], k: i64, g: &[i64; 13]) -> bool
+pub fn set_multiple(f: &mut Form, k: i64, g: &Form) -> bool
     requires { ⌜ inRange k ≡ true ⌝ }
     requires { ⌜ Kept (now g) ⌝ }
     ensures { λ r. ⌜ builtOf r (now (f .exit)) ≡ multipleOf k (asForm (now (g .entry))) ⌝ }
@@ -130,12 +147,12 @@ pub fn set_multiple(f: &mut [i64; 13], k: i64, g: &[i64; 13]) -> bool
 }
 
 // Whether every coefficient is 0.
-pub fn is_constant(f: &[i64; 13]) -> bool
+pub fn is_constant(f: &Form) -> bool
     requires { ⌜ Kept (now f) ⌝ }
     ensures { λ r. ⌜ r ≡ allZero (asForm (now (f .entry)) .coefficients) ⌝ }
 {
     let mut i: usize = 1;
-    while i < 13 {
+    while i < FORM_NUMBERS {
         let x = f[i];
         if x != 0 {
             return false;
@@ -156,7 +173,7 @@ fn made(ok: bool) -> Product
 }
 
 // f becomes f times g, of which one must be constant.
-pub fn multiply(f: &mut [i64; 13], g: &[i64; 13]) -> Product
+pub fn multiply(f: &mut Form, g: &Form) -> Product
     requires { ⌜ Kept (now f) ⌝ }
     requires { ⌜ Kept (now g) ⌝ }
     ensures { λ r. ⌜ ((p : Place) → productOf p r (now (f .exit)) ≡ combined p product (asForm (now (f .entry))) (asForm (now (g .entry)))) ⌝ }
@@ -175,12 +192,12 @@ pub fn multiply(f: &mut [i64; 13], g: &[i64; 13]) -> Product
 }
 
 // Whether every number is 0 or more.
-pub fn none_negative(f: &[i64; 13]) -> bool
+pub fn none_negative(f: &Form) -> bool
     requires { ⌜ Kept (now f) ⌝ }
     ensures { λ r. ⌜ showingBy r ≡ showingOf (built (asForm (now (f .entry)))) ⌝ }
 {
     let mut i: usize = 0;
-    while i < 13 {
+    while i < FORM_NUMBERS {
         let x = f[i];
         if x < 0 {
             return false;
@@ -191,15 +208,9 @@ pub fn none_negative(f: &[i64; 13]) -> bool
 }
 
 // f with its term in the variable v replaced by a bound of the loop n. The loops' low and high forms lie in two slices.
-pub fn substitute(
-    f: &mut [i64; 13],
-    v: usize,
-    lows: &[[i64; 13]],
-    highs: &[[i64; 13]],
-    n: usize,
-) -> bool
+pub fn substitute(f: &mut Form, v: usize, lows: &[Form], highs: &[Form], n: usize) -> bool
     requires { ⌜ Kept (now f) ⌝ }
-    requires { ⌜ v < 12 ⌝ }
+    requires { ⌜ v < allVariables ⌝ }
     requires { ⌜ Rows (now lows) (n + 1) ⌝ }
     requires { ⌜ Rows (now highs) (n + 1) ⌝ }
     ensures { λ r. ⌜ builtOf r (now (f .exit)) ≡ closed v (loopAt n (now (lows .entry)) (now (highs .entry))) (asForm (now (f .entry))) (getD (asForm (now (f .entry)) .coefficients) v (pos 0)) ⌝ }
@@ -218,15 +229,9 @@ pub fn substitute(
 }
 
 // Shows f to be 0 or more, under so many family variables and open loops. What f holds afterwards is of no use.
-pub fn show(
-    f: &mut [i64; 13],
-    variables: usize,
-    loops: usize,
-    lows: &[[i64; 13]],
-    highs: &[[i64; 13]],
-) -> Verdict
+pub fn show(f: &mut Form, variables: usize, loops: usize, lows: &[Form], highs: &[Form]) -> Verdict
     requires { ⌜ Kept (now f) ⌝ }
-    requires { ⌜ variables + loops ≤ 12 ⌝ }
+    requires { ⌜ variables + loops ≤ allVariables ⌝ }
     requires { ⌜ Rows (now lows) loops ⌝ }
     requires { ⌜ Rows (now highs) loops ⌝ }
     ensures { λ r. ⌜ shownOf r ≡ showing variables (loopsOf loops (now (lows .entry)) (now (highs .entry))) (built (asForm (now (f .entry)))) ⌝ }
@@ -245,13 +250,13 @@ pub fn show(
     }
 }
 
-// f becomes the form that a row of a table keeps.
-pub fn load(f: &mut [i64; 13], row: &[i64; 5])
+// f becomes the form that a size in a table stands for.
+pub fn load(f: &mut Form, row: &Size)
     requires { ⌜ Short (now row) ⌝ }
     ensures { λ _. ⌜ now (f .exit) ≡ widened (now (row .entry)) ⌝ }
     ensures { λ _. ⌜ Kept (now (f .exit)) ⌝ }
 {
-    *f = [0i64; 13];
+    *f = [0i64; FORM_NUMBERS];
     f[0] = row[0];
     f[1] = row[1];
     f[2] = row[2];
@@ -259,14 +264,14 @@ pub fn load(f: &mut [i64; 13], row: &[i64; 5])
     f[4] = row[4];
 }
 
-// The row that keeps f, whose coefficients but for the first four are 0.
-pub fn store(row: &mut [i64; 5], f: &[i64; 13])
+// The row of a table for f, whose coefficients but for those of a family's variables are 0.
+pub fn store(row: &mut Size, f: &Form)
     requires { ⌜ Kept (now f) ⌝ }
-    requires { ⌜ drop 5 (now f) ≡ replicate 8 (pos 0) ⌝ }
+    requires { ⌜ drop sizeNumbers (now f) ≡ replicate mostLoops (pos 0) ⌝ }
     ensures { λ _. ⌜ widened (now (row .exit)) ≡ now (f .entry) ⌝ }
     ensures { λ _. ⌜ Short (now (row .exit)) ⌝ }
 {
-    *row = [0i64; 5];
+    *row = [0i64; SIZE_NUMBERS];
     row[0] = f[0];
     row[1] = f[1];
     row[2] = f[2];
@@ -275,9 +280,9 @@ pub fn store(row: &mut [i64; 5], f: &[i64; 13])
 }
 
 // f becomes a parameter's size with a call's forms put in for the family's m variables, all together.
-pub fn put_in(f: &mut [i64; 13], size: &[i64; 5], forms: &[[i64; 13]], m: usize) -> bool
+pub fn put_in(f: &mut Form, size: &Size, forms: &[Form], m: usize) -> bool
     requires { ⌜ Short (now size) ⌝ }
-    requires { ⌜ m ≤ 4 ⌝ }
+    requires { ⌜ m ≤ mostVariables ⌝ }
     requires { ⌜ Rows (now forms) m ⌝ }
     ensures { λ r. ⌜ builtOf r (now (f .exit)) ≡ putIn (asForm (widened (now (size .entry)))) (formsOf m (now (forms .entry))) ⌝ }
     ensures { λ r. ⌜ (r ≡ true → Kept (now (f .exit))) ⌝ }

@@ -16,7 +16,7 @@ use denote.Ref.{now}
 use lib.ListN.{getD}
 use lib.Seq.{slice}
 use Rattle.fields.proofs.Reading.{one-byte, slice-none}
-use Rattle.check_index.specs.Answers.{partTold}
+use Rattle.check_index.specs.Answers.{checkedPart}
 use Rattle.check_operand.specs.Tables.{tabulated, kindsAt}
 use Rattle.check_call.specs.Calls.{scopeFull, signatureAt}
 use Rattle.check_operand.proofs.Tables.{row-get, row-none}
@@ -30,15 +30,15 @@ add-from c = search needs
 
 -- src/lib.rt:159:9
 returns : tie.Need-returns
-unfolding partTold
+unfolding checkedPart
 returns c =
     let a = c .before .before .before .args in
-    let p = now (a .program) in
+    let program = now (a .program) in
     let from = a .at + 3 in
-    let content = slice from (a .next) p in
+    let content = slice from (a .next) program in
     let s = scopeFull (a .s) (now (a .families)) (now (a .kinds)) (now (a .sizes)) (now (a .lows)) (now (a .highs)) in
     let fs = tabulated (signatureAt (now (a .families)) (now (a .kinds)) (now (a .sizes))) (a .s .families) 0 in
-    call-none s (a .at) content (slice-none from (a .next) p (c .if1 .taken))
+    call-none s (a .at) content (slice-none from (a .next) program (c .if1 .taken))
 
 -- src/lib.rt:161:26
 shared-slice-read-wide : tie.Need-shared-slice-read-wide
@@ -50,17 +50,17 @@ wide-requires c κs = search needs
 
 -- src/lib.rt:163:9
 returns-2 : tie.Need-returns-2
-unfolding partTold
+unfolding checkedPart
 returns-2 c =
     let a = c .before .before .before .before .before .before .before .args in
-    let p = now (a .program) in
+    let program = now (a .program) in
     let from = a .at + 3 in
-    let content = slice from (a .next) p in
+    let content = slice from (a .next) program in
     let s = scopeFull (a .s) (now (a .families)) (now (a .kinds)) (now (a .sizes)) (now (a .lows)) (now (a .highs)) in
     let fs = tabulated (signatureAt (now (a .families)) (now (a .kinds)) (now (a .sizes))) (a .s .families) 0 in
     let n = c .before .before .wide .result in
-    let e = one-byte from (a .next) p (c .before .before .before .before .if1 .left) (c .before .before .before .before .before .before .before .pre .0 .1) ∙ ap (λ (x : ℕ). x ∷ slice (from + 1) (a .next) p) (sym (c .before .before .wide .ensures .0)) in
-    call-beyond s (a .at) content n p (a .next) e (row-none (signatureAt (now (a .families)) (now (a .kinds)) (now (a .sizes))) (a .s .families) 0 n (c .if2 .taken))
+    let e = one-byte from (a .next) program (c .before .before .before .before .if1 .left) (c .before .before .before .before .before .before .before .pre .0 .1) ∙ ap (λ (x : ℕ). x ∷ slice (from + 1) (a .next) program) (sym (c .before .before .wide .ensures .0)) in
+    call-beyond s (a .at) content n program (a .next) e (row-none (signatureAt (now (a .families)) (now (a .kinds)) (now (a .sizes))) (a .s .families) 0 n (c .if2 .taken))
 
 -- src/lib.rt:165:18
 mul-family : tie.Need-mul-family
@@ -111,19 +111,19 @@ enum-told c = search needs
 returns-3 : tie.Need-returns-3
 returns-3 c =
     let a = c .before .before .before .before .before .before .before .before .before .before .before .before .args in
-    let p = now (a .program) in
+    let program = now (a .program) in
     let from = a .at + 3 in
-    let content = slice from (a .next) p in
+    let content = slice from (a .next) program in
     let s = scopeFull (a .s) (now (a .families)) (now (a .kinds)) (now (a .sizes)) (now (a .lows)) (now (a .highs)) in
     let fs = tabulated (signatureAt (now (a .families)) (now (a .kinds)) (now (a .sizes))) (a .s .families) 0 in
     let n = c .before .before .before .before .before .before .before .wide .result in
-    let e = one-byte from (a .next) p (c .before .before .before .before .before .before .before .before .before .if1 .left) (c .before .before .before .before .before .before .before .before .before .before .before .before .pre .0 .1) ∙ ap (λ (x : ℕ). x ∷ slice (from + 1) (a .next) p) (sym (c .before .before .before .before .before .before .before .wide .ensures .0)) in
+    let e = one-byte from (a .next) program (c .before .before .before .before .before .before .before .before .before .if1 .left) (c .before .before .before .before .before .before .before .before .before .before .before .before .pre .0 .1) ∙ ap (λ (x : ℕ). x ∷ slice (from + 1) (a .next) program) (sym (c .before .before .before .before .before .before .before .wide .ensures .0)) in
     let f = signatureAt (now (a .families)) (now (a .kinds)) (now (a .sizes)) n in
     let get = row-get (signatureAt (now (a .families)) (now (a .kinds)) (now (a .sizes))) (a .s .families) 0 n (c .before .before .before .before .before .if2 .left) ∙ ap (λ (k : ℕ). some (signatureAt (now (a .families)) (now (a .kinds)) (now (a .sizes)) k)) (zero-add n) in
     let ks = kindsAt (a .s .count) (a .s .first) (now (a .kinds)) (now (a .sizes)) in
     let l = c .before .before .call-forms .last .1 .1 .1 .1 .1 .1 .1 .1 .0 in
     let m = getD (getD (now (a .families)) n []) 0 0 in
-    call-stops s (a .at) content n p (a .next) e f (get) (c .before .before .call-forms .result) l m refl (c .before .before .call-forms .ensures .0 fs ks) (c .before .match .keys2)
+    call-stops s (a .at) content n program (a .next) e f (get) (c .before .before .call-forms .result) l m refl (c .before .before .call-forms .ensures .0 fs ks) (c .before .match .keys2)
 
 -- src/lib.rt:175:5
 call-operands-requires : tie.Need-call-operands-requires
@@ -135,22 +135,22 @@ call-operands-requires c κs =
 returns-4 : tie.Need-returns-4
 returns-4 c =
     let a = c .before .before .before .before .before .before .before .before .before .before .before .before .before .before .before .args in
-    let p = now (a .program) in
+    let program = now (a .program) in
     let from = a .at + 3 in
-    let content = slice from (a .next) p in
+    let content = slice from (a .next) program in
     let s = scopeFull (a .s) (now (a .families)) (now (a .kinds)) (now (a .sizes)) (now (a .lows)) (now (a .highs)) in
     let fs = tabulated (signatureAt (now (a .families)) (now (a .kinds)) (now (a .sizes))) (a .s .families) 0 in
     let n = c .before .before .before .before .before .before .before .before .before .before .wide .result in
-    let e = one-byte from (a .next) p (c .before .before .before .before .before .before .before .before .before .before .before .before .if1 .left) (c .before .before .before .before .before .before .before .before .before .before .before .before .before .before .before .pre .0 .1) ∙ ap (λ (x : ℕ). x ∷ slice (from + 1) (a .next) p) (sym (c .before .before .before .before .before .before .before .before .before .before .wide .ensures .0)) in
+    let e = one-byte from (a .next) program (c .before .before .before .before .before .before .before .before .before .before .before .before .if1 .left) (c .before .before .before .before .before .before .before .before .before .before .before .before .before .before .before .pre .0 .1) ∙ ap (λ (x : ℕ). x ∷ slice (from + 1) (a .next) program) (sym (c .before .before .before .before .before .before .before .before .before .before .wide .ensures .0)) in
     let f = signatureAt (now (a .families)) (now (a .kinds)) (now (a .sizes)) n in
     let get = row-get (signatureAt (now (a .families)) (now (a .kinds)) (now (a .sizes))) (a .s .families) 0 n (c .before .before .before .before .before .before .before .before .if2 .left) ∙ ap (λ (k : ℕ). some (signatureAt (now (a .families)) (now (a .kinds)) (now (a .sizes)) k)) (zero-add n) in
     let ks = kindsAt (a .s .count) (a .s .first) (now (a .kinds)) (now (a .sizes)) in
     let l = c .before .before .before .before .before .call-forms .last .1 .1 .1 .1 .1 .1 .1 .1 .0 in
     let m = getD (getD (now (a .families)) n []) 0 0 in
     let mid = c .before .before .before .r .given .0 .0 in
-    let b = count-upto p (a .at + 4) (a .next) m (c .before .before .before .before .before .call-forms .result) mid (c .before .before .before .r .given .1) (c .before .before .before .before .before .call-forms .ensures .1 .0) in
+    let b = count-upto program (a .at + 4) (a .next) m (c .before .before .before .before .before .call-forms .result) mid (c .before .before .before .r .given .1) (c .before .before .before .before .before .call-forms .ensures .1 .0) in
     c .call-operands .ensures .0 fs
-    ∙ call-good s (a .at) content n p (a .next) e f (get) (c .before .before .before .before .before .call-forms .result) l m refl (c .before .before .before .before .before .call-forms .ensures .0 fs ks) mid (c .before .before .before .r .given .1) b
+    ∙ call-good s (a .at) content n program (a .next) e f (get) (c .before .before .before .before .before .call-forms .result) l m refl (c .before .before .before .before .before .call-forms .ensures .0 fs ks) mid (c .before .before .before .r .given .1) b
 
 pub call-spec : {M : Type 1} → statement M
 call-spec =

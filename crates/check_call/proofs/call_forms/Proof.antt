@@ -14,23 +14,23 @@ use lib.ListN.{set}
 use Rattle.language.specs.Tree.{badIndex}
 use Rattle.language.specs.Read.{due, readIndex, readArgument}
 use Rattle.language.specs.Form.{Form}
-use Rattle.language.specs.Check.{Checked, good, _>>=_, Kind, Signature, callForms, mustShow}
+use Rattle.language.specs.Check.{Checked, good, _>>=_, Kind, Signature, callForms}
 use Rattle.fields.specs.Header.{fieldsAt}
 use Rattle.forms.specs.Rows.{Rows, loopsOf, formsOf}
 use Rattle.forms.proofs.Laws.{fewer}
 use Rattle.check_operand.specs.Tables.{scopeWith}
 use Rattle.check_index.specs.Answers.{Beyond}
-use Rattle.check_call.specs.Calls.{formsTold}
-use Rattle.check_index.proofs.Answers.{past-upto, beyond-none, beyond-more, beyond-stops}
+use Rattle.check_call.specs.Calls.{checkedForms}
+use Rattle.check_index.proofs.Answers.{form-passes-upto, beyond-none, beyond-more, beyond-stops}
 use Rattle.check_operand.proofs.Tables.{scope-forms, rows-set}
 use Rattle.check_call.proofs.Forms.{form-none, show-none, show-good, list-stops, more-forms, all-forms, no-forms}
 
 abbrev Inv-loop : tie.InvT-loop
-Inv-loop program at to place m s lows highs forms₀ from₀ i₀ forms from i =
-    (i ≤ m) × Rows forms 4 × Beyond program at to i from × ((fs : List Signature) (ks : List Kind) → callForms (scopeWith fs ks (s .variables) (loopsOf (s .loops) lows highs)) place m (map readArgument (fieldsAt program at to)) ≡ (callForms (scopeWith fs ks (s .variables) (loopsOf (s .loops) lows highs)) place (m - i) (map readArgument (fieldsAt program from to)) >>= λ rest. good (formsOf i forms ++ rest)))
+Inv-loop program at to parent m s lows highs forms₀ from₀ i₀ forms from i =
+    (i ≤ m) × Rows forms 4 × Beyond program at to i from × ((fs : List Signature) (ks : List Kind) → callForms (scopeWith fs ks (s .variables) (loopsOf (s .loops) lows highs)) parent m (map readArgument (fieldsAt program at to)) ≡ (callForms (scopeWith fs ks (s .variables) (loopsOf (s .loops) lows highs)) parent (m - i) (map readArgument (fieldsAt program from to)) >>= λ rest. good (formsOf i forms ++ rest)))
 
 abbrev μ-loop : tie.MeasureT-loop
-μ-loop program at to place m s lows highs forms₀ from₀ i₀ forms from i =
+μ-loop program at to parent m s lows highs forms₀ from₀ i₀ forms from i =
     m - i
 
 -- src/lib.rt:52:5
@@ -67,17 +67,17 @@ enum-told c =
 returns : tie.Need-returns Inv-loop μ-loop
 returns c =
     let a = c .before .before .before .before .before .before .before .before .args in
-    let p = now (a .program) in
+    let program = now (a .program) in
     let i = c .before .before .before .before .before .before .loop in
     let l = c .before .before .index .last .1 .1 .1 .1 .1 .1 .0 in
     let ls = loopsOf (a .s .loops) (now (a .lows)) (now (a .highs)) in
     let e : a .m - i .i ≡ suc (a .m - (i .i + 1)) = (let h = c .before .before .before .before .before .loop-test .taken in omega arith) in
-    let x = due (readIndex 16) (badIndex 4 (a .place)) (fieldsAt p (i .from) (a .to)) in (
+    let x = due (readIndex 16) (badIndex 4 (a .parent)) (fieldsAt program (i .from) (a .to)) in (
       λ fs ks. list-stops (c .before .before .index .result) (a .m) (i .forms) (λ rest. good (formsOf (i .i) (i .forms) ++ rest)) (c .before .match .keys2)
-          ∙ ap (λ (c : Checked (List Form)). c >>= λ rest. good (formsOf (i .i) (i .forms) ++ rest)) (form-none (scopeWith fs ks (a .s .variables) ls) (a .place) (a .m - (i .i + 1)) (a .m) p (i .from) (a .to) (c .before .before .before .before .before .before .before .before .pre .0) (c .before .before .index .result) l (c .before .before .index .ensures .0 ∙ scope-forms fs ks (a .s .variables) (a .s .loops) (now (a .lows)) (now (a .highs)) x) (i .forms) (c .before .match .keys2)
-          ∙ ap (λ (n : ℕ). callForms (scopeWith fs ks (a .s .variables) ls) (a .place) n (map readArgument (fieldsAt p (i .from) (a .to)))) (sym e))
+          ∙ ap (λ (c : Checked (List Form)). c >>= λ rest. good (formsOf (i .i) (i .forms) ++ rest)) (form-none (scopeWith fs ks (a .s .variables) ls) (a .parent) (a .m - (i .i + 1)) (a .m) program (i .from) (a .to) (c .before .before .before .before .before .before .before .before .pre .0) (c .before .before .index .result) l (c .before .before .index .ensures .0 ∙ scope-forms fs ks (a .s .variables) (a .s .loops) (now (a .lows)) (now (a .highs)) x) (i .forms) (c .before .match .keys2)
+          ∙ ap (λ (n : ℕ). callForms (scopeWith fs ks (a .s .variables) ls) (a .parent) n (map readArgument (fieldsAt program (i .from) (a .to)))) (sym e))
           ∙ sym (i .inv .3 fs ks),
-      (beyond-stops p (a .at) (a .to) (a .m) (c .before .before .index .result) (c .before .match .keys2), i .inv .1),
+      (beyond-stops program (a .at) (a .to) (a .m) (c .before .before .index .result) (c .before .match .keys2), i .inv .1),
     )
 
 -- src/lib.rt:59:9
@@ -94,14 +94,14 @@ element-set-from-forms c =
 must-show-requires : tie.Need-must-show-requires Inv-loop μ-loop
 must-show-requires c κs =
     let a = c .before .before .before .before .before .before .before .before .before .before .args in
-    let p = now (a .program) in
+    let program = now (a .program) in
     let i = c .before .before .before .before .before .before .before .before .loop in
     let l = c .before .before .before .before .index .last .1 .1 .1 .1 .1 .1 .0 in
     let ls = loopsOf (a .s .loops) (now (a .lows)) (now (a .highs)) in
     let e : a .m - i .i ≡ suc (a .m - (i .i + 1)) = (let h = c .before .before .before .before .before .before .before .loop-test .taken in omega arith) in
-    let x = due (readIndex 16) (badIndex 4 (a .place)) (fieldsAt p (i .from) (a .to)) in
+    let x = due (readIndex 16) (badIndex 4 (a .parent)) (fieldsAt program (i .from) (a .to)) in
     let next = c .before .before .r .given .0 .0 in
-    let u = past-upto p (i .from) (a .to) (c .before .before .before .before .index .result) l next (c .before .before .r .given .1) (c .before .before .before .before .index .ensures .1) in
+    let u = form-passes-upto program (i .from) (a .to) (c .before .before .before .before .index .result) l next (c .before .before .r .given .1) (c .before .before .before .before .index .ensures .1) in
     let q = c .before .before .before .before .before .before .before .before .before .before .pre .1 .1 .0 .few in
     let t = c .before .before .before .before .before .before .before .before .before .before .pre .1 .1 .0 .nested in
     (u .1, (omega arith, (fewer (c .before .before .before .before .before .before .before .before .before .before .pre .1 .1 .0 .lowRows) t, fewer (c .before .before .before .before .before .before .before .before .before .before .pre .1 .1 .0 .highRows) t)))
@@ -117,23 +117,22 @@ enum-told-3 c =
 
 -- src/lib.rt:62:13
 returns-2 : tie.Need-returns-2 Inv-loop μ-loop
-unfolding mustShow
 returns-2 c =
     let a = c .before .before .before .before .before .before .before .before .before .before .before .before .before .args in
-    let p = now (a .program) in
+    let program = now (a .program) in
     let i = c .before .before .before .before .before .before .before .before .before .before .before .loop in
     let l = c .before .before .before .before .before .before .before .index .last .1 .1 .1 .1 .1 .1 .0 in
     let ls = loopsOf (a .s .loops) (now (a .lows)) (now (a .highs)) in
     let e : a .m - i .i ≡ suc (a .m - (i .i + 1)) = (let h = c .before .before .before .before .before .before .before .before .before .before .loop-test .taken in omega arith) in
-    let x = due (readIndex 16) (badIndex 4 (a .place)) (fieldsAt p (i .from) (a .to)) in
+    let x = due (readIndex 16) (badIndex 4 (a .parent)) (fieldsAt program (i .from) (a .to)) in
     let next = c .before .before .before .before .before .r .given .0 .0 in
-    let u = past-upto p (i .from) (a .to) (c .before .before .before .before .before .before .before .index .result) l next (c .before .before .before .before .before .r .given .1) (c .before .before .before .before .before .before .before .index .ensures .1) in
+    let u = form-passes-upto program (i .from) (a .to) (c .before .before .before .before .before .before .before .index .result) l next (c .before .before .before .before .before .r .given .1) (c .before .before .before .before .before .before .before .index .ensures .1) in
     let new = set (i .forms) (i .i) l in (
       λ fs ks. list-stops (c .before .before .must-show .result) (a .m) new (λ rest. good (formsOf (i .i) (i .forms) ++ rest)) (c .before .match2 .keys2)
-          ∙ ap (λ (c : Checked (List Form)). c >>= λ rest. good (formsOf (i .i) (i .forms) ++ rest)) (show-none (scopeWith fs ks (a .s .variables) ls) (a .place) (a .m - (i .i + 1)) (a .m) p (i .from) (a .to) (c .before .before .before .before .before .before .before .before .before .before .before .before .before .pre .0) (c .before .before .before .before .before .before .before .index .result) l (c .before .before .before .before .before .before .before .index .ensures .0 ∙ scope-forms fs ks (a .s .variables) (a .s .loops) (now (a .lows)) (now (a .highs)) x) next (c .before .before .before .before .before .r .given .1) (u .0) (c .before .before .must-show .result) (c .before .before .must-show .ensures .0) new (c .before .match2 .keys2)
-          ∙ ap (λ (n : ℕ). callForms (scopeWith fs ks (a .s .variables) ls) (a .place) n (map readArgument (fieldsAt p (i .from) (a .to)))) (sym e))
+          ∙ ap (λ (c : Checked (List Form)). c >>= λ rest. good (formsOf (i .i) (i .forms) ++ rest)) (show-none (scopeWith fs ks (a .s .variables) ls) (a .parent) (a .m - (i .i + 1)) (a .m) program (i .from) (a .to) (c .before .before .before .before .before .before .before .before .before .before .before .before .before .pre .0) (c .before .before .before .before .before .before .before .index .result) l (c .before .before .before .before .before .before .before .index .ensures .0 ∙ scope-forms fs ks (a .s .variables) (a .s .loops) (now (a .lows)) (now (a .highs)) x) next (c .before .before .before .before .before .r .given .1) (u .0) (c .before .before .must-show .result) (c .before .before .must-show .ensures .0 fs ks) new (c .before .match2 .keys2)
+          ∙ ap (λ (n : ℕ). callForms (scopeWith fs ks (a .s .variables) ls) (a .parent) n (map readArgument (fieldsAt program (i .from) (a .to)))) (sym e))
           ∙ sym (i .inv .3 fs ks),
-      (beyond-stops p (a .at) (a .to) (a .m) (c .before .before .must-show .result) (c .before .match2 .keys2), rows-set (i .forms) 4 (i .i) l (i .inv .1) (u .1)),
+      (beyond-stops program (a .at) (a .to) (a .m) (c .before .before .must-show .result) (c .before .match2 .keys2), rows-set (i .forms) 4 (i .i) l (i .inv .1) (u .1)),
     )
 
 -- src/lib.rt:52:9
@@ -148,42 +147,41 @@ loop-less c =
 
 -- src/lib.rt:52:5
 loop-again : tie.Need-loop-again Inv-loop μ-loop
-unfolding mustShow
 loop-again c =
     let a = c .before .before .before .before .before .before .before .before .before .before .before .before .before .args in
-    let p = now (a .program) in
+    let program = now (a .program) in
     let i = c .before .before .before .before .before .before .before .before .before .before .before .loop in
     let l = c .before .before .before .before .before .before .before .index .last .1 .1 .1 .1 .1 .1 .0 in
     let ls = loopsOf (a .s .loops) (now (a .lows)) (now (a .highs)) in
     let e : a .m - i .i ≡ suc (a .m - (i .i + 1)) = (let h = c .before .before .before .before .before .before .before .before .before .before .loop-test .taken in omega arith) in
-    let x = due (readIndex 16) (badIndex 4 (a .place)) (fieldsAt p (i .from) (a .to)) in
+    let x = due (readIndex 16) (badIndex 4 (a .parent)) (fieldsAt program (i .from) (a .to)) in
     let next = c .before .before .before .before .before .r .given .0 .0 in
-    let u = past-upto p (i .from) (a .to) (c .before .before .before .before .before .before .before .index .result) l next (c .before .before .before .before .before .r .given .1) (c .before .before .before .before .before .before .before .index .ensures .1) in
+    let u = form-passes-upto program (i .from) (a .to) (c .before .before .before .before .before .before .before .index .result) l next (c .before .before .before .before .before .r .given .1) (c .before .before .before .before .before .before .before .index .ensures .1) in
     let h = c .before .before .before .before .before .before .before .before .before .before .loop-test .taken in
     let y = c .before .before .before .before .before .before .before .before .before .before .before .before .before .pre .1 .0 in
     let w = i .inv .1 .enough in (
       omega arith,
       rows-set (i .forms) 4 (i .i) l (i .inv .1) (u .1),
-      beyond-more p (a .at) (a .to) (i .i) (i .from) next (i .inv .2) (u .0),
+      beyond-more program (a .at) (a .to) (i .i) (i .from) next (i .inv .2) (u .0),
       (λ fs ks. i .inv .3 fs ks
-          ∙ ap (λ (n : ℕ). callForms (scopeWith fs ks (a .s .variables) ls) (a .place) n (map readArgument (fieldsAt p (i .from) (a .to))) >>= λ rest. good (formsOf (i .i) (i .forms) ++ rest)) e
-          ∙ ap (λ (c : Checked (List Form)). c >>= λ rest. good (formsOf (i .i) (i .forms) ++ rest)) (show-good (scopeWith fs ks (a .s .variables) ls) (a .place) (a .m - (i .i + 1)) (a .m) p (i .from) (a .to) (c .before .before .before .before .before .before .before .before .before .before .before .before .before .pre .0) (c .before .before .before .before .before .before .before .index .result) l (c .before .before .before .before .before .before .before .index .ensures .0 ∙ scope-forms fs ks (a .s .variables) (a .s .loops) (now (a .lows)) (now (a .highs)) x) next (c .before .before .before .before .before .r .given .1) (u .0) (c .before .before .must-show .result) (c .before .before .must-show .ensures .0) (c .before .match2 .keys1))
-          ∙ more-forms (callForms (scopeWith fs ks (a .s .variables) ls) (a .place) (a .m - (i .i + 1)) (map readArgument (fieldsAt p next (a .to)))) (i .i) (i .forms) l (omega arith)),
+          ∙ ap (λ (n : ℕ). callForms (scopeWith fs ks (a .s .variables) ls) (a .parent) n (map readArgument (fieldsAt program (i .from) (a .to))) >>= λ rest. good (formsOf (i .i) (i .forms) ++ rest)) e
+          ∙ ap (λ (c : Checked (List Form)). c >>= λ rest. good (formsOf (i .i) (i .forms) ++ rest)) (show-good (scopeWith fs ks (a .s .variables) ls) (a .parent) (a .m - (i .i + 1)) (a .m) program (i .from) (a .to) (c .before .before .before .before .before .before .before .before .before .before .before .before .before .pre .0) (c .before .before .before .before .before .before .before .index .result) l (c .before .before .before .before .before .before .before .index .ensures .0 ∙ scope-forms fs ks (a .s .variables) (a .s .loops) (now (a .lows)) (now (a .highs)) x) next (c .before .before .before .before .before .r .given .1) (u .0) (c .before .before .must-show .result) (c .before .before .must-show .ensures .0 fs ks) (c .before .match2 .keys1))
+          ∙ more-forms (callForms (scopeWith fs ks (a .s .variables) ls) (a .parent) (a .m - (i .i + 1)) (map readArgument (fieldsAt program next (a .to)))) (i .i) (i .forms) l (omega arith)),
     )
 
 -- src/lib.rt:32:1
 returns-3 : tie.Need-returns-3 Inv-loop μ-loop
-unfolding formsTold
+unfolding checkedForms
 returns-3 c =
     let a = c .before .before .before .args in
-    let p = now (a .program) in
+    let program = now (a .program) in
     let i = c .before .loop in
     let ls = loopsOf (a .s .loops) (now (a .lows)) (now (a .highs)) in
     let h = c .loop-test .left in
     let b = i .inv .0 in
     let z : a .m - i .i ≡ 0 = omega arith in
     let y : i .i ≡ a .m = omega arith in
-    (λ fs ks. sym (i .inv .3 fs ks ∙ ap (λ (n : ℕ). callForms (scopeWith fs ks (a .s .variables) ls) (a .place) n (map readArgument (fieldsAt p (i .from) (a .to))) >>= λ rest. good (formsOf (i .i) (i .forms) ++ rest)) z ∙ all-forms (scopeWith fs ks (a .s .variables) ls) (a .place) (map readArgument (fieldsAt p (i .from) (a .to))) (formsOf (i .i) (i .forms)) ∙ ap (λ (n : ℕ). good (formsOf n (i .forms))) y), (rw y at (i .inv .2), i .inv .1))
+    (λ fs ks. sym (i .inv .3 fs ks ∙ ap (λ (n : ℕ). callForms (scopeWith fs ks (a .s .variables) ls) (a .parent) n (map readArgument (fieldsAt program (i .from) (a .to))) >>= λ rest. good (formsOf (i .i) (i .forms) ++ rest)) z ∙ all-forms (scopeWith fs ks (a .s .variables) ls) (a .parent) (map readArgument (fieldsAt program (i .from) (a .to))) (formsOf (i .i) (i .forms)) ∙ ap (λ (n : ℕ). good (formsOf n (i .forms))) y), (rw y at (i .inv .2), i .inv .1))
 
 pub call-forms-spec : {M : Type 1} → statement M
 call-forms-spec =

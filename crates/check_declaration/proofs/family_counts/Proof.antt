@@ -11,17 +11,17 @@ use native.Mathlib.Omega.{arith}
 use denote.Ref.{now}
 use lib.Seq.{slice}
 use Rattle.fields.proofs.Reading.{one-byte, slice-none}
-use Rattle.check_declaration.specs.Families.{countsTold}
-use Rattle.check_declaration.proofs.Families.{counts-many, counts-none, counts-over, counts-one, counts-zero, counts-eight, counts-good}
+use Rattle.check_declaration.specs.Families.{checkedCounts}
+use Rattle.check_declaration.proofs.Families.{counts-many, counts-none, counts-over, counts-one, counts-zero, counts-above, counts-good}
 
 -- src/lib.rt:187:9
 returns : tie.Need-returns
-unfolding countsTold
+unfolding checkedCounts
 returns c =
     let a = c .before .before .args in
-    let p = now (a .program) in
+    let program = now (a .program) in
     let from = a .at + 3 in
-    let content = slice from (a .next) p in
+    let content = slice from (a .next) program in
     (counts-many (a .at) (a .families) content (c .if1 .taken), tt)
 
 -- src/lib.rt:189:16
@@ -30,13 +30,13 @@ add-from c = search needs
 
 -- src/lib.rt:191:9
 returns-2 : tie.Need-returns-2
-unfolding countsTold
+unfolding checkedCounts
 returns-2 c =
     let a = c .before .before .before .args in
-    let p = now (a .program) in
+    let program = now (a .program) in
     let from = a .at + 3 in
-    let content = slice from (a .next) p in
-    (counts-none (a .at) (a .families) content (c .before .if1 .left) (slice-none from (a .next) p (c .if2 .taken)), tt)
+    let content = slice from (a .next) program in
+    (counts-none (a .at) (a .families) content (c .before .if1 .left) (slice-none from (a .next) program (c .if2 .taken)), tt)
 
 -- src/lib.rt:193:26
 shared-slice-read-wide : tie.Need-shared-slice-read-wide
@@ -48,16 +48,16 @@ wide-requires c κs = search needs
 
 -- src/lib.rt:195:9
 returns-3 : tie.Need-returns-3
-unfolding countsTold
+unfolding checkedCounts
 returns-3 c =
     let a = c .before .before .before .before .before .before .args in
-    let p = now (a .program) in
+    let program = now (a .program) in
     let from = a .at + 3 in
-    let content = slice from (a .next) p in
+    let content = slice from (a .next) program in
     let m = c .before .wide .result in
-    let more = slice (a .at + 4) (a .next) p in
+    let more = slice (a .at + 4) (a .next) program in
     let x : from + 1 ≡ a .at + 4 = omega arith in
-    let e = one-byte from (a .next) p (c .before .before .before .if2 .left) (c .before .before .before .before .before .before .pre .1) ∙ (λ i. sym (c .before .wide .ensures .0) i ∷ slice (x i) (a .next) p) in
+    let e = one-byte from (a .next) program (c .before .before .before .if2 .left) (c .before .before .before .before .before .before .pre .1) ∙ (λ i. sym (c .before .wide .ensures .0) i ∷ slice (x i) (a .next) program) in
     (counts-over (a .at) (a .families) content (c .before .before .before .before .if1 .left) m more e (c .if3 .taken), tt)
 
 -- src/lib.rt:197:18
@@ -66,17 +66,17 @@ add-second c = search needs
 
 -- src/lib.rt:199:9
 returns-4 : tie.Need-returns-4
-unfolding countsTold
+unfolding checkedCounts
 returns-4 c =
     let a = c .before .before .before .before .before .before .before .args in
-    let p = now (a .program) in
+    let program = now (a .program) in
     let from = a .at + 3 in
-    let content = slice from (a .next) p in
+    let content = slice from (a .next) program in
     let m = c .before .before .wide .result in
-    let more = slice (a .at + 4) (a .next) p in
+    let more = slice (a .at + 4) (a .next) program in
     let x : from + 1 ≡ a .at + 4 = omega arith in
-    let e = one-byte from (a .next) p (c .before .before .before .before .if2 .left) (c .before .before .before .before .before .before .before .pre .1) ∙ (λ i. sym (c .before .before .wide .ensures .0) i ∷ slice (x i) (a .next) p) in
-    (counts-one (a .at) (a .families) content (c .before .before .before .before .before .if1 .left) m more e (c .before .if3 .left) (slice-none (a .at + 4) (a .next) p (c .if4 .taken)), tt)
+    let e = one-byte from (a .next) program (c .before .before .before .before .if2 .left) (c .before .before .before .before .before .before .before .pre .1) ∙ (λ i. sym (c .before .before .wide .ensures .0) i ∷ slice (x i) (a .next) program) in
+    (counts-one (a .at) (a .families) content (c .before .before .before .before .before .if1 .left) m more e (c .before .if3 .left) (slice-none (a .at + 4) (a .next) program (c .if4 .taken)), tt)
 
 -- src/lib.rt:201:26
 shared-slice-read-wide-2 : tie.Need-shared-slice-read-wide-2
@@ -88,53 +88,53 @@ wide-requires-2 c κs = search needs
 
 -- src/lib.rt:203:9
 returns-5 : tie.Need-returns-5
-unfolding countsTold
+unfolding checkedCounts
 returns-5 c =
     let a = c .before .before .before .before .before .before .before .before .before .before .args in
-    let p = now (a .program) in
+    let program = now (a .program) in
     let from = a .at + 3 in
-    let content = slice from (a .next) p in
+    let content = slice from (a .next) program in
     let m = c .before .before .before .before .before .wide .result in
-    let more = slice (a .at + 4) (a .next) p in
+    let more = slice (a .at + 4) (a .next) program in
     let x : from + 1 ≡ a .at + 4 = omega arith in
-    let e = one-byte from (a .next) p (c .before .before .before .before .before .before .before .if2 .left) (c .before .before .before .before .before .before .before .before .before .before .pre .1) ∙ (λ i. sym (c .before .before .before .before .before .wide .ensures .0) i ∷ slice (x i) (a .next) p) in
+    let e = one-byte from (a .next) program (c .before .before .before .before .before .before .before .if2 .left) (c .before .before .before .before .before .before .before .before .before .before .pre .1) ∙ (λ i. sym (c .before .before .before .before .before .wide .ensures .0) i ∷ slice (x i) (a .next) program) in
     let n = c .before .wide2 .result in
-    let rest = slice (a .at + 4 + 1) (a .next) p in
-    let z = one-byte (a .at + 4) (a .next) p (c .before .before .before .if4 .left) (c .before .before .before .before .before .before .before .before .before .before .pre .1) ∙ ap (λ (k : ℕ). k ∷ rest) (sym (c .before .wide2 .ensures .0)) in
+    let rest = slice (a .at + 4 + 1) (a .next) program in
+    let z = one-byte (a .at + 4) (a .next) program (c .before .before .before .if4 .left) (c .before .before .before .before .before .before .before .before .before .before .pre .1) ∙ ap (λ (k : ℕ). k ∷ rest) (sym (c .before .wide2 .ensures .0)) in
     (counts-zero (a .at) (a .families) content (c .before .before .before .before .before .before .before .before .if1 .left) m more e (c .before .before .before .before .if3 .left) n rest z (c .if5 .taken), tt)
 
 -- src/lib.rt:206:9
 returns-6 : tie.Need-returns-6
-unfolding countsTold
+unfolding checkedCounts
 returns-6 c =
     let a = c .before .before .before .before .before .before .before .before .before .before .before .args in
-    let p = now (a .program) in
+    let program = now (a .program) in
     let from = a .at + 3 in
-    let content = slice from (a .next) p in
+    let content = slice from (a .next) program in
     let m = c .before .before .before .before .before .before .wide .result in
-    let more = slice (a .at + 4) (a .next) p in
+    let more = slice (a .at + 4) (a .next) program in
     let x : from + 1 ≡ a .at + 4 = omega arith in
-    let e = one-byte from (a .next) p (c .before .before .before .before .before .before .before .before .if2 .left) (c .before .before .before .before .before .before .before .before .before .before .before .pre .1) ∙ (λ i. sym (c .before .before .before .before .before .before .wide .ensures .0) i ∷ slice (x i) (a .next) p) in
+    let e = one-byte from (a .next) program (c .before .before .before .before .before .before .before .before .if2 .left) (c .before .before .before .before .before .before .before .before .before .before .before .pre .1) ∙ (λ i. sym (c .before .before .before .before .before .before .wide .ensures .0) i ∷ slice (x i) (a .next) program) in
     let n = c .before .before .wide2 .result in
-    let rest = slice (a .at + 4 + 1) (a .next) p in
-    let z = one-byte (a .at + 4) (a .next) p (c .before .before .before .before .if4 .left) (c .before .before .before .before .before .before .before .before .before .before .before .pre .1) ∙ ap (λ (k : ℕ). k ∷ rest) (sym (c .before .before .wide2 .ensures .0)) in
-    (counts-eight (a .at) (a .families) content (c .before .before .before .before .before .before .before .before .before .if1 .left) m more e (c .before .before .before .before .before .if3 .left) n rest z (c .before .if5 .left) (c .if6 .taken), tt)
+    let rest = slice (a .at + 4 + 1) (a .next) program in
+    let z = one-byte (a .at + 4) (a .next) program (c .before .before .before .before .if4 .left) (c .before .before .before .before .before .before .before .before .before .before .before .pre .1) ∙ ap (λ (k : ℕ). k ∷ rest) (sym (c .before .before .wide2 .ensures .0)) in
+    (counts-above (a .at) (a .families) content (c .before .before .before .before .before .before .before .before .before .if1 .left) m more e (c .before .before .before .before .before .if3 .left) n rest z (c .before .if5 .left) (c .if6 .taken), tt)
 
 -- src/lib.rt:181:1
 returns-7 : tie.Need-returns-7
-unfolding countsTold
+unfolding checkedCounts
 returns-7 c =
     let a = c .before .before .before .before .before .before .before .before .before .before .before .args in
-    let p = now (a .program) in
+    let program = now (a .program) in
     let from = a .at + 3 in
-    let content = slice from (a .next) p in
+    let content = slice from (a .next) program in
     let m = c .before .before .before .before .before .before .wide .result in
-    let more = slice (a .at + 4) (a .next) p in
+    let more = slice (a .at + 4) (a .next) program in
     let x : from + 1 ≡ a .at + 4 = omega arith in
-    let e = one-byte from (a .next) p (c .before .before .before .before .before .before .before .before .if2 .left) (c .before .before .before .before .before .before .before .before .before .before .before .pre .1) ∙ (λ i. sym (c .before .before .before .before .before .before .wide .ensures .0) i ∷ slice (x i) (a .next) p) in
+    let e = one-byte from (a .next) program (c .before .before .before .before .before .before .before .before .if2 .left) (c .before .before .before .before .before .before .before .before .before .before .before .pre .1) ∙ (λ i. sym (c .before .before .before .before .before .before .wide .ensures .0) i ∷ slice (x i) (a .next) program) in
     let n = c .before .before .wide2 .result in
-    let rest = slice (a .at + 4 + 1) (a .next) p in
-    let z = one-byte (a .at + 4) (a .next) p (c .before .before .before .before .if4 .left) (c .before .before .before .before .before .before .before .before .before .before .before .pre .1) ∙ ap (λ (k : ℕ). k ∷ rest) (sym (c .before .before .wide2 .ensures .0)) in
+    let rest = slice (a .at + 4 + 1) (a .next) program in
+    let z = one-byte (a .at + 4) (a .next) program (c .before .before .before .before .if4 .left) (c .before .before .before .before .before .before .before .before .before .before .before .pre .1) ∙ ap (λ (k : ℕ). k ∷ rest) (sym (c .before .before .wide2 .ensures .0)) in
     let u = c .before .before .before .before .if4 .left in
     (counts-good (a .at) (a .families) content (c .before .before .before .before .before .before .before .before .before .if1 .left) m more e (c .before .before .before .before .before .if3 .left) n rest z (c .before .if5 .left) (c .if6 .left), (c .before .before .before .before .before .if3 .left, c .if6 .left, c .before .before .before .before .before .before .before .before .before .if1 .left, omega arith))
 

@@ -15,16 +15,16 @@ use Rattle.fields.specs.Header.{fieldsAt}
 use Rattle.check_operand.specs.Tables.{scopeWith, kindsAt}
 use Rattle.check_index.specs.Answers.{Beyond}
 use Rattle.check_index.proofs.Answers.{beyond-none, beyond-more, beyond-stops, passes-upto}
-use Rattle.check_declaration.specs.Types.{Apart, rowsTold}
+use Rattle.check_declaration.specs.Types.{Apart, checkedRows}
 use Rattle.check_declaration.proofs.Tables.{apart-none, apart-more}
 use Rattle.check_declaration.proofs.Types.{rows-stop, types-stop, types-go, more-kinds, no-kinds, all-kinds}
 
 abbrev Inv-loop : tie.InvT-loop
-Inv-loop program at to place m count first kinds₀ sizes₀ from₀ j₀ kinds sizes from j =
-    (j ≤ count) × Apart first count kinds₀ sizes₀ kinds sizes × Beyond program at to j from × ((fs : List Signature) (ks : List Kind) → kindsOf (scopeWith fs ks m []) (typesOf place count (fieldsAt program at to)) ≡ (kindsOf (scopeWith fs ks m []) (typesOf place (count - j) (fieldsAt program from to)) >>= λ rest. good (kindsAt j first kinds sizes ++ rest)))
+Inv-loop program at to parent m count first kinds₀ sizes₀ from₀ j₀ kinds sizes from j =
+    (j ≤ count) × Apart first count kinds₀ sizes₀ kinds sizes × Beyond program at to j from × ((fs : List Signature) (ks : List Kind) → kindsOf (scopeWith fs ks m []) (typesOf parent count (fieldsAt program at to)) ≡ (kindsOf (scopeWith fs ks m []) (typesOf parent (count - j) (fieldsAt program from to)) >>= λ rest. good (kindsAt j first kinds sizes ++ rest)))
 
 abbrev μ-loop : tie.MeasureT-loop
-μ-loop program at to place m count first kinds₀ sizes₀ from₀ j₀ kinds sizes from j =
+μ-loop program at to parent m count first kinds₀ sizes₀ from₀ j₀ kinds sizes from j =
     count - j
 
 -- src/lib.rt:169:5
@@ -71,17 +71,17 @@ same-length-2 c =
 returns : tie.Need-returns Inv-loop μ-loop
 returns c =
     let a = c .before .before .before .before .before .before .before .before .before .before .before .before .args in
-    let p = now (a .program) in
+    let program = now (a .program) in
     let i = c .before .before .before .before .before .before .before .before .before .loop in
     let kinds = c .before .before .before .before .before .typed-row .last .1 .1 .1 .1 .1 .1 .0 in
     let sizes = c .before .before .before .before .before .typed-row .last .1 .1 .1 .1 .1 .1 .1 .0 in
     let e : a .count - i .j ≡ suc (a .count - (i .j + 1)) = (let h = c .before .before .before .before .before .before .before .before .loop-test .taken in omega arith) in
     let sofar : List Kind → Checked (List Kind) = λ rest. good (kindsAt (i .j) (a .first) (i .kinds) (i .sizes) ++ rest) in (
       λ fs ks. rows-stop (c .before .before .before .before .before .typed-row .result) (a .count) (a .first) kinds sizes sofar (c .before .match .keys2)
-          ∙ ap (λ (c : Checked (List Kind)). c >>= sofar) (types-stop (scopeWith fs ks (a .m) []) (a .place) (a .count - (i .j + 1)) p (i .from) (a .to) (c .before .before .before .before .before .typed-row .result) (a .first + i .j) kinds sizes (c .before .before .before .before .before .typed-row .ensures .0 fs ks) (a .count) (a .first) (c .before .match .keys2)
-          ∙ ap (λ (n : ℕ). kindsOf (scopeWith fs ks (a .m) []) (typesOf (a .place) n (fieldsAt p (i .from) (a .to)))) (sym e))
+          ∙ ap (λ (c : Checked (List Kind)). c >>= sofar) (types-stop (scopeWith fs ks (a .m) []) (a .parent) (a .count - (i .j + 1)) program (i .from) (a .to) (c .before .before .before .before .before .typed-row .result) (a .first + i .j) kinds sizes (c .before .before .before .before .before .typed-row .ensures .0 fs ks) (a .count) (a .first) (c .before .match .keys2)
+          ∙ ap (λ (n : ℕ). kindsOf (scopeWith fs ks (a .m) []) (typesOf (a .parent) n (fieldsAt program (i .from) (a .to)))) (sym e))
           ∙ sym (i .inv .3 fs ks),
-      (beyond-stops p (a .at) (a .to) (a .count) (c .before .before .before .before .before .typed-row .result) (c .before .match .keys2), apart-more (a .first) (a .count) (i .j) (c .before .before .before .before .before .before .before .before .loop-test .taken) (i .inv .1) (c .before .before .before .before .before .typed-row .ensures .1 .1)),
+      (beyond-stops program (a .at) (a .to) (a .count) (c .before .before .before .before .before .typed-row .result) (c .before .match .keys2), apart-more (a .first) (a .count) (i .j) (c .before .before .before .before .before .before .before .before .loop-test .taken) (i .inv .1) (c .before .before .before .before .before .typed-row .ensures .1 .1)),
     )
 
 -- src/lib.rt:169:9
@@ -98,22 +98,22 @@ loop-less c =
 loop-again : tie.Need-loop-again Inv-loop μ-loop
 loop-again c =
     let a = c .before .before .before .before .before .before .before .before .before .before .before .before .before .args in
-    let p = now (a .program) in
+    let program = now (a .program) in
     let i = c .before .before .before .before .before .before .before .before .before .before .loop in
     let kinds = c .before .before .before .before .before .before .typed-row .last .1 .1 .1 .1 .1 .1 .0 in
     let sizes = c .before .before .before .before .before .before .typed-row .last .1 .1 .1 .1 .1 .1 .1 .0 in
     let e : a .count - i .j ≡ suc (a .count - (i .j + 1)) = (let h = c .before .before .before .before .before .before .before .before .before .loop-test .taken in omega arith) in
     let sofar : List Kind → Checked (List Kind) = λ rest. good (kindsAt (i .j) (a .first) (i .kinds) (i .sizes) ++ rest) in
     let next = c .before .r .given .0 .0 in
-    let v = passes-upto p (i .from) (a .to) (c .before .before .before .before .before .before .typed-row .result) next (c .before .r .given .1) (c .before .before .before .before .before .before .typed-row .ensures .1 .0) in
+    let v = passes-upto program (i .from) (a .to) (c .before .before .before .before .before .before .typed-row .result) next (c .before .r .given .1) (c .before .before .before .before .before .before .typed-row .ensures .1 .0) in
     let h = c .before .before .before .before .before .before .before .before .before .loop-test .taken in (
       omega arith,
       apart-more (a .first) (a .count) (i .j) h (i .inv .1) (c .before .before .before .before .before .before .typed-row .ensures .1 .1),
-      beyond-more p (a .at) (a .to) (i .j) (i .from) next (i .inv .2) v,
+      beyond-more program (a .at) (a .to) (i .j) (i .from) next (i .inv .2) v,
       (λ fs ks. i .inv .3 fs ks
-          ∙ ap (λ (n : ℕ). kindsOf (scopeWith fs ks (a .m) []) (typesOf (a .place) n (fieldsAt p (i .from) (a .to))) >>= sofar) e
-          ∙ ap (λ (c : Checked (List Kind)). c >>= sofar) (types-go (scopeWith fs ks (a .m) []) (a .place) (a .count - (i .j + 1)) p (i .from) (a .to) (c .before .before .before .before .before .before .typed-row .result) (a .first + i .j) kinds sizes (c .before .before .before .before .before .before .typed-row .ensures .0 fs ks) next (c .before .r .given .1) v)
-          ∙ more-kinds (kindsOf (scopeWith fs ks (a .m) []) (typesOf (a .place) (a .count - (i .j + 1)) (fieldsAt p next (a .to)))) (a .first) (a .count) (i .j) (c .before .before .before .before .before .before .typed-row .ensures .1 .1)),
+          ∙ ap (λ (n : ℕ). kindsOf (scopeWith fs ks (a .m) []) (typesOf (a .parent) n (fieldsAt program (i .from) (a .to))) >>= sofar) e
+          ∙ ap (λ (c : Checked (List Kind)). c >>= sofar) (types-go (scopeWith fs ks (a .m) []) (a .parent) (a .count - (i .j + 1)) program (i .from) (a .to) (c .before .before .before .before .before .before .typed-row .result) (a .first + i .j) kinds sizes (c .before .before .before .before .before .before .typed-row .ensures .0 fs ks) next (c .before .r .given .1) v)
+          ∙ more-kinds (kindsOf (scopeWith fs ks (a .m) []) (typesOf (a .parent) (a .count - (i .j + 1)) (fieldsAt program next (a .to)))) (a .first) (a .count) (i .j) (c .before .before .before .before .before .before .typed-row .ensures .1 .1)),
     )
 
 -- src/lib.rt:149:1
@@ -128,16 +128,16 @@ same-length-4 c =
 
 -- src/lib.rt:149:1
 returns-2 : tie.Need-returns-2 Inv-loop μ-loop
-unfolding rowsTold
+unfolding checkedRows
 returns-2 c =
     let a = c .before .before .before .before .args in
-    let p = now (a .program) in
+    let program = now (a .program) in
     let i = c .before .loop in
     let h = c .loop-test .left in
     let b = i .inv .0 in
     let z : a .count - i .j ≡ 0 = omega arith in
     let y : i .j ≡ a .count = omega arith in
-    (λ fs ks. sym (i .inv .3 fs ks ∙ ap (λ (n : ℕ). kindsOf (scopeWith fs ks (a .m) []) (typesOf (a .place) n (fieldsAt p (i .from) (a .to))) >>= λ rest. good (kindsAt (i .j) (a .first) (i .kinds) (i .sizes) ++ rest)) z ∙ all-kinds (scopeWith fs ks (a .m) []) (a .place) (fieldsAt p (i .from) (a .to)) (kindsAt (i .j) (a .first) (i .kinds) (i .sizes)) ∙ ap (λ (n : ℕ). good (kindsAt n (a .first) (i .kinds) (i .sizes))) y), (rw y at (i .inv .2), i .inv .1))
+    (λ fs ks. sym (i .inv .3 fs ks ∙ ap (λ (n : ℕ). kindsOf (scopeWith fs ks (a .m) []) (typesOf (a .parent) n (fieldsAt program (i .from) (a .to))) >>= λ rest. good (kindsAt (i .j) (a .first) (i .kinds) (i .sizes) ++ rest)) z ∙ all-kinds (scopeWith fs ks (a .m) []) (a .parent) (fieldsAt program (i .from) (a .to)) (kindsAt (i .j) (a .first) (i .kinds) (i .sizes)) ∙ ap (λ (n : ℕ). good (kindsAt n (a .first) (i .kinds) (i .sizes))) y), (rw y at (i .inv .2), i .inv .1))
 
 pub parameter-types-spec : {M : Type 1} → statement M
 parameter-types-spec =

@@ -6,146 +6,162 @@ use Rattle.check_declaration.proofs.register.Lts as lts
 use Rattle.check_declaration.proofs.register_size.Reads as register-size-reads
 use Rattle.forms.proofs.set_constant.Reads as set-constant-reads
 use Rattle.forms.proofs.store.Reads as store-reads
+use Rattle.kinds.proofs.number.Reads as number-reads
+use borrow.Author.Needs.{needs}
 use mathlib.Core.Path.{sym, ap, _∙_}
 use Prim.Native.Nat.{_+_, _<_}
 use native.Mathlib.Omega.{arith}
 use denote.Ref.{now}
+use lib.IntN.{pos}
 use lib.Seq.{slice}
-use borrow.Author.Needs.{needs}
 use Rattle.language.specs.Form.{constantForm}
-use Rattle.language.proofs.Integers.{small, small-range}
+use Rattle.language.proofs.Integers.{range-yes, range-back}
 use Rattle.forms.specs.Flat.{asForm}
-use Rattle.check_operand.specs.Tables.{kindBy}
+use Rattle.check_operand.specs.Tables.{kindIn}
 use Rattle.check_declaration.proofs.Sizes.{constant-narrow}
-use Rattle.check_declaration.specs.Registers.{numberTold}
+use Rattle.check_declaration.specs.Types.{tableRows}
+use Rattle.check_declaration.specs.Registers.{checkedRegister}
 use Rattle.check_declaration.proofs.Registers.{size-fits, register-stops}
-use Rattle.check_declaration.proofs.Tables.{apart-both, row-both}
+use Rattle.check_declaration.proofs.Tables.{apart-both, row-both, numbered}
 
--- src/lib.rt:251:9
+-- src/lib.rt:254:9
 register-size-requires : tie.Need-register-size-requires
-register-size-requires c κs = search needs
+register-size-requires c κs =
+    search needs
 
--- src/lib.rt:252:20
+-- src/lib.rt:255:20
 enum-known-r : tie.Need-enum-known-r
-enum-known-r c = search needs
+enum-known-r c =
+    search needs
 
--- src/lib.rt:253:9
+-- src/lib.rt:256:9
 enum-told : tie.Need-enum-told
-enum-told c = search needs
+enum-told c =
+    search needs
 
--- src/lib.rt:253:9
+-- src/lib.rt:256:9
 returns : tie.Need-returns
 returns c =
     let a = c .before .before .before .before .before .args in
-    let p = now (a .program) in
-    let content = slice (a .at + 3) (a .next) p in
-    (c .before .before .register-size .ensures, register-stops (c .before .before .register-size .result) (a .kind) (a .count) (a .total) (now (a .kinds)) (now (a .sizes)) (now (a .kinds)) (now (a .sizes)) (c .before .match .keys2))
+    let program = now (a .program) in
+    let content = slice (a .at + 3) (a .next) program in
+    (c .before .before .register-size .ensures, register-stops (c .before .before .register-size .result) (a .kind) (a .count) (a .total) (a .most) (now (a .kinds)) (now (a .sizes)) (now (a .kinds)) (now (a .sizes)) (c .before .match .keys2))
 
--- src/lib.rt:256:33
+-- src/lib.rt:259:33
 cast-set-constant : tie.Need-cast-set-constant
 cast-set-constant c =
     let a = c .before .before .before .before .before .before .before .args in
-    let p = now (a .program) in
-    let content = slice (a .at + 3) (a .next) p in
+    let program = now (a .program) in
+    let content = slice (a .at + 3) (a .next) program in
     let n = c .before .before .r .given .0 .0 in
-    let f = size-fits (c .before .before .before .before .register-size .result) n (a .at) (a .count) (a .total) content (c .before .before .r .given .1) (c .before .before .before .before .register-size .ensures) in
+    let f = size-fits (c .before .before .before .before .register-size .result) n (a .at) (a .count) (a .total) (a .most) content (c .before .before .r .given .1) (c .before .before .before .before .register-size .ensures) in
     let room = f .room in
     let fits = f .fits in
-    let long = c .before .before .before .before .before .before .before .pre .1 .1 .kindsLong in
-    let rows = c .before .before .before .before .before .before .before .pre .1 .1 .sizesLong in
+    let long = c .before .before .before .before .before .before .before .pre .1 .1 .1 .kindsLong in
+    let rows = c .before .before .before .before .before .before .before .pre .1 .1 .1 .sizesLong in
     search needs
 
--- src/lib.rt:256:5
+-- src/lib.rt:259:5
 set-constant-requires : tie.Need-set-constant-requires
 set-constant-requires c κs =
     let a = c .before .before .before .before .before .before .before .args in
-    let p = now (a .program) in
-    let content = slice (a .at + 3) (a .next) p in
+    let program = now (a .program) in
+    let content = slice (a .at + 3) (a .next) program in
     let n = c .before .before .r .given .0 .0 in
-    let f = size-fits (c .before .before .before .before .register-size .result) n (a .at) (a .count) (a .total) content (c .before .before .r .given .1) (c .before .before .before .before .register-size .ensures) in
+    let f = size-fits (c .before .before .before .before .register-size .result) n (a .at) (a .count) (a .total) (a .most) content (c .before .before .r .given .1) (c .before .before .before .before .register-size .ensures) in
     let room = f .room in
     let fits = f .fits in
-    let long = c .before .before .before .before .before .before .before .pre .1 .1 .kindsLong in
-    let rows = c .before .before .before .before .before .before .before .pre .1 .1 .sizesLong in
-    rw (small n (omega arith)) (small-range n (omega arith))
+    let long = c .before .before .before .before .before .before .before .pre .1 .1 .1 .kindsLong in
+    let rows = c .before .before .before .before .before .before .before .pre .1 .1 .1 .sizesLong in
+    let far = c .before .before .before .before .before .before .before .pre .1 .1 .0 in
+    let fine = range-yes (pos n) (omega arith) in
+    rw (range-back fine) fine
 
--- src/lib.rt:258:5
+-- src/lib.rt:261:5
 store-requires : tie.Need-store-requires
 unfolding asForm
 store-requires c κs =
     (c .before .before .set-constant .ensures .1, constant-narrow (c .before .before .set-constant .last .0) _ (c .before .before .set-constant .ensures .0) (c .before .before .set-constant .ensures .1))
 
--- src/lib.rt:259:5
+-- src/lib.rt:262:20
+number-requires : tie.Need-number-requires
+number-requires c κs =
+    search needs
+
+-- src/lib.rt:262:5
 slice-write-kinds : tie.Need-slice-write-kinds
 slice-write-kinds c =
-    let a = c .before .before .before .before .before .before .before .before .before .before .before .args in
-    let p = now (a .program) in
-    let content = slice (a .at + 3) (a .next) p in
-    let n = c .before .before .before .before .before .before .r .given .0 .0 in
-    let f = size-fits (c .before .before .before .before .before .before .before .before .register-size .result) n (a .at) (a .count) (a .total) content (c .before .before .before .before .before .before .r .given .1) (c .before .before .before .before .before .before .before .before .register-size .ensures) in
+    let a = c .before .before .before .before .before .before .before .before .before .before .before .before .args in
+    let program = now (a .program) in
+    let content = slice (a .at + 3) (a .next) program in
+    let n = c .before .before .before .before .before .before .before .r .given .0 .0 in
+    let f = size-fits (c .before .before .before .before .before .before .before .before .before .register-size .result) n (a .at) (a .count) (a .total) (a .most) content (c .before .before .before .before .before .before .before .r .given .1) (c .before .before .before .before .before .before .before .before .before .register-size .ensures) in
     let room = f .room in
     let fits = f .fits in
-    let long = c .before .before .before .before .before .before .before .before .before .before .before .pre .1 .1 .kindsLong in
-    let rows = c .before .before .before .before .before .before .before .before .before .before .before .pre .1 .1 .sizesLong in
+    let long = c .before .before .before .before .before .before .before .before .before .before .before .before .pre .1 .1 .1 .kindsLong in
+    let rows = c .before .before .before .before .before .before .before .before .before .before .before .before .pre .1 .1 .1 .sizesLong in
     omega arith
 
--- src/lib.rt:260:5
-mul-t20 : tie.Need-mul-t20
-mul-t20 c =
-    let a = c .before .before .before .before .before .before .before .before .before .before .before .args in
-    let p = now (a .program) in
-    let content = slice (a .at + 3) (a .next) p in
-    let n = c .before .before .before .before .before .before .r .given .0 .0 in
-    let f = size-fits (c .before .before .before .before .before .before .before .before .register-size .result) n (a .at) (a .count) (a .total) content (c .before .before .before .before .before .before .r .given .1) (c .before .before .before .before .before .before .before .before .register-size .ensures) in
+-- src/lib.rt:263:5
+mul-t22 : tie.Need-mul-t22
+mul-t22 c =
+    let a = c .before .before .before .before .before .before .before .before .before .before .before .before .args in
+    let program = now (a .program) in
+    let content = slice (a .at + 3) (a .next) program in
+    let n = c .before .before .before .before .before .before .before .r .given .0 .0 in
+    let f = size-fits (c .before .before .before .before .before .before .before .before .before .register-size .result) n (a .at) (a .count) (a .total) (a .most) content (c .before .before .before .before .before .before .before .r .given .1) (c .before .before .before .before .before .before .before .before .before .register-size .ensures) in
     let room = f .room in
     let fits = f .fits in
-    let long = c .before .before .before .before .before .before .before .before .before .before .before .pre .1 .1 .kindsLong in
-    let rows = c .before .before .before .before .before .before .before .before .before .before .before .pre .1 .1 .sizesLong in
+    let long = c .before .before .before .before .before .before .before .before .before .before .before .before .pre .1 .1 .1 .kindsLong in
+    let rows = c .before .before .before .before .before .before .before .before .before .before .before .before .pre .1 .1 .1 .sizesLong in
     omega arith
 
--- src/lib.rt:260:5
+-- src/lib.rt:263:5
 slice-set-from-sizes : tie.Need-slice-set-from-sizes
 slice-set-from-sizes c =
-    let a = c .before .before .before .before .before .before .before .before .before .before .before .args in
-    let p = now (a .program) in
-    let content = slice (a .at + 3) (a .next) p in
-    let n = c .before .before .before .before .before .before .r .given .0 .0 in
-    let f = size-fits (c .before .before .before .before .before .before .before .before .register-size .result) n (a .at) (a .count) (a .total) content (c .before .before .before .before .before .before .r .given .1) (c .before .before .before .before .before .before .before .before .register-size .ensures) in
+    let a = c .before .before .before .before .before .before .before .before .before .before .before .before .args in
+    let program = now (a .program) in
+    let content = slice (a .at + 3) (a .next) program in
+    let n = c .before .before .before .before .before .before .before .r .given .0 .0 in
+    let f = size-fits (c .before .before .before .before .before .before .before .before .before .register-size .result) n (a .at) (a .count) (a .total) (a .most) content (c .before .before .before .before .before .before .before .r .given .1) (c .before .before .before .before .before .before .before .before .before .register-size .ensures) in
     let room = f .room in
     let fits = f .fits in
-    let long = c .before .before .before .before .before .before .before .before .before .before .before .pre .1 .1 .kindsLong in
-    let rows = c .before .before .before .before .before .before .before .before .before .before .before .pre .1 .1 .sizesLong in
+    let long = c .before .before .before .before .before .before .before .before .before .before .before .before .pre .1 .1 .1 .kindsLong in
+    let rows = c .before .before .before .before .before .before .before .before .before .before .before .before .pre .1 .1 .1 .sizesLong in
     omega arith
 
--- src/lib.rt:235:1
+-- src/lib.rt:236:1
 same-length : tie.Need-same-length
-same-length c = search needs
+same-length c =
+    search needs
 
--- src/lib.rt:235:1
+-- src/lib.rt:236:1
 same-length-2 : tie.Need-same-length-2
-same-length-2 c = search needs
+same-length-2 c =
+    search needs
 
--- src/lib.rt:235:1
+-- src/lib.rt:236:1
 returns-2 : tie.Need-returns-2
 returns-2 c =
-    let a = c .before .before .before .before .before .before .before .before .before .before .before .args in
-    let p = now (a .program) in
-    let content = slice (a .at + 3) (a .next) p in
-    let n = c .before .before .before .before .before .before .r .given .0 .0 in
-    let f = size-fits (c .before .before .before .before .before .before .before .before .register-size .result) n (a .at) (a .count) (a .total) content (c .before .before .before .before .before .before .r .given .1) (c .before .before .before .before .before .before .before .before .register-size .ensures) in
+    let a = c .before .before .before .before .before .before .before .before .before .before .before .before .args in
+    let program = now (a .program) in
+    let content = slice (a .at + 3) (a .next) program in
+    let n = c .before .before .before .before .before .before .before .r .given .0 .0 in
+    let f = size-fits (c .before .before .before .before .before .before .before .before .before .register-size .result) n (a .at) (a .count) (a .total) (a .most) content (c .before .before .before .before .before .before .before .r .given .1) (c .before .before .before .before .before .before .before .before .before .register-size .ensures) in
     let room = f .room in
     let fits = f .fits in
-    let long = c .before .before .before .before .before .before .before .before .before .before .before .pre .1 .1 .kindsLong in
-    let rows = c .before .before .before .before .before .before .before .before .before .before .before .pre .1 .1 .sizesLong in
-    let h : a .count < 2295 = omega arith in
-    let l = c .store .last .0 in
-    let value = ap asForm (c .store .ensures .0) ∙ c .before .before .before .set-constant .ensures .0 ∙ ap constantForm (small n (omega arith)) in (
-      sym (ap numberTold (c .before .before .before .before .before .before .r .given .1)) ∙ c .before .before .before .before .before .before .before .before .register-size .ensures,
+    let long = c .before .before .before .before .before .before .before .before .before .before .before .before .pre .1 .1 .1 .kindsLong in
+    let rows = c .before .before .before .before .before .before .before .before .before .before .before .before .pre .1 .1 .1 .sizesLong in
+    let far = c .before .before .before .before .before .before .before .before .before .before .before .before .pre .1 .1 .0 in
+    let h : a .count < tableRows = omega arith in
+    let l = c .before .store .last .0 in
+    let value = ap asForm (c .before .store .ensures .0) ∙ c .before .before .before .before .set-constant .ensures .0 ∙ ap constantForm (range-back (range-yes (pos n) (omega arith))) in (
+      sym (ap checkedRegister (c .before .before .before .before .before .before .before .r .given .1)) ∙ c .before .before .before .before .before .before .before .before .before .register-size .ensures,
       record {
         room = room;
         fits = fits;
-        apart = apart-both (a .count) (now (a .kinds)) (now (a .sizes)) (c .before .before .before .before .before .before .before .before .before .before .before .pre .1 .1) h (a .kind) l (c .store .ensures .1);
-        row = row-both (a .count) (now (a .kinds)) (now (a .sizes)) (c .before .before .before .before .before .before .before .before .before .before .before .pre .1 .1) h (a .kind) l (c .store .ensures .1) ∙ ap (kindBy (a .kind)) value;
+        apart = apart-both (a .count) (now (a .kinds)) (now (a .sizes)) (c .before .before .before .before .before .before .before .before .before .before .before .before .pre .1 .1 .1) h (c .number .result) l (c .before .store .ensures .1);
+        row = row-both (a .count) (now (a .kinds)) (now (a .sizes)) (c .before .before .before .before .before .before .before .before .before .before .before .before .pre .1 .1 .1) h (c .number .result) l (c .before .store .ensures .1) ∙ numbered (a .kind) (c .number .result) _ (c .number .ensures) ∙ ap (kindIn (a .kind)) value;
       },
     )
 
@@ -160,8 +176,9 @@ register-spec =
     cast-set-constant
     set-constant-requires
     store-requires
+    number-requires
     slice-write-kinds
-    mul-t20
+    mul-t22
     slice-set-from-sizes
     same-length
     same-length-2

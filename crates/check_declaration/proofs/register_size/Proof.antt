@@ -14,19 +14,19 @@ use lib.Seq.{slice, length-slice}
 use Rattle.language.specs.Read.{twoBytes}
 use Rattle.language.specs.Check.{good}
 use Rattle.fields.proofs.Reading.{one-byte, slice-none}
-use Rattle.check_declaration.specs.Registers.{numberTold}
+use Rattle.check_declaration.specs.Registers.{checkedRegister}
 use Rattle.check_declaration.proofs.Registers.{size-many-registers, size-short, size-past, size-left, size-good}
 
 -- src/lib.rt:218:9
 returns : tie.Need-returns
-unfolding numberTold
+unfolding checkedRegister
 returns c =
     let a = c .before .before .args in
-    let p = now (a .program) in
+    let program = now (a .program) in
     let from = a .at + 3 in
-    let content = slice from (a .next) p in
-    let long = length-slice from (a .next) p (c .before .before .pre .0 .1) in
-    size-many-registers (a .at) (a .count) (a .total) content (c .if1 .taken)
+    let content = slice from (a .next) program in
+    let long = length-slice from (a .next) program (c .before .before .pre .0 .1) in
+    size-many-registers (a .at) (a .count) (a .total) (a .most) content (c .if1 .taken)
 
 -- src/lib.rt:220:16
 add-from : tie.Need-add-from
@@ -38,14 +38,14 @@ sub-if2 c = search needs
 
 -- src/lib.rt:222:9
 returns-2 : tie.Need-returns-2
-unfolding numberTold
+unfolding checkedRegister
 returns-2 c =
     let a = c .before .before .before .args in
-    let p = now (a .program) in
+    let program = now (a .program) in
     let from = a .at + 3 in
-    let content = slice from (a .next) p in
-    let long = length-slice from (a .next) p (c .before .before .before .pre .0 .1) in
-    size-short (a .at) (a .count) (a .total) content (c .before .if1 .left) (omega arith)
+    let content = slice from (a .next) program in
+    let long = length-slice from (a .next) program (c .before .before .before .pre .0 .1) in
+    size-short (a .at) (a .count) (a .total) (a .most) content (c .before .if1 .left) (omega arith)
 
 -- src/lib.rt:224:9
 two-bytes-requires : tie.Need-two-bytes-requires
@@ -57,21 +57,21 @@ add-if3 c = search needs
 
 -- src/lib.rt:226:9
 returns-3 : tie.Need-returns-3
-unfolding numberTold
+unfolding checkedRegister
 returns-3 c =
     let a = c .before .before .before .before .before .args in
-    let p = now (a .program) in
+    let program = now (a .program) in
     let from = a .at + 3 in
-    let content = slice from (a .next) p in
-    let long = length-slice from (a .next) p (c .before .before .before .before .before .pre .0 .1) in
-    let x = getD p from 0 in
-    let y = getD p (from + 1) 0 in
-    let more = slice (from + 1 + 1) (a .next) p in
-    let e = one-byte from (a .next) p (omega arith) (c .before .before .before .before .before .pre .0 .1) ∙ ap (λ (l : List ℕ). x ∷ l) (one-byte (from + 1) (a .next) p (omega arith) (c .before .before .before .before .before .pre .0 .1)) in
-    let len = length-slice (from + 1 + 1) (a .next) p (c .before .before .before .before .before .pre .0 .1) in
+    let content = slice from (a .next) program in
+    let long = length-slice from (a .next) program (c .before .before .before .before .before .pre .0 .1) in
+    let x = getD program from 0 in
+    let y = getD program (from + 1) 0 in
+    let more = slice (from + 1 + 1) (a .next) program in
+    let e = one-byte from (a .next) program (omega arith) (c .before .before .before .before .before .pre .0 .1) ∙ ap (λ (l : List ℕ). x ∷ l) (one-byte (from + 1) (a .next) program (omega arith) (c .before .before .before .before .before .pre .0 .1)) in
+    let len = length-slice (from + 1 + 1) (a .next) program (c .before .before .before .before .before .pre .0 .1) in
     let n : c .before .two-bytes .result ≡ twoBytes x y = c .before .two-bytes .ensures .0 in
     let t = c .if3 .taken in
-    size-past (a .at) (a .count) (a .total) content (c .before .before .before .if1 .left) x y more e (rw n at t)
+    size-past (a .at) (a .count) (a .total) (a .most) content (c .before .before .before .if1 .left) x y more e (rw n at t)
 
 -- src/lib.rt:228:8
 sub-if4 : tie.Need-sub-if4
@@ -79,41 +79,41 @@ sub-if4 c = search needs
 
 -- src/lib.rt:229:9
 returns-4 : tie.Need-returns-4
-unfolding numberTold
+unfolding checkedRegister
 returns-4 c =
     let a = c .before .before .before .before .before .before .args in
-    let p = now (a .program) in
+    let program = now (a .program) in
     let from = a .at + 3 in
-    let content = slice from (a .next) p in
-    let long = length-slice from (a .next) p (c .before .before .before .before .before .before .pre .0 .1) in
-    let x = getD p from 0 in
-    let y = getD p (from + 1) 0 in
-    let more = slice (from + 1 + 1) (a .next) p in
-    let e = one-byte from (a .next) p (omega arith) (c .before .before .before .before .before .before .pre .0 .1) ∙ ap (λ (l : List ℕ). x ∷ l) (one-byte (from + 1) (a .next) p (omega arith) (c .before .before .before .before .before .before .pre .0 .1)) in
-    let len = length-slice (from + 1 + 1) (a .next) p (c .before .before .before .before .before .before .pre .0 .1) in
+    let content = slice from (a .next) program in
+    let long = length-slice from (a .next) program (c .before .before .before .before .before .before .pre .0 .1) in
+    let x = getD program from 0 in
+    let y = getD program (from + 1) 0 in
+    let more = slice (from + 1 + 1) (a .next) program in
+    let e = one-byte from (a .next) program (omega arith) (c .before .before .before .before .before .before .pre .0 .1) ∙ ap (λ (l : List ℕ). x ∷ l) (one-byte (from + 1) (a .next) program (omega arith) (c .before .before .before .before .before .before .pre .0 .1)) in
+    let len = length-slice (from + 1 + 1) (a .next) program (c .before .before .before .before .before .before .pre .0 .1) in
     let n : c .before .before .two-bytes .result ≡ twoBytes x y = c .before .before .two-bytes .ensures .0 in
     let t = c .before .if3 .left in
     let z = c .if4 .taken in
-    size-left (a .at) (a .count) (a .total) content (c .before .before .before .before .if1 .left) x y more e (rw n at t) (λ q. z (omega arith))
+    size-left (a .at) (a .count) (a .total) (a .most) content (c .before .before .before .before .if1 .left) x y more e (rw n at t) (λ q. z (omega arith))
 
 -- src/lib.rt:212:1
 returns-5 : tie.Need-returns-5
-unfolding numberTold
+unfolding checkedRegister
 returns-5 c =
     let a = c .before .before .before .before .before .before .args in
-    let p = now (a .program) in
+    let program = now (a .program) in
     let from = a .at + 3 in
-    let content = slice from (a .next) p in
-    let long = length-slice from (a .next) p (c .before .before .before .before .before .before .pre .0 .1) in
-    let x = getD p from 0 in
-    let y = getD p (from + 1) 0 in
-    let more = slice (from + 1 + 1) (a .next) p in
-    let e = one-byte from (a .next) p (omega arith) (c .before .before .before .before .before .before .pre .0 .1) ∙ ap (λ (l : List ℕ). x ∷ l) (one-byte (from + 1) (a .next) p (omega arith) (c .before .before .before .before .before .before .pre .0 .1)) in
-    let len = length-slice (from + 1 + 1) (a .next) p (c .before .before .before .before .before .before .pre .0 .1) in
+    let content = slice from (a .next) program in
+    let long = length-slice from (a .next) program (c .before .before .before .before .before .before .pre .0 .1) in
+    let x = getD program from 0 in
+    let y = getD program (from + 1) 0 in
+    let more = slice (from + 1 + 1) (a .next) program in
+    let e = one-byte from (a .next) program (omega arith) (c .before .before .before .before .before .before .pre .0 .1) ∙ ap (λ (l : List ℕ). x ∷ l) (one-byte (from + 1) (a .next) program (omega arith) (c .before .before .before .before .before .before .pre .0 .1)) in
+    let len = length-slice (from + 1 + 1) (a .next) program (c .before .before .before .before .before .before .pre .0 .1) in
     let n : c .before .before .two-bytes .result ≡ twoBytes x y = c .before .before .two-bytes .ensures .0 in
     let t = c .before .if3 .left in
     let z = c .if4 .left in
-    ap good n ∙ size-good (a .at) (a .count) (a .total) content (c .before .before .before .before .if1 .left) x y more e (rw n at t) (slice-none (from + 1 + 1) (a .next) p (omega arith))
+    ap good n ∙ size-good (a .at) (a .count) (a .total) (a .most) content (c .before .before .before .before .if1 .left) x y more e (rw n at t) (slice-none (from + 1 + 1) (a .next) program (omega arith))
 
 pub register-size-spec : {M : Type 1} → statement M
 register-size-spec =

@@ -10,8 +10,8 @@ use Prim.Native.Nat.{_+_}
 use native.Mathlib.Omega.{arith}
 use denote.Ref.{now}
 use Rattle.forms.specs.Rows.{loopsOf}
-use Rattle.check_declaration.specs.Types.{sizeTold}
-use Rattle.check_index.proofs.Answers.{past-upto, ends-stops}
+use Rattle.check_declaration.specs.Types.{checkedSizedType}
+use Rattle.check_index.proofs.Answers.{form-passes-upto, form-ends-stops}
 use Rattle.check_declaration.proofs.Types.{type-stops, type-long, type-not, type-good}
 use Rattle.check_operand.proofs.Tables.{no-rows}
 
@@ -35,20 +35,20 @@ enum-told c = search needs
 returns : tie.Need-returns
 returns c =
     let a = c .before .before .before .before .before .args in
-    let p = now (a .program) in
+    let program = now (a .program) in
     let l = c .before .before .index .last .1 .1 .1 .1 .1 .1 .0 in
-    (λ fs ks. type-stops fs ks (a .m) p (a .at) (a .next) (c .before .before .index .result) l (c .before .before .index .ensures .0) l (c .before .match .keys2), ends-stops (a .next) (c .before .before .index .result) l (c .before .match .keys2))
+    (λ fs ks. type-stops fs ks (a .m) program (a .at) (a .next) (c .before .before .index .result) l (c .before .before .index .ensures .0) l (c .before .match .keys2), form-ends-stops (a .next) (c .before .before .index .result) l (c .before .match .keys2))
 
 -- src/lib.rt:65:9
 returns-2 : tie.Need-returns-2
-unfolding sizeTold
+unfolding checkedSizedType
 returns-2 c =
     let a = c .before .before .before .before .before .before .before .args in
-    let p = now (a .program) in
+    let program = now (a .program) in
     let l = c .before .before .before .before .index .last .1 .1 .1 .1 .1 .1 .0 in
     let end = c .before .before .r .given .0 .0 in
-    let v = past-upto p (a .at + 3) (a .next) (c .before .before .before .before .index .result) l end (c .before .before .r .given .1) (c .before .before .before .before .index .ensures .1) in
-    (λ fs ks. type-long fs ks (a .m) p (a .at) (a .next) (c .before .before .before .before .index .result) l (c .before .before .before .before .index .ensures .0) end (c .before .before .r .given .1) (v .0) (c .if1 .taken) (c .before .before .before .before .before .before .before .pre .0 .1), tt)
+    let v = form-passes-upto program (a .at + 3) (a .next) (c .before .before .before .before .index .result) l end (c .before .before .r .given .1) (c .before .before .before .before .index .ensures .1) in
+    (λ fs ks. type-long fs ks (a .m) program (a .at) (a .next) (c .before .before .before .before .index .result) l (c .before .before .before .before .index .ensures .0) end (c .before .before .r .given .1) (v .0) (c .if1 .taken) (c .before .before .before .before .before .before .before .pre .0 .1), tt)
 
 -- src/lib.rt:69:5
 slice-aggregate-must-show : tie.Need-slice-aggregate-must-show
@@ -62,10 +62,10 @@ slice-aggregate-must-show-2 c = search needs
 must-show-requires : tie.Need-must-show-requires
 must-show-requires c κs =
     let a = c .before .before .before .before .before .before .before .before .before .before .before .args in
-    let p = now (a .program) in
+    let program = now (a .program) in
     let l = c .before .before .before .before .before .before .before .before .index .last .1 .1 .1 .1 .1 .1 .0 in
     let end = c .before .before .before .before .before .before .r .given .0 .0 in
-    let v = past-upto p (a .at + 3) (a .next) (c .before .before .before .before .before .before .before .before .index .result) l end (c .before .before .before .before .before .before .r .given .1) (c .before .before .before .before .before .before .before .before .index .ensures .1) in
+    let v = form-passes-upto program (a .at + 3) (a .next) (c .before .before .before .before .before .before .before .before .index .result) l end (c .before .before .before .before .before .before .r .given .1) (c .before .before .before .before .before .before .before .before .index .ensures .1) in
     (v .1, (omega arith, (no-rows _, no-rows _)))
 
 enum-told-2 : tie.Need-enum-told-2
@@ -80,22 +80,22 @@ returns-3 : tie.Need-returns-3
 unfolding loopsOf
 returns-3 c =
     let a = c .before .before .before .before .before .before .before .before .before .before .before .before .before .before .args in
-    let p = now (a .program) in
+    let program = now (a .program) in
     let l = c .before .before .before .before .before .before .before .before .before .before .before .index .last .1 .1 .1 .1 .1 .1 .0 in
     let end = c .before .before .before .before .before .before .before .before .before .r .given .0 .0 in
-    let v = past-upto p (a .at + 3) (a .next) (c .before .before .before .before .before .before .before .before .before .before .before .index .result) l end (c .before .before .before .before .before .before .before .before .before .r .given .1) (c .before .before .before .before .before .before .before .before .before .before .before .index .ensures .1) in
-    (λ fs ks. type-not fs ks (a .m) p (a .at) (a .next) (c .before .before .before .before .before .before .before .before .before .before .before .index .result) l (c .before .before .before .before .before .before .before .before .before .before .before .index .ensures .0) end (c .before .before .before .before .before .before .before .before .before .r .given .1) (v .0) (c .before .before .before .before .before .before .before .if1 .left) (c .before .before .must-show .result) (c .before .before .must-show .ensures .0) l (c .before .match2 .keys2), ends-stops (a .next) (c .before .before .must-show .result) l (c .before .match2 .keys2))
+    let v = form-passes-upto program (a .at + 3) (a .next) (c .before .before .before .before .before .before .before .before .before .before .before .index .result) l end (c .before .before .before .before .before .before .before .before .before .r .given .1) (c .before .before .before .before .before .before .before .before .before .before .before .index .ensures .1) in
+    (λ fs ks. type-not fs ks (a .m) program (a .at) (a .next) (c .before .before .before .before .before .before .before .before .before .before .before .index .result) l (c .before .before .before .before .before .before .before .before .before .before .before .index .ensures .0) end (c .before .before .before .before .before .before .before .before .before .r .given .1) (v .0) (c .before .before .before .before .before .before .before .if1 .left) (c .before .before .must-show .result) (c .before .before .must-show .ensures .0 fs ks) l (c .before .match2 .keys2), form-ends-stops (a .next) (c .before .before .must-show .result) l (c .before .match2 .keys2))
 
 -- src/lib.rt:53:1
 returns-4 : tie.Need-returns-4
 unfolding loopsOf
 returns-4 c =
     let a = c .before .before .before .before .before .before .before .before .before .before .before .before .before .before .args in
-    let p = now (a .program) in
+    let program = now (a .program) in
     let l = c .before .before .before .before .before .before .before .before .before .before .before .index .last .1 .1 .1 .1 .1 .1 .0 in
     let end = c .before .before .before .before .before .before .before .before .before .r .given .0 .0 in
-    let v = past-upto p (a .at + 3) (a .next) (c .before .before .before .before .before .before .before .before .before .before .before .index .result) l end (c .before .before .before .before .before .before .before .before .before .r .given .1) (c .before .before .before .before .before .before .before .before .before .before .before .index .ensures .1) in
-    (λ fs ks. type-good fs ks (a .m) p (a .at) (a .next) (c .before .before .before .before .before .before .before .before .before .before .before .index .result) l (c .before .before .before .before .before .before .before .before .before .before .before .index .ensures .0) end (c .before .before .before .before .before .before .before .before .before .r .given .1) (v .0) (c .before .before .before .before .before .before .before .if1 .left) (c .before .before .must-show .result) (c .before .before .must-show .ensures .0) (c .before .match2 .keys1), (refl, v .1))
+    let v = form-passes-upto program (a .at + 3) (a .next) (c .before .before .before .before .before .before .before .before .before .before .before .index .result) l end (c .before .before .before .before .before .before .before .before .before .r .given .1) (c .before .before .before .before .before .before .before .before .before .before .before .index .ensures .1) in
+    (λ fs ks. type-good fs ks (a .m) program (a .at) (a .next) (c .before .before .before .before .before .before .before .before .before .before .before .index .result) l (c .before .before .before .before .before .before .before .before .before .before .before .index .ensures .0) end (c .before .before .before .before .before .before .before .before .before .r .given .1) (v .0) (c .before .before .before .before .before .before .before .if1 .left) (c .before .before .must-show .result) (c .before .before .must-show .ensures .0 fs ks) (c .before .match2 .keys1), (refl, v .1))
 
 pub sized-type-spec : {M : Type 1} → statement M
 sized-type-spec =

@@ -5,6 +5,8 @@ use Rattle.check_declaration.proofs.typed_row.Reads as reads
 use Rattle.check_declaration.proofs.typed_row.Lts as lts
 use Rattle.check_declaration.proofs.parameter_type.Reads as parameter-type-reads
 use Rattle.forms.proofs.store.Reads as store-reads
+use Rattle.kinds.proofs.number.Reads as number-reads
+use borrow.Author.Needs.{needs}
 use mathlib.Core.Path.{_∙_}
 use denote.Ref.{now}
 use Rattle.check_declaration.proofs.Tables.{apart-none, apart-kind, apart-both}
@@ -17,102 +19,123 @@ use Rattle.fields.specs.Header.{fieldsAt}
 use Rattle.check_operand.specs.Tables.{scopeWith}
 use Rattle.check_declaration.proofs.Sizes.{narrow}
 
--- src/lib.rt:132:5
+-- src/lib.rt:125:11
 parameter-type-requires : tie.Need-parameter-type-requires
-parameter-type-requires c κs = search needs
+parameter-type-requires c κs =
+    search needs
 
--- src/lib.rt:133:26
+-- src/lib.rt:126:26
 enum-known-next : tie.Need-enum-known-next
-enum-known-next c = search needs
+enum-known-next c =
+    search needs
 
--- src/lib.rt:134:13
+-- src/lib.rt:127:26
+number-requires : tie.Need-number-requires
+number-requires c κs =
+    search needs
+
+-- src/lib.rt:127:13
 slice-write-kinds : tie.Need-slice-write-kinds
-slice-write-kinds c = search needs
+slice-write-kinds c =
+    search needs
 
--- src/lib.rt:137:24
+-- src/lib.rt:130:24
 enum-known-next-2 : tie.Need-enum-known-next-2
-enum-known-next-2 c = search needs
+enum-known-next-2 c =
+    search needs
 
--- src/lib.rt:139:13
+-- src/lib.rt:132:13
 store-requires : tie.Need-store-requires
 store-requires c κs =
     let a = c .before .before .before .before .before .before .before .before .before .args in
-    let p = now (a .program) in
+    let program = now (a .program) in
     let l = c .before .before .before .before .before .parameter-type .last .1 .1 .1 .1 .1 .0 in
     let t = c .before .before .before .before .before .before .before .before .before .pre .1 .1 .1 in
     let h = c .before .before .before .before .before .before .before .before .before .pre .1 .1 .0 in
     let kinds = now (a .kinds) in
     let sizes = now (a .sizes) in
     let few = c .before .before .before .before .before .before .before .before .before .pre .1 .0 in
-    let u = past-many p (a .at) (a .to) (c .before .before .before .before .before .parameter-type .result) l (c .before .before .before .next2 .given .0 .0) (c .before .before .before .before .before .parameter-type .ensures .1) (c .before .before .before .next2 .given .1) in
-    (u .1, narrow (c .before .before .before .before .before .parameter-type .result) (c .before .before .before .next2 .given .0 .0) l (scopeWith [] [] (a .m) []) (due readType (badType 4 (a .place)) (fieldsAt p (a .at) (a .to))) (c .before .before .before .next2 .given .1) (u .1) (c .before .before .before .before .before .parameter-type .ensures .0 [] []) (omega arith))
+    let u = past-many program (a .at) (a .to) (c .before .before .before .before .before .parameter-type .result) l (c .before .before .before .next2 .given .0 .0) (c .before .before .before .before .before .parameter-type .ensures .1) (c .before .before .before .next2 .given .1) in
+    (u .1, narrow (c .before .before .before .before .before .parameter-type .result) (c .before .before .before .next2 .given .0 .0) l (scopeWith [] [] (a .m) []) (due readType (badType 4 (a .parent)) (fieldsAt program (a .at) (a .to))) (c .before .before .before .next2 .given .1) (u .1) (c .before .before .before .before .before .parameter-type .ensures .0 [] []) (omega arith))
 
--- src/lib.rt:140:13
+-- src/lib.rt:133:26
+number-requires-2 : tie.Need-number-requires-2
+number-requires-2 c κs =
+    search needs
+
+-- src/lib.rt:133:13
 slice-write-kinds-2 : tie.Need-slice-write-kinds-2
-slice-write-kinds-2 c = search needs
+slice-write-kinds-2 c =
+    search needs
 
--- src/lib.rt:141:13
-mul-t24 : tie.Need-mul-t24
-mul-t24 c = search needs
+-- src/lib.rt:134:13
+mul-t28 : tie.Need-mul-t28
+mul-t28 c =
+    search needs
 
--- src/lib.rt:141:13
+-- src/lib.rt:134:13
 slice-set-from-sizes : tie.Need-slice-set-from-sizes
-slice-set-from-sizes c = search needs
+slice-set-from-sizes c =
+    search needs
 
--- src/lib.rt:144:23
+-- src/lib.rt:137:23
 enum-known-n : tie.Need-enum-known-n
-enum-known-n c = search needs
+enum-known-n c =
+    search needs
 
--- src/lib.rt:113:1
+-- src/lib.rt:106:1
 same-length : tie.Need-same-length
-same-length c = search needs
+same-length c =
+    search needs
 
--- src/lib.rt:113:1
+-- src/lib.rt:106:1
 returns : tie.Need-returns
 returns c =
-    let a = c .before .before .before .before .before .before .before .args in
-    let p = now (a .program) in
-    let l = c .before .before .before .parameter-type .last .1 .1 .1 .1 .1 .0 in
-    let t = c .before .before .before .before .before .before .before .pre .1 .1 .1 in
-    let h = c .before .before .before .before .before .before .before .pre .1 .1 .0 in
+    let a = c .before .before .before .before .before .before .before .before .args in
+    let program = now (a .program) in
+    let l = c .before .before .before .before .parameter-type .last .1 .1 .1 .1 .1 .0 in
+    let t = c .before .before .before .before .before .before .before .before .pre .1 .1 .1 in
+    let h = c .before .before .before .before .before .before .before .before .pre .1 .1 .0 in
     let kinds = now (a .kinds) in
     let sizes = now (a .sizes) in (
-      λ fs ks. typed-single (c .before .before .before .parameter-type .result) (c .before .next .given .0 .0) 0 l (a .row) kinds sizes t h (c .before .next .given .1) ∙ c .before .before .before .parameter-type .ensures .0 fs ks,
+      λ fs ks. typed-single (c .before .before .before .before .parameter-type .result) (c .before .before .next .given .0 .0) 0 l (a .row) kinds sizes t h (c .number .result) (c .number .ensures) (c .before .before .next .given .1) ∙ c .before .before .before .before .parameter-type .ensures .0 fs ks,
       (
-        past-single p (a .at) (a .to) (c .before .before .before .parameter-type .result) l (c .before .next .given .0 .0) (c .before .before .before .parameter-type .ensures .1) (c .before .next .given .1),
-        apart-kind (a .row) kinds sizes t h 0,
+        past-single program (a .at) (a .to) (c .before .before .before .before .parameter-type .result) l (c .before .before .next .given .0 .0) (c .before .before .before .before .parameter-type .ensures .1) (c .before .before .next .given .1),
+        apart-kind (a .row) kinds sizes t h (c .number .result),
       ),
     )
 
--- src/lib.rt:113:1
+-- src/lib.rt:106:1
 same-length-2 : tie.Need-same-length-2
-same-length-2 c = search needs
+same-length-2 c =
+    search needs
 
--- src/lib.rt:113:1
+-- src/lib.rt:106:1
 same-length-3 : tie.Need-same-length-3
-same-length-3 c = search needs
+same-length-3 c =
+    search needs
 
--- src/lib.rt:113:1
+-- src/lib.rt:106:1
 returns-2 : tie.Need-returns-2
 returns-2 c =
-    let a = c .before .before .before .before .before .before .before .before .before .before .args in
-    let p = now (a .program) in
-    let l = c .before .before .before .before .before .before .parameter-type .last .1 .1 .1 .1 .1 .0 in
-    let t = c .before .before .before .before .before .before .before .before .before .before .pre .1 .1 .1 in
-    let h = c .before .before .before .before .before .before .before .before .before .before .pre .1 .1 .0 in
+    let a = c .before .before .before .before .before .before .before .before .before .before .before .args in
+    let program = now (a .program) in
+    let l = c .before .before .before .before .before .before .before .parameter-type .last .1 .1 .1 .1 .1 .0 in
+    let t = c .before .before .before .before .before .before .before .before .before .before .before .pre .1 .1 .1 in
+    let h = c .before .before .before .before .before .before .before .before .before .before .before .pre .1 .1 .0 in
     let kinds = now (a .kinds) in
     let sizes = now (a .sizes) in
-    let u = past-many p (a .at) (a .to) (c .before .before .before .before .before .before .parameter-type .result) l (c .before .before .before .before .next2 .given .0 .0) (c .before .before .before .before .before .before .parameter-type .ensures .1) (c .before .before .before .before .next2 .given .1) in
-    let short = c .store .last .0 in (
-      λ fs ks. typed-many (c .before .before .before .before .before .before .parameter-type .result) (c .before .before .before .before .next2 .given .0 .0) 0 l (a .row) kinds sizes t h short (c .before .before .before .before .next2 .given .1) (c .store .ensures .1) (c .store .ensures .0) ∙ c .before .before .before .before .before .before .parameter-type .ensures .0 fs ks,
-      (u .0, apart-both (a .row) kinds sizes t h 1 short (c .store .ensures .1)),
+    let u = past-many program (a .at) (a .to) (c .before .before .before .before .before .before .before .parameter-type .result) l (c .before .before .before .before .before .next2 .given .0 .0) (c .before .before .before .before .before .before .before .parameter-type .ensures .1) (c .before .before .before .before .before .next2 .given .1) in
+    let short = c .before .store .last .0 in (
+      λ fs ks. typed-many (c .before .before .before .before .before .before .before .parameter-type .result) (c .before .before .before .before .before .next2 .given .0 .0) 0 l (a .row) kinds sizes t h (c .number2 .result) (c .number2 .ensures) short (c .before .before .before .before .before .next2 .given .1) (c .before .store .ensures .1) (c .before .store .ensures .0) ∙ c .before .before .before .before .before .before .before .parameter-type .ensures .0 fs ks,
+      (u .0, apart-both (a .row) kinds sizes t h (c .number2 .result) short (c .before .store .ensures .1)),
     )
 
--- src/lib.rt:113:1
+-- src/lib.rt:106:1
 returns-3 : tie.Need-returns-3
 returns-3 c =
     let a = c .before .before .before .before .before .before .before .args in
-    let p = now (a .program) in
+    let program = now (a .program) in
     let l = c .before .before .before .parameter-type .last .1 .1 .1 .1 .1 .0 in
     let t = c .before .before .before .before .before .before .before .pre .1 .1 .1 in
     let h = c .before .before .before .before .before .before .before .pre .1 .1 .0 in
@@ -128,11 +151,13 @@ typed-row-spec =
     (tie.spec
     parameter-type-requires
     enum-known-next
+    number-requires
     slice-write-kinds
     enum-known-next-2
     store-requires
+    number-requires-2
     slice-write-kinds-2
-    mul-t24
+    mul-t28
     slice-set-from-sizes
     enum-known-n
     same-length

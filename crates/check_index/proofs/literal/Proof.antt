@@ -15,7 +15,7 @@ use lib.Seq.{slice, length-slice}
 use Rattle.language.specs.Form.{constantForm}
 use Rattle.language.specs.Check.{good}
 use Rattle.fields.proofs.Reading.{two-bytes}
-use Rattle.check_index.specs.Answers.{formTold}
+use Rattle.check_index.specs.Answers.{checkedForm}
 use Rattle.check_index.proofs.Forms.{literal-bad, literal-good}
 use Rattle.language.proofs.Integers.{small, small-range}
 
@@ -29,7 +29,7 @@ sub-if1 c = search needs
 
 -- src/lib.rt:100:9
 returns : tie.Need-returns
-unfolding formTold
+unfolding checkedForm
 returns c =
     let a = c .before .before .args in
     (λ n. literal-bad (a .at) n (slice (a .at + 3) (a .next) (now (a .program))) (λ e. c .if1 .taken (sym (length-slice (a .at + 3) (a .next) (now (a .program)) (c .before .before .pre .1)) ∙ e)), tt)
@@ -50,7 +50,7 @@ set-constant-requires c κs =
 
 -- src/lib.rt:93:1
 returns-2 : tie.Need-returns-2
-unfolding formTold
+unfolding checkedForm
 returns-2 c =
     let a = c .before .before .before .before .before .args in
     let l = now (a .program) in

@@ -6,7 +6,7 @@ use Rattle.check_index.proofs.product.Lts as lts
 use Rattle.forms.proofs.multiply.Reads as multiply-reads
 use mathlib.Core.Path.{refl}
 use Rattle.forms.specs.Products.{productOf}
-use Rattle.check_index.specs.Answers.{formTold}
+use Rattle.check_index.specs.Answers.{checkedForm}
 use Rattle.check_index.specs.Indexes.{treeOperation}
 
 -- src/lib.rt:136:11
@@ -27,21 +27,21 @@ enum-told-3 c = search needs
 
 -- src/lib.rt:130:1
 returns : tie.Need-returns
-unfolding productOf treeOperation formTold
+unfolding productOf treeOperation checkedForm
 returns c =
     let e = c .enum-told .given .1 in
     (rw e at (c .before .before .multiply .ensures .0 (c .before .before .before .before .args .at)), (refl, rw e at (c .before .before .multiply .ensures .1)))
 
 -- src/lib.rt:130:1
 returns-2 : tie.Need-returns-2
-unfolding productOf treeOperation formTold
+unfolding productOf treeOperation checkedForm
 returns-2 c =
     let e = c .enum-told2 .given .1 in
     (rw e at (c .before .before .multiply .ensures .0 (c .before .before .before .before .args .at)), tt)
 
 -- src/lib.rt:130:1
 returns-3 : tie.Need-returns-3
-unfolding productOf treeOperation formTold
+unfolding productOf treeOperation checkedForm
 returns-3 c =
     let e = c .enum-told3 .given .1 in
     (rw e at (c .before .before .multiply .ensures .0 (c .before .before .before .before .args .at)), tt)

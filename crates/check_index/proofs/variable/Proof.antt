@@ -14,7 +14,7 @@ use lib.Seq.{slice, length-slice}
 use Rattle.language.specs.Form.{variableForm}
 use Rattle.language.specs.Check.{good}
 use Rattle.fields.proofs.Reading.{one-byte, slice-none}
-use Rattle.check_index.specs.Answers.{formTold}
+use Rattle.check_index.specs.Answers.{checkedForm}
 use Rattle.check_index.proofs.Forms.{variable-none, variable-beyond, variable-long, variable-good}
 
 -- src/lib.rt:114:16
@@ -23,7 +23,7 @@ add-from c = search needs
 
 -- src/lib.rt:116:9
 returns : tie.Need-returns
-unfolding formTold
+unfolding checkedForm
 returns c =
     let a = c .before .before .args in
     (variable-none (a .at) (a .variables) (slice (a .at + 3) (a .next) (now (a .program))) (slice-none (a .at + 3) (a .next) (now (a .program)) (c .if1 .taken)), tt)
@@ -38,7 +38,7 @@ wide-requires c κs = search needs
 
 -- src/lib.rt:120:9
 returns-2 : tie.Need-returns-2
-unfolding formTold
+unfolding checkedForm
 returns-2 c =
     let a = c .before .before .before .before .before .args in
     let l = now (a .program) in
@@ -52,7 +52,7 @@ sub-if3 c = search needs
 
 -- src/lib.rt:123:9
 returns-3 : tie.Need-returns-3
-unfolding formTold
+unfolding checkedForm
 returns-3 c =
     let a = c .before .before .before .before .before .before .args in
     let l = now (a .program) in
@@ -67,7 +67,7 @@ set-variable-requires c κs = search needs
 
 -- src/lib.rt:108:1
 returns-4 : tie.Need-returns-4
-unfolding formTold
+unfolding checkedForm
 returns-4 c =
     let a = c .before .before .before .before .before .before .before .before .args in
     let l = now (a .program) in

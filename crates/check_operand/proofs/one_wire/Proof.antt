@@ -4,6 +4,7 @@ use Rattle.check_operand.proofs.one_wire.Tie as tie
 use Rattle.check_operand.proofs.one_wire.Reads as reads
 use Rattle.check_operand.proofs.one_wire.Lts as lts
 use Rattle.check_operand.proofs.operand.Reads as operand-reads
+use borrow.Author.Needs.{needs}
 use mathlib.Core.Path.{refl, sym, _∙_}
 use mathlib.Core.List.{List}
 use Prim.Native.Nat.{_+_}
@@ -11,62 +12,66 @@ use denote.Ref.{now}
 use lib.ListN.{drop}
 use Rattle.language.specs.Tree.{badOperand}
 use Rattle.language.specs.Read.{due, readOperand, ending}
-use Rattle.language.specs.Check.{Checked, Signature, noLeftover, checkOperand, wire}
+use Rattle.language.specs.Check.{Checked, Signature, noLeftover, checkOperand, checkOneWire, wire}
 use Rattle.fields.specs.Header.{fieldsAt}
-use Rattle.check_index.specs.Answers.{partTold}
+use Rattle.check_index.specs.Answers.{checkedPart}
 use Rattle.check_operand.specs.Tables.{scopeAt}
 use Rattle.check_operand.specs.Operands.{wantedOf}
-use Rattle.check_index.proofs.Answers.{upon-stops, part-goes, part-stops, passes-upto, left-some, left-none}
+use Rattle.check_index.proofs.Answers.{ends-stops, part-goes, part-stops, passes-upto, left-some, left-none}
 
--- src/lib.rt:375:16
+-- src/lib.rt:366:16
 add-from : tie.Need-add-from
-add-from c = search needs
+add-from c =
+    search needs
 
--- src/lib.rt:376:9
+-- src/lib.rt:367:9
 operand-requires : tie.Need-operand-requires
-operand-requires c κs = search needs
+operand-requires c κs =
+    search needs
 
--- src/lib.rt:377:9
+-- src/lib.rt:380:20
 enum-known-r : tie.Need-enum-known-r
-enum-known-r c = search needs
-
--- src/lib.rt:378:9
-enum-told : tie.Need-enum-told
-enum-told c = search needs
-
--- src/lib.rt:378:9
-returns : tie.Need-returns
-unfolding wantedOf
-returns c =
-    let a = c .before .before .before .before .before .before .args in
-    let p = now (a .program) in
-    let x : List Signature → Checked (Unit {0}) = λ fs. checkOperand (scopeAt fs (a .s) (now (a .kinds)) (now (a .sizes)) (now (a .lows)) (now (a .highs))) wire (due readOperand (badOperand 4 (a .at)) (fieldsAt p (a .at + 3) (a .next))) in
-    let y = noLeftover (a .at) (ending (drop 1 (fieldsAt p (a .at + 3) (a .next)))) in
-    (λ fs. part-stops (c .before .before .operand .result) (x fs) y (c .before .before .operand .ensures .0 fs) (c .before .match .keys2), upon-stops (c .before .before .operand .result) (a .next) (c .before .match .keys2))
+enum-known-r c =
+    search needs
 
 -- src/lib.rt:381:9
+enum-told : tie.Need-enum-told
+enum-told c =
+    search needs
+
+-- src/lib.rt:381:9
+returns : tie.Need-returns
+unfolding wantedOf checkOneWire
+returns c =
+    let a = c .before .before .before .before .before .before .args in
+    let program = now (a .program) in
+    let x : List Signature → Checked (Unit {0}) = λ fs. checkOperand (scopeAt fs (a .s) (now (a .kinds)) (now (a .sizes)) (now (a .lows)) (now (a .highs))) wire (due readOperand (badOperand 4 (a .at)) (fieldsAt program (a .at + 3) (a .next))) in
+    let y = noLeftover (a .at) (ending (drop 1 (fieldsAt program (a .at + 3) (a .next)))) in
+    (λ fs. part-stops (c .before .before .operand .result) (x fs) y (c .before .before .operand .ensures .0 fs) (c .before .match .keys2), ends-stops (c .before .before .operand .result) (a .next) (c .before .match .keys2))
+
+-- src/lib.rt:384:9
 returns-2 : tie.Need-returns-2
-unfolding wantedOf partTold
+unfolding wantedOf checkOneWire checkedPart
 returns-2 c =
     let a = c .before .before .before .before .before .before .before .before .args in
-    let p = now (a .program) in
-    let x : List Signature → Checked (Unit {0}) = λ fs. checkOperand (scopeAt fs (a .s) (now (a .kinds)) (now (a .sizes)) (now (a .lows)) (now (a .highs))) wire (due readOperand (badOperand 4 (a .at)) (fieldsAt p (a .at + 3) (a .next))) in
-    let y = noLeftover (a .at) (ending (drop 1 (fieldsAt p (a .at + 3) (a .next)))) in
+    let program = now (a .program) in
+    let x : List Signature → Checked (Unit {0}) = λ fs. checkOperand (scopeAt fs (a .s) (now (a .kinds)) (now (a .sizes)) (now (a .lows)) (now (a .highs))) wire (due readOperand (badOperand 4 (a .at)) (fieldsAt program (a .at + 3) (a .next))) in
+    let y = noLeftover (a .at) (ending (drop 1 (fieldsAt program (a .at + 3) (a .next)))) in
     let end = c .before .before .r .given .0 .0 in
-    let v = passes-upto p (a .at + 3) (a .next) (c .before .before .before .before .operand .result) end (c .before .before .r .given .1) (c .before .before .before .before .operand .ensures .1) in
-    (λ fs. sym (part-goes (c .before .before .before .before .operand .result) (x fs) (c .before .before .before .before .operand .ensures .0 fs) end y (c .before .before .r .given .1) ∙ left-some p (a .at) (a .at + 3) (a .next) end v (c .if1 .taken) (c .before .before .before .before .before .before .before .before .pre .0 .1)), tt)
+    let v = passes-upto program (a .at + 3) (a .next) (c .before .before .before .before .operand .result) end (c .before .before .r .given .1) (c .before .before .before .before .operand .ensures .1) in
+    (λ fs. sym (part-goes (c .before .before .before .before .operand .result) (x fs) (c .before .before .before .before .operand .ensures .0 fs) end y (c .before .before .r .given .1) ∙ left-some program (a .at) (a .at + 3) (a .next) end v (c .if1 .taken) (c .before .before .before .before .before .before .before .before .pre .0 .1)), tt)
 
--- src/lib.rt:359:1
+-- src/lib.rt:350:1
 returns-3 : tie.Need-returns-3
-unfolding wantedOf partTold
+unfolding wantedOf checkOneWire checkedPart
 returns-3 c =
     let a = c .before .before .before .before .before .before .before .before .args in
-    let p = now (a .program) in
-    let x : List Signature → Checked (Unit {0}) = λ fs. checkOperand (scopeAt fs (a .s) (now (a .kinds)) (now (a .sizes)) (now (a .lows)) (now (a .highs))) wire (due readOperand (badOperand 4 (a .at)) (fieldsAt p (a .at + 3) (a .next))) in
-    let y = noLeftover (a .at) (ending (drop 1 (fieldsAt p (a .at + 3) (a .next)))) in
+    let program = now (a .program) in
+    let x : List Signature → Checked (Unit {0}) = λ fs. checkOperand (scopeAt fs (a .s) (now (a .kinds)) (now (a .sizes)) (now (a .lows)) (now (a .highs))) wire (due readOperand (badOperand 4 (a .at)) (fieldsAt program (a .at + 3) (a .next))) in
+    let y = noLeftover (a .at) (ending (drop 1 (fieldsAt program (a .at + 3) (a .next)))) in
     let end = c .before .before .r .given .0 .0 in
-    let v = passes-upto p (a .at + 3) (a .next) (c .before .before .before .before .operand .result) end (c .before .before .r .given .1) (c .before .before .before .before .operand .ensures .1) in
-    (λ fs. sym (part-goes (c .before .before .before .before .operand .result) (x fs) (c .before .before .before .before .operand .ensures .0 fs) end y (c .before .before .r .given .1) ∙ left-none p (a .at) (a .at + 3) (a .next) end v (c .if1 .left)), refl)
+    let v = passes-upto program (a .at + 3) (a .next) (c .before .before .before .before .operand .result) end (c .before .before .r .given .1) (c .before .before .before .before .operand .ensures .1) in
+    (λ fs. sym (part-goes (c .before .before .before .before .operand .result) (x fs) (c .before .before .before .before .operand .ensures .0 fs) end y (c .before .before .r .given .1) ∙ left-none program (a .at) (a .at + 3) (a .next) end v (c .if1 .left)), refl)
 
 pub one-wire-spec : {M : Type 1} → statement M
 one-wire-spec =

@@ -6,115 +6,120 @@ use Rattle.check_operand.proofs.operand.Lts as lts
 use Rattle.check_operand.proofs.element.Reads as element-reads
 use Rattle.check_operand.proofs.whole.Reads as whole-reads
 use Rattle.fields.proofs.header_at.Reads as header-at-reads
+use borrow.Author.Needs.{needs}
 use mathlib.Core.Path.{sym, _∙_}
 use native.Mathlib.Omega.{arith}
 use denote.Ref.{now}
 use Rattle.fields.proofs.Reading.{when-whole, when-end, when-cut}
-use Rattle.check_index.specs.Answers.{partTold}
+use Rattle.check_index.specs.Answers.{checkedPart}
 use Rattle.check_operand.specs.Tables.{scopeAt}
 use Rattle.check_operand.specs.Operands.{wantedOf}
 use Rattle.check_operand.proofs.Operands.{operand-end, operand-cut, operand-whole, operand-element, operand-other}
-use Rattle.check_index.proofs.Answers.{upon-passes}
+use Rattle.check_index.proofs.Answers.{ends-passes}
 
--- src/lib.rt:325:11
+-- src/lib.rt:316:11
 header-at-requires : tie.Need-header-at-requires
-header-at-requires c κs = search needs
+header-at-requires c κs =
+    search needs
 
--- src/lib.rt:326:24
+-- src/lib.rt:317:24
 enum-told : tie.Need-enum-told
-enum-told c = search needs
+enum-told c =
+    search needs
 
--- src/lib.rt:327:24
+-- src/lib.rt:318:24
 enum-told-2 : tie.Need-enum-told-2
-enum-told-2 c = search needs
+enum-told-2 c =
+    search needs
 
--- src/lib.rt:328:23
+-- src/lib.rt:319:23
 enum-known-tag : tie.Need-enum-known-tag
-enum-known-tag c = search needs
+enum-known-tag c =
+    search needs
 
--- src/lib.rt:329:19
+-- src/lib.rt:320:19
 whole-requires : tie.Need-whole-requires
 whole-requires c κs =
     let a = c .before .before .before .before .before .before .before .args in
-    let p = now (a .program) in
+    let program = now (a .program) in
     let d = wantedOf (a .wanted) (now (a .size)) in
     let tag = c .before .before .tag .given .0 .0 in
     let next = c .before .before .tag .given .0 .1 .0 in
-    let w = when-whole p (a .at) (a .to) tag next (c .before .before .before .before .before .before .before .pre .0) (sym (c .before .before .before .before .header-at .ensures) ∙ c .before .before .tag .given .1) in
+    let w = when-whole program (a .at) (a .to) tag next (c .before .before .before .before .before .before .before .pre .0) (sym (c .before .before .before .before .header-at .ensures) ∙ c .before .before .tag .given .1) in
     let h = w .high in
     let k = c .before .before .before .before .before .before .before .pre .0 in
     ((w .low, omega arith), (c .before .before .before .before .before .before .before .pre .1 .0, c .before .before .before .before .before .before .before .pre .1 .1))
 
--- src/lib.rt:330:17
+-- src/lib.rt:332:19
 element-requires : tie.Need-element-requires
 element-requires c κs =
     let a = c .before .before .before .before .before .before .before .args in
-    let p = now (a .program) in
+    let program = now (a .program) in
     let d = wantedOf (a .wanted) (now (a .size)) in
     let tag = c .before .before .tag .given .0 .0 in
     let next = c .before .before .tag .given .0 .1 .0 in
-    let w = when-whole p (a .at) (a .to) tag next (c .before .before .before .before .before .before .before .pre .0) (sym (c .before .before .before .before .header-at .ensures) ∙ c .before .before .tag .given .1) in
+    let w = when-whole program (a .at) (a .to) tag next (c .before .before .before .before .before .before .before .pre .0) (sym (c .before .before .before .before .header-at .ensures) ∙ c .before .before .tag .given .1) in
     let h = w .high in
     let k = c .before .before .before .before .before .before .before .pre .0 in
     ((w .low, omega arith), c .before .before .before .before .before .before .before .pre .1 .1)
 
--- src/lib.rt:306:1
+-- src/lib.rt:297:1
 returns : tie.Need-returns
-unfolding partTold
+unfolding checkedPart
 returns c =
     let a = c .before .before .before .before .before .args in
-    let p = now (a .program) in
+    let program = now (a .program) in
     let d = wantedOf (a .wanted) (now (a .size)) in
-    (λ fs. operand-end (scopeAt fs (a .s) (now (a .kinds)) (now (a .sizes)) (now (a .lows)) (now (a .highs))) d p (a .at) (a .to) (a .place) (when-end p (a .at) (a .to) (c .before .before .before .before .before .pre .0) (sym (c .before .before .header-at .ensures) ∙ c .enum-told .given .1)), tt)
+    (λ fs. operand-end (scopeAt fs (a .s) (now (a .kinds)) (now (a .sizes)) (now (a .lows)) (now (a .highs))) d program (a .at) (a .to) (a .parent) (when-end program (a .at) (a .to) (c .before .before .before .before .before .pre .0) (sym (c .before .before .header-at .ensures) ∙ c .enum-told .given .1)), tt)
 
--- src/lib.rt:306:1
+-- src/lib.rt:297:1
 returns-2 : tie.Need-returns-2
-unfolding partTold
+unfolding checkedPart
 returns-2 c =
     let a = c .before .before .before .before .before .args in
-    let p = now (a .program) in
+    let program = now (a .program) in
     let d = wantedOf (a .wanted) (now (a .size)) in
-    (λ fs. operand-cut (scopeAt fs (a .s) (now (a .kinds)) (now (a .sizes)) (now (a .lows)) (now (a .highs))) d p (a .at) (a .to) (a .place) (when-cut p (a .at) (a .to) (c .before .before .before .before .before .pre .0) (sym (c .before .before .header-at .ensures) ∙ c .enum-told2 .given .1)), tt)
+    (λ fs. operand-cut (scopeAt fs (a .s) (now (a .kinds)) (now (a .sizes)) (now (a .lows)) (now (a .highs))) d program (a .at) (a .to) (a .parent) (when-cut program (a .at) (a .to) (c .before .before .before .before .before .pre .0) (sym (c .before .before .header-at .ensures) ∙ c .enum-told2 .given .1)), tt)
 
--- src/lib.rt:306:1
+-- src/lib.rt:297:1
 returns-3 : tie.Need-returns-3
 returns-3 c =
     let a = c .before .before .before .before .before .before .before .before .args in
-    let p = now (a .program) in
+    let program = now (a .program) in
     let d = wantedOf (a .wanted) (now (a .size)) in
     let tag = c .before .before .before .tag .given .0 .0 in
     let next = c .before .before .before .tag .given .0 .1 .0 in
-    let w = when-whole p (a .at) (a .to) tag next (c .before .before .before .before .before .before .before .before .pre .0) (sym (c .before .before .before .before .before .header-at .ensures) ∙ c .before .before .before .tag .given .1) in
+    let w = when-whole program (a .at) (a .to) tag next (c .before .before .before .before .before .before .before .before .pre .0) (sym (c .before .before .before .before .before .header-at .ensures) ∙ c .before .before .before .tag .given .1) in
     let h = w .high in
     let k = c .before .before .before .before .before .before .before .before .pre .0 in
-    (λ fs. c .whole .ensures .0 fs ∙ operand-whole (scopeAt fs (a .s) (now (a .kinds)) (now (a .sizes)) (now (a .lows)) (now (a .highs))) d p (a .at) (a .to) (a .place) tag next w (c .before .match2 .keys1), upon-passes p (a .at) (a .to) tag next (c .whole .result) w (c .whole .ensures .1))
+    (λ fs. c .whole .ensures .0 fs ∙ operand-whole (scopeAt fs (a .s) (now (a .kinds)) (now (a .sizes)) (now (a .lows)) (now (a .highs))) d program (a .at) (a .to) (a .parent) tag next w (c .before .match2 .keys1), ends-passes program (a .at) (a .to) tag next (c .whole .result) w (c .whole .ensures .1))
 
--- src/lib.rt:306:1
+-- src/lib.rt:297:1
 returns-4 : tie.Need-returns-4
 returns-4 c =
     let a = c .before .before .before .before .before .before .before .before .args in
-    let p = now (a .program) in
+    let program = now (a .program) in
     let d = wantedOf (a .wanted) (now (a .size)) in
     let tag = c .before .before .before .tag .given .0 .0 in
     let next = c .before .before .before .tag .given .0 .1 .0 in
-    let w = when-whole p (a .at) (a .to) tag next (c .before .before .before .before .before .before .before .before .pre .0) (sym (c .before .before .before .before .before .header-at .ensures) ∙ c .before .before .before .tag .given .1) in
+    let w = when-whole program (a .at) (a .to) tag next (c .before .before .before .before .before .before .before .before .pre .0) (sym (c .before .before .before .before .before .header-at .ensures) ∙ c .before .before .before .tag .given .1) in
     let h = w .high in
     let k = c .before .before .before .before .before .before .before .before .pre .0 in
-    (λ fs. c .element .ensures .0 fs ∙ operand-element (scopeAt fs (a .s) (now (a .kinds)) (now (a .sizes)) (now (a .lows)) (now (a .highs))) d p (a .at) (a .to) (a .place) tag next w (c .before .match2 .keys2), upon-passes p (a .at) (a .to) tag next (c .element .result) w (c .element .ensures .1))
+    (λ fs. c .element .ensures .0 fs ∙ operand-element (scopeAt fs (a .s) (now (a .kinds)) (now (a .sizes)) (now (a .lows)) (now (a .highs))) d program (a .at) (a .to) (a .parent) tag next w (c .before .match2 .keys2), ends-passes program (a .at) (a .to) tag next (c .element .result) w (c .element .ensures .1))
 
--- src/lib.rt:306:1
+-- src/lib.rt:297:1
 returns-5 : tie.Need-returns-5
-unfolding partTold
+unfolding checkedPart
 returns-5 c =
     let a = c .before .before .before .before .before .before .before .args in
-    let p = now (a .program) in
+    let program = now (a .program) in
     let d = wantedOf (a .wanted) (now (a .size)) in
     let tag = c .before .before .tag .given .0 .0 in
     let next = c .before .before .tag .given .0 .1 .0 in
-    let w = when-whole p (a .at) (a .to) tag next (c .before .before .before .before .before .before .before .pre .0) (sym (c .before .before .before .before .header-at .ensures) ∙ c .before .before .tag .given .1) in
+    let w = when-whole program (a .at) (a .to) tag next (c .before .before .before .before .before .before .before .pre .0) (sym (c .before .before .before .before .header-at .ensures) ∙ c .before .before .tag .given .1) in
     let h = w .high in
     let k = c .before .before .before .before .before .before .before .pre .0 in
-    (λ fs. operand-other (scopeAt fs (a .s) (now (a .kinds)) (now (a .sizes)) (now (a .lows)) (now (a .highs))) d p (a .at) (a .to) (a .place) tag next w (c .match2 .rest .0 .1) (c .match2 .rest .1), tt)
+    (λ fs. operand-other (scopeAt fs (a .s) (now (a .kinds)) (now (a .sizes)) (now (a .lows)) (now (a .highs))) d program (a .at) (a .to) (a .parent) tag next w (c .match2 .rest .0 .1) (c .match2 .rest .1), tt)
 
 pub operand-spec : {M : Type 1} → statement M
 operand-spec =

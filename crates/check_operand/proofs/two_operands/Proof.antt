@@ -4,6 +4,7 @@ use Rattle.check_operand.proofs.two_operands.Tie as tie
 use Rattle.check_operand.proofs.two_operands.Reads as reads
 use Rattle.check_operand.proofs.two_operands.Lts as lts
 use Rattle.check_operand.proofs.operand.Reads as operand-reads
+use borrow.Author.Needs.{needs}
 use mathlib.Core.Path.{refl, sym, _∙_}
 use mathlib.Core.List.{List}
 use Prim.Native.Nat.{_+_}
@@ -12,110 +13,116 @@ use lib.IntN.{pos}
 use lib.ListN.{drop, replicate}
 use Rattle.language.specs.Tree.{badOperand}
 use Rattle.language.specs.Read.{due, readOperand, ending}
-use Rattle.language.specs.Check.{Checked, _>>_, noLeftover, checkOperand, wire, Signature, Scope}
+use Rattle.language.specs.Check.{Checked, _>>_, noLeftover, checkOperand, checkTwo, wire, Signature, Scope}
 use Rattle.fields.specs.Header.{fieldsAt}
-use Rattle.check_index.specs.Answers.{partTold}
+use Rattle.check_index.specs.Answers.{checkedPart}
 use Rattle.check_operand.specs.Tables.{scopeAt}
 use Rattle.check_operand.specs.Operands.{wantedOf}
-use Rattle.check_index.proofs.Answers.{upon-stops, part-goes, part-stops, passes-upto, left-some, left-none}
+use Rattle.check_index.proofs.Answers.{ends-stops, part-goes, part-stops, passes-upto, left-some, left-none}
 use Rattle.check_operand.proofs.Operands.{second-is}
 
--- src/lib.rt:417:16
+-- src/lib.rt:408:16
 add-from : tie.Need-add-from
-add-from c = search needs
+add-from c =
+    search needs
 
--- src/lib.rt:418:9
+-- src/lib.rt:409:9
 operand-requires : tie.Need-operand-requires
-operand-requires c κs = search needs
+operand-requires c κs =
+    search needs
 
--- src/lib.rt:419:9
+-- src/lib.rt:422:20
 enum-known-r : tie.Need-enum-known-r
-enum-known-r c = search needs
+enum-known-r c =
+    search needs
 
--- src/lib.rt:420:9
+-- src/lib.rt:423:9
 enum-told : tie.Need-enum-told
-enum-told c = search needs
+enum-told c =
+    search needs
 
--- src/lib.rt:420:9
+-- src/lib.rt:423:9
 returns : tie.Need-returns
-unfolding wantedOf
+unfolding wantedOf checkTwo
 returns c =
     let a = c .before .before .before .before .before .before .args in
-    let p = now (a .program) in
+    let program = now (a .program) in
     let s : List Signature → Scope = λ fs. scopeAt fs (a .s) (now (a .kinds)) (now (a .sizes)) (now (a .lows)) (now (a .highs)) in
     let d = wantedOf (a .second) (replicate 13 (pos 0)) in
     let from = a .at + 3 in
-    let x : List Signature → Checked (Unit {0}) = λ fs. checkOperand (s fs) wire (due readOperand (badOperand 4 (a .at)) (fieldsAt p from (a .next))) in
-    let y : List Signature → Checked (Unit {0}) = λ fs. (checkOperand (s fs) d (due readOperand (badOperand 4 (a .at)) (drop 1 (fieldsAt p from (a .next)))) >> noLeftover (a .at) (ending (drop 2 (fieldsAt p from (a .next))))) in
-    (λ fs. part-stops (c .before .before .operand .result) (x fs) (y fs) (c .before .before .operand .ensures .0 fs) (c .before .match .keys2), upon-stops (c .before .before .operand .result) (a .next) (c .before .match .keys2))
+    let x : List Signature → Checked (Unit {0}) = λ fs. checkOperand (s fs) wire (due readOperand (badOperand 4 (a .at)) (fieldsAt program from (a .next))) in
+    let y : List Signature → Checked (Unit {0}) = λ fs. (checkOperand (s fs) d (due readOperand (badOperand 4 (a .at)) (drop 1 (fieldsAt program from (a .next)))) >> noLeftover (a .at) (ending (drop 2 (fieldsAt program from (a .next))))) in
+    (λ fs. part-stops (c .before .before .operand .result) (x fs) (y fs) (c .before .before .operand .ensures .0 fs) (c .before .match .keys2), ends-stops (c .before .before .operand .result) (a .next) (c .before .match .keys2))
 
--- src/lib.rt:422:9
+-- src/lib.rt:425:9
 operand-requires-2 : tie.Need-operand-requires-2
 operand-requires-2 c κs =
     (c .before .before .before .before .before .before .before .before .pre .0 .1, (c .before .before .before .before .before .before .before .before .pre .1 .0 _, c .before .before .before .before .before .before .before .before .pre .1 .1))
 
--- src/lib.rt:423:9
+-- src/lib.rt:438:20
 enum-known-t : tie.Need-enum-known-t
-enum-known-t c = search needs
+enum-known-t c =
+    search needs
 
--- src/lib.rt:424:9
+-- src/lib.rt:439:9
 enum-told-2 : tie.Need-enum-told-2
-enum-told-2 c = search needs
+enum-told-2 c =
+    search needs
 
--- src/lib.rt:424:9
+-- src/lib.rt:439:9
 returns-2 : tie.Need-returns-2
-unfolding wantedOf
+unfolding wantedOf checkTwo
 returns-2 c =
     let a = c .before .before .before .before .before .before .before .before .before .before .before .args in
-    let p = now (a .program) in
+    let program = now (a .program) in
     let s : List Signature → Scope = λ fs. scopeAt fs (a .s) (now (a .kinds)) (now (a .sizes)) (now (a .lows)) (now (a .highs)) in
     let d = wantedOf (a .second) (replicate 13 (pos 0)) in
     let from = a .at + 3 in
-    let x : List Signature → Checked (Unit {0}) = λ fs. checkOperand (s fs) wire (due readOperand (badOperand 4 (a .at)) (fieldsAt p from (a .next))) in
-    let y : List Signature → Checked (Unit {0}) = λ fs. (checkOperand (s fs) d (due readOperand (badOperand 4 (a .at)) (drop 1 (fieldsAt p from (a .next)))) >> noLeftover (a .at) (ending (drop 2 (fieldsAt p from (a .next))))) in
+    let x : List Signature → Checked (Unit {0}) = λ fs. checkOperand (s fs) wire (due readOperand (badOperand 4 (a .at)) (fieldsAt program from (a .next))) in
+    let y : List Signature → Checked (Unit {0}) = λ fs. (checkOperand (s fs) d (due readOperand (badOperand 4 (a .at)) (drop 1 (fieldsAt program from (a .next)))) >> noLeftover (a .at) (ending (drop 2 (fieldsAt program from (a .next))))) in
     let mid = c .before .before .before .before .before .r .given .0 .0 in
-    let v = passes-upto p from (a .next) (c .before .before .before .before .before .before .before .operand .result) mid (c .before .before .before .before .before .r .given .1) (c .before .before .before .before .before .before .before .operand .ensures .1) in
-    let z : List Signature → Checked (Unit {0}) = λ fs. checkOperand (s fs) d (due readOperand (badOperand 4 (a .at)) (fieldsAt p mid (a .next))) in
-    let l = noLeftover (a .at) (ending (drop 1 (fieldsAt p mid (a .next)))) in
-    (λ fs. part-stops (c .before .before .operand2 .result) (z fs) l (c .before .before .operand2 .ensures .0 fs) (c .before .match2 .keys2) ∙ sym (part-goes (c .before .before .before .before .before .before .before .operand .result) (x fs) (c .before .before .before .before .before .before .before .operand .ensures .0 fs) mid (y fs) (c .before .before .before .before .before .r .given .1) ∙ second-is (s fs) d p (a .at) from (a .next) mid v), upon-stops (c .before .before .operand2 .result) (a .next) (c .before .match2 .keys2))
+    let v = passes-upto program from (a .next) (c .before .before .before .before .before .before .before .operand .result) mid (c .before .before .before .before .before .r .given .1) (c .before .before .before .before .before .before .before .operand .ensures .1) in
+    let z : List Signature → Checked (Unit {0}) = λ fs. checkOperand (s fs) d (due readOperand (badOperand 4 (a .at)) (fieldsAt program mid (a .next))) in
+    let l = noLeftover (a .at) (ending (drop 1 (fieldsAt program mid (a .next)))) in
+    (λ fs. part-stops (c .before .before .operand2 .result) (z fs) l (c .before .before .operand2 .ensures .0 fs) (c .before .match2 .keys2) ∙ sym (part-goes (c .before .before .before .before .before .before .before .operand .result) (x fs) (c .before .before .before .before .before .before .before .operand .ensures .0 fs) mid (y fs) (c .before .before .before .before .before .r .given .1) ∙ second-is (s fs) d program (a .at) from (a .next) mid v), ends-stops (c .before .before .operand2 .result) (a .next) (c .before .match2 .keys2))
 
--- src/lib.rt:427:9
+-- src/lib.rt:442:9
 returns-3 : tie.Need-returns-3
-unfolding wantedOf partTold
+unfolding wantedOf checkTwo checkedPart
 returns-3 c =
     let a = c .before .before .before .before .before .before .before .before .before .before .before .before .before .args in
-    let p = now (a .program) in
+    let program = now (a .program) in
     let s : List Signature → Scope = λ fs. scopeAt fs (a .s) (now (a .kinds)) (now (a .sizes)) (now (a .lows)) (now (a .highs)) in
     let d = wantedOf (a .second) (replicate 13 (pos 0)) in
     let from = a .at + 3 in
-    let x : List Signature → Checked (Unit {0}) = λ fs. checkOperand (s fs) wire (due readOperand (badOperand 4 (a .at)) (fieldsAt p from (a .next))) in
-    let y : List Signature → Checked (Unit {0}) = λ fs. (checkOperand (s fs) d (due readOperand (badOperand 4 (a .at)) (drop 1 (fieldsAt p from (a .next)))) >> noLeftover (a .at) (ending (drop 2 (fieldsAt p from (a .next))))) in
+    let x : List Signature → Checked (Unit {0}) = λ fs. checkOperand (s fs) wire (due readOperand (badOperand 4 (a .at)) (fieldsAt program from (a .next))) in
+    let y : List Signature → Checked (Unit {0}) = λ fs. (checkOperand (s fs) d (due readOperand (badOperand 4 (a .at)) (drop 1 (fieldsAt program from (a .next)))) >> noLeftover (a .at) (ending (drop 2 (fieldsAt program from (a .next))))) in
     let mid = c .before .before .before .before .before .before .before .r .given .0 .0 in
-    let v = passes-upto p from (a .next) (c .before .before .before .before .before .before .before .before .before .operand .result) mid (c .before .before .before .before .before .before .before .r .given .1) (c .before .before .before .before .before .before .before .before .before .operand .ensures .1) in
-    let z : List Signature → Checked (Unit {0}) = λ fs. checkOperand (s fs) d (due readOperand (badOperand 4 (a .at)) (fieldsAt p mid (a .next))) in
-    let l = noLeftover (a .at) (ending (drop 1 (fieldsAt p mid (a .next)))) in
+    let v = passes-upto program from (a .next) (c .before .before .before .before .before .before .before .before .before .operand .result) mid (c .before .before .before .before .before .before .before .r .given .1) (c .before .before .before .before .before .before .before .before .before .operand .ensures .1) in
+    let z : List Signature → Checked (Unit {0}) = λ fs. checkOperand (s fs) d (due readOperand (badOperand 4 (a .at)) (fieldsAt program mid (a .next))) in
+    let l = noLeftover (a .at) (ending (drop 1 (fieldsAt program mid (a .next)))) in
     let end = c .before .before .t .given .0 .0 in
-    let w = passes-upto p mid (a .next) (c .before .before .before .before .operand2 .result) end (c .before .before .t .given .1) (c .before .before .before .before .operand2 .ensures .1) in
-    (λ fs. sym (part-goes (c .before .before .before .before .before .before .before .before .before .operand .result) (x fs) (c .before .before .before .before .before .before .before .before .before .operand .ensures .0 fs) mid (y fs) (c .before .before .before .before .before .before .before .r .given .1) ∙ second-is (s fs) d p (a .at) from (a .next) mid v ∙ part-goes (c .before .before .before .before .operand2 .result) (z fs) (c .before .before .before .before .operand2 .ensures .0 fs) end l (c .before .before .t .given .1) ∙ left-some p (a .at) mid (a .next) end w (c .if1 .taken) (c .before .before .before .before .before .before .before .before .before .before .before .before .before .pre .0 .1)), tt)
+    let w = passes-upto program mid (a .next) (c .before .before .before .before .operand2 .result) end (c .before .before .t .given .1) (c .before .before .before .before .operand2 .ensures .1) in
+    (λ fs. sym (part-goes (c .before .before .before .before .before .before .before .before .before .operand .result) (x fs) (c .before .before .before .before .before .before .before .before .before .operand .ensures .0 fs) mid (y fs) (c .before .before .before .before .before .before .before .r .given .1) ∙ second-is (s fs) d program (a .at) from (a .next) mid v ∙ part-goes (c .before .before .before .before .operand2 .result) (z fs) (c .before .before .before .before .operand2 .ensures .0 fs) end l (c .before .before .t .given .1) ∙ left-some program (a .at) mid (a .next) end w (c .if1 .taken) (c .before .before .before .before .before .before .before .before .before .before .before .before .before .pre .0 .1)), tt)
 
--- src/lib.rt:399:1
+-- src/lib.rt:390:1
 returns-4 : tie.Need-returns-4
-unfolding wantedOf partTold
+unfolding wantedOf checkTwo checkedPart
 returns-4 c =
     let a = c .before .before .before .before .before .before .before .before .before .before .before .before .before .args in
-    let p = now (a .program) in
+    let program = now (a .program) in
     let s : List Signature → Scope = λ fs. scopeAt fs (a .s) (now (a .kinds)) (now (a .sizes)) (now (a .lows)) (now (a .highs)) in
     let d = wantedOf (a .second) (replicate 13 (pos 0)) in
     let from = a .at + 3 in
-    let x : List Signature → Checked (Unit {0}) = λ fs. checkOperand (s fs) wire (due readOperand (badOperand 4 (a .at)) (fieldsAt p from (a .next))) in
-    let y : List Signature → Checked (Unit {0}) = λ fs. (checkOperand (s fs) d (due readOperand (badOperand 4 (a .at)) (drop 1 (fieldsAt p from (a .next)))) >> noLeftover (a .at) (ending (drop 2 (fieldsAt p from (a .next))))) in
+    let x : List Signature → Checked (Unit {0}) = λ fs. checkOperand (s fs) wire (due readOperand (badOperand 4 (a .at)) (fieldsAt program from (a .next))) in
+    let y : List Signature → Checked (Unit {0}) = λ fs. (checkOperand (s fs) d (due readOperand (badOperand 4 (a .at)) (drop 1 (fieldsAt program from (a .next)))) >> noLeftover (a .at) (ending (drop 2 (fieldsAt program from (a .next))))) in
     let mid = c .before .before .before .before .before .before .before .r .given .0 .0 in
-    let v = passes-upto p from (a .next) (c .before .before .before .before .before .before .before .before .before .operand .result) mid (c .before .before .before .before .before .before .before .r .given .1) (c .before .before .before .before .before .before .before .before .before .operand .ensures .1) in
-    let z : List Signature → Checked (Unit {0}) = λ fs. checkOperand (s fs) d (due readOperand (badOperand 4 (a .at)) (fieldsAt p mid (a .next))) in
-    let l = noLeftover (a .at) (ending (drop 1 (fieldsAt p mid (a .next)))) in
+    let v = passes-upto program from (a .next) (c .before .before .before .before .before .before .before .before .before .operand .result) mid (c .before .before .before .before .before .before .before .r .given .1) (c .before .before .before .before .before .before .before .before .before .operand .ensures .1) in
+    let z : List Signature → Checked (Unit {0}) = λ fs. checkOperand (s fs) d (due readOperand (badOperand 4 (a .at)) (fieldsAt program mid (a .next))) in
+    let l = noLeftover (a .at) (ending (drop 1 (fieldsAt program mid (a .next)))) in
     let end = c .before .before .t .given .0 .0 in
-    let w = passes-upto p mid (a .next) (c .before .before .before .before .operand2 .result) end (c .before .before .t .given .1) (c .before .before .before .before .operand2 .ensures .1) in
-    (λ fs. sym (part-goes (c .before .before .before .before .before .before .before .before .before .operand .result) (x fs) (c .before .before .before .before .before .before .before .before .before .operand .ensures .0 fs) mid (y fs) (c .before .before .before .before .before .before .before .r .given .1) ∙ second-is (s fs) d p (a .at) from (a .next) mid v ∙ part-goes (c .before .before .before .before .operand2 .result) (z fs) (c .before .before .before .before .operand2 .ensures .0 fs) end l (c .before .before .t .given .1) ∙ left-none p (a .at) mid (a .next) end w (c .if1 .left)), refl)
+    let w = passes-upto program mid (a .next) (c .before .before .before .before .operand2 .result) end (c .before .before .t .given .1) (c .before .before .before .before .operand2 .ensures .1) in
+    (λ fs. sym (part-goes (c .before .before .before .before .before .before .before .before .before .operand .result) (x fs) (c .before .before .before .before .before .before .before .before .before .operand .ensures .0 fs) mid (y fs) (c .before .before .before .before .before .before .before .r .given .1) ∙ second-is (s fs) d program (a .at) from (a .next) mid v ∙ part-goes (c .before .before .before .before .operand2 .result) (z fs) (c .before .before .before .before .operand2 .ensures .0 fs) end l (c .before .before .t .given .1) ∙ left-none program (a .at) mid (a .next) end w (c .if1 .left)), refl)
 
 pub two-operands-spec : {M : Type 1} → statement M
 two-operands-spec =

@@ -3,9 +3,12 @@ use Rattle.check_operand.proofs.whole.Statement.{statement}
 use Rattle.check_operand.proofs.whole.Tie as tie
 use Rattle.check_operand.proofs.whole.Reads as reads
 use Rattle.check_operand.proofs.whole.Lts as lts
+use Rattle.check_operand.proofs.kind_by.Reads as kind-by-reads
 use Rattle.check_operand.proofs.whole_fits.Reads as whole-fits-reads
 use Rattle.fields.proofs.wide.Reads as wide-reads
+use borrow.Author.Needs.{needs}
 use mathlib.Core.Path.{_≡_, ap, _∙_}
+use mathlib.Core.List.{[]}
 use Prim.Native.Nat.{ℕ, _+_}
 use native.Mathlib.Omega.{arith}
 use denote.Ref.{now}
@@ -13,134 +16,147 @@ use lib.ListN.{getD}
 use lib.Seq.{slice, length-slice}
 use Rattle.language.specs.Check.{wholeFits}
 use Rattle.fields.proofs.Reading.{one-byte, slice-none}
+use Rattle.forms.specs.Flat.{widened, asForm}
 use Rattle.forms.specs.Rows.{loopsOf}
-use Rattle.check_index.specs.Answers.{partTold}
-use Rattle.check_operand.specs.Tables.{kindAt, kindsAt, scopeAt}
+use Rattle.kinds.specs.declared.Kind.{Kind}
+use Rattle.check_index.specs.Answers.{checkedPart}
+use Rattle.check_operand.specs.Tables.{kindIn, kindAt, kindsAt, scopeAt}
 use Rattle.check_operand.specs.Operands.{wantedOf}
 use Rattle.forms.proofs.Laws.{fewer}
 use Rattle.check_operand.proofs.Operands.{whole-none, whole-beyond, whole-long, whole-good}
 use Rattle.check_operand.proofs.Tables.{kinds-get, kinds-none}
 
--- src/lib.rt:237:16
+-- src/lib.rt:217:16
 add-from : tie.Need-add-from
-add-from c = search needs
+add-from c =
+    search needs
 
--- src/lib.rt:239:9
+-- src/lib.rt:219:9
 returns : tie.Need-returns
-unfolding partTold
+unfolding checkedPart
 returns c =
     let a = c .before .before .before .args in
-    let p = now (a .program) in
+    let program = now (a .program) in
     let from = a .at + 3 in
     let ls = loopsOf (a .s .loops) (now (a .lows)) (now (a .highs)) in
     let d = wantedOf (a .wanted) (now (a .size)) in
-    (λ fs. whole-none (scopeAt fs (a .s) (now (a .kinds)) (now (a .sizes)) (now (a .lows)) (now (a .highs))) d (a .at) (slice from (a .next) p) (slice-none from (a .next) p (c .if1 .taken)), tt)
+    (λ fs. whole-none (scopeAt fs (a .s) (now (a .kinds)) (now (a .sizes)) (now (a .lows)) (now (a .highs))) d (a .at) (slice from (a .next) program) (slice-none from (a .next) program (c .if1 .taken)), tt)
 
--- src/lib.rt:241:26
+-- src/lib.rt:221:26
 shared-slice-read-wide : tie.Need-shared-slice-read-wide
-shared-slice-read-wide c = search needs
+shared-slice-read-wide c =
+    search needs
 
--- src/lib.rt:241:9
+-- src/lib.rt:221:9
 wide-requires : tie.Need-wide-requires
-wide-requires c κs = search needs
+wide-requires c κs =
+    search needs
 
--- src/lib.rt:243:9
+-- src/lib.rt:223:9
 returns-2 : tie.Need-returns-2
-unfolding partTold
+unfolding checkedPart
 returns-2 c =
     let a = c .before .before .before .before .before .before .before .args in
-    let p = now (a .program) in
+    let program = now (a .program) in
     let from = a .at + 3 in
     let ls = loopsOf (a .s .loops) (now (a .lows)) (now (a .highs)) in
     let d = wantedOf (a .wanted) (now (a .size)) in
-    let n = getD p from 0 in
-    let more = slice (from + 1) (a .next) p in
-    let e = one-byte from (a .next) p (c .before .before .before .before .if1 .left) (c .before .before .before .before .before .before .before .pre .0 .1) in
+    let n = getD program from 0 in
+    let more = slice (from + 1) (a .next) program in
+    let e = one-byte from (a .next) program (c .before .before .before .before .if1 .left) (c .before .before .before .before .before .before .before .pre .0 .1) in
     let v : c .before .before .wide .result ≡ n = c .before .before .wide .ensures .0 in
-    let h = length-slice (from + 1) (a .next) p (c .before .before .before .before .before .before .before .pre .0 .1) in
-    (λ fs. whole-beyond (scopeAt fs (a .s) (now (a .kinds)) (now (a .sizes)) (now (a .lows)) (now (a .highs))) d (a .at) (slice from (a .next) p) n more e (kinds-none (a .s .count) (a .s .first) n (now (a .kinds)) (now (a .sizes)) (let q = c .if2 .taken in omega arith)), tt)
+    let h = length-slice (from + 1) (a .next) program (c .before .before .before .before .before .before .before .pre .0 .1) in
+    (λ fs. whole-beyond (scopeAt fs (a .s) (now (a .kinds)) (now (a .sizes)) (now (a .lows)) (now (a .highs))) d (a .at) (slice from (a .next) program) n more e (kinds-none (a .s .count) (a .s .first) n (now (a .kinds)) (now (a .sizes)) (let q = c .if2 .taken in omega arith)), tt)
 
--- src/lib.rt:245:8
+-- src/lib.rt:225:8
 sub-if3 : tie.Need-sub-if3
-sub-if3 c = search needs
+sub-if3 c =
+    search needs
 
--- src/lib.rt:246:9
+-- src/lib.rt:226:9
 returns-3 : tie.Need-returns-3
-unfolding partTold
+unfolding checkedPart
 returns-3 c =
     let a = c .before .before .before .before .before .before .before .before .args in
-    let p = now (a .program) in
+    let program = now (a .program) in
     let from = a .at + 3 in
     let ls = loopsOf (a .s .loops) (now (a .lows)) (now (a .highs)) in
     let d = wantedOf (a .wanted) (now (a .size)) in
-    let n = getD p from 0 in
-    let more = slice (from + 1) (a .next) p in
-    let e = one-byte from (a .next) p (c .before .before .before .before .before .if1 .left) (c .before .before .before .before .before .before .before .before .pre .0 .1) in
+    let n = getD program from 0 in
+    let more = slice (from + 1) (a .next) program in
+    let e = one-byte from (a .next) program (c .before .before .before .before .before .if1 .left) (c .before .before .before .before .before .before .before .before .pre .0 .1) in
     let v : c .before .before .before .wide .result ≡ n = c .before .before .before .wide .ensures .0 in
-    let h = length-slice (from + 1) (a .next) p (c .before .before .before .before .before .before .before .before .pre .0 .1) in
+    let h = length-slice (from + 1) (a .next) program (c .before .before .before .before .before .before .before .before .pre .0 .1) in
     let k = kindAt (a .s .first + n) (now (a .kinds)) (now (a .sizes)) in
     let get = kinds-get (a .s .count) (a .s .first) n (now (a .kinds)) (now (a .sizes)) (let q = c .before .if2 .left in omega arith) in
     let t = c .if3 .taken in
-    (λ fs. whole-long (scopeAt fs (a .s) (now (a .kinds)) (now (a .sizes)) (now (a .lows)) (now (a .highs))) d (a .at) (slice from (a .next) p) n more e k get (λ z. t (omega arith)), tt)
+    (λ fs. whole-long (scopeAt fs (a .s) (now (a .kinds)) (now (a .sizes)) (now (a .lows)) (now (a .highs))) d (a .at) (slice from (a .next) program) n more e k get (λ z. t (omega arith)), tt)
 
--- src/lib.rt:248:15
+-- src/lib.rt:228:15
 add-row : tie.Need-add-row
-add-row c = search needs
+add-row c =
+    search needs
 
--- src/lib.rt:252:9
-shared-slice-read-whole-fits : tie.Need-shared-slice-read-whole-fits
-shared-slice-read-whole-fits c =
+-- src/lib.rt:229:24
+shared-slice-read-kind-by : tie.Need-shared-slice-read-kind-by
+shared-slice-read-kind-by c =
     let r = c .before .before .before .before .before .before .before .before .before .before .pre .1 .1 in
     let t = r .sizeRows .enough in
     let b = r .kindRows in
     let q = c .before .before .before .if2 .left in
     omega (arith, c .before .before .before .before .before .before .before .before .before .before .good)
 
--- src/lib.rt:253:9
+-- src/lib.rt:229:9
+kind-by-requires : tie.Need-kind-by-requires
+kind-by-requires c κs =
+    search needs
+
+-- src/lib.rt:234:9
 mul-whole-fits : tie.Need-mul-whole-fits
 mul-whole-fits c =
-    let r = c .before .before .before .before .before .before .before .before .before .before .pre .1 .1 in
+    let r = c .before .before .before .before .before .before .before .before .before .before .before .pre .1 .1 in
     let t = r .sizeRows .enough in
     let b = r .kindRows in
-    let q = c .before .before .before .if2 .left in
-    omega (arith, c .before .before .before .before .before .before .before .before .before .before .good)
+    let q = c .before .before .before .before .if2 .left in
+    omega (arith, c .before .before .before .before .before .before .before .before .before .before .before .good)
 
--- src/lib.rt:253:9
+-- src/lib.rt:234:9
 shared-slice-element-whole-fits : tie.Need-shared-slice-element-whole-fits
 shared-slice-element-whole-fits c =
-    let r = c .before .before .before .before .before .before .before .before .before .before .pre .1 .1 in
+    let r = c .before .before .before .before .before .before .before .before .before .before .before .pre .1 .1 in
     let t = r .sizeRows .enough in
     let b = r .kindRows in
-    let q = c .before .before .before .if2 .left in
-    omega (arith, c .before .before .before .before .before .before .before .before .before .before .good)
+    let q = c .before .before .before .before .if2 .left in
+    omega (arith, c .before .before .before .before .before .before .before .before .before .before .before .good)
 
--- src/lib.rt:249:5
+-- src/lib.rt:230:5
 whole-fits-requires : tie.Need-whole-fits-requires
 whole-fits-requires c κs =
-    let r = c .before .before .before .before .before .before .before .before .before .before .before .pre .1 .1 in
+    let r = c .before .before .before .before .before .before .before .before .before .before .before .before .pre .1 .1 in
     let f = r .few in
     let g = r .nested in
-    (c .before .before .before .before .before .before .before .before .before .before .before .pre .1 .0, (r .sizeRows .each (c .before .before .before .before .before .before .before .before .before .before .before .args .s .first + c .before .before .before .before .before .before .wide .result) (let q = c .before .before .before .before .if2 .left in let b = r .kindRows in omega arith), (omega arith, (fewer (r .lowRows) g, fewer (r .highRows) g))))
+    (c .before .before .before .before .before .before .before .before .before .before .before .before .pre .1 .0, (r .sizeRows .each (c .before .before .before .before .before .before .before .before .before .before .before .before .args .s .first + c .before .before .before .before .before .before .before .wide .result) (let q = c .before .before .before .before .before .if2 .left in let b = r .kindRows in omega arith), (omega arith, (fewer (r .lowRows) g, fewer (r .highRows) g))))
 
--- src/lib.rt:219:1
+-- src/lib.rt:199:1
 returns-4 : tie.Need-returns-4
 returns-4 c =
-    let a = c .before .before .before .before .before .before .before .before .before .before .before .before .args in
-    let p = now (a .program) in
+    let a = c .before .before .before .before .before .before .before .before .before .before .before .before .before .args in
+    let program = now (a .program) in
     let from = a .at + 3 in
     let ls = loopsOf (a .s .loops) (now (a .lows)) (now (a .highs)) in
     let d = wantedOf (a .wanted) (now (a .size)) in
-    let n = getD p from 0 in
-    let more = slice (from + 1) (a .next) p in
-    let e = one-byte from (a .next) p (c .before .before .before .before .before .before .before .before .before .if1 .left) (c .before .before .before .before .before .before .before .before .before .before .before .before .pre .0 .1) in
-    let v : c .before .before .before .before .before .before .before .wide .result ≡ n = c .before .before .before .before .before .before .before .wide .ensures .0 in
-    let h = length-slice (from + 1) (a .next) p (c .before .before .before .before .before .before .before .before .before .before .before .before .pre .0 .1) in
+    let n = getD program from 0 in
+    let more = slice (from + 1) (a .next) program in
+    let e = one-byte from (a .next) program (c .before .before .before .before .before .before .before .before .before .before .if1 .left) (c .before .before .before .before .before .before .before .before .before .before .before .before .before .pre .0 .1) in
+    let v : c .before .before .before .before .before .before .before .before .wide .result ≡ n = c .before .before .before .before .before .before .before .before .wide .ensures .0 in
+    let h = length-slice (from + 1) (a .next) program (c .before .before .before .before .before .before .before .before .before .before .before .before .before .pre .0 .1) in
     let k = kindAt (a .s .first + n) (now (a .kinds)) (now (a .sizes)) in
-    let get = kinds-get (a .s .count) (a .s .first) n (now (a .kinds)) (now (a .sizes)) (let q = c .before .before .before .before .before .if2 .left in omega arith) in
-    let y = c .before .before .before .before .if3 .left in (
+    let get = kinds-get (a .s .count) (a .s .first) n (now (a .kinds)) (now (a .sizes)) (let q = c .before .before .before .before .before .before .if2 .left in omega arith) in
+    let y = c .before .before .before .before .before .if3 .left in (
       λ fs. c .whole-fits .ensures .0 fs (kindsAt (a .s .count) (a .s .first) (now (a .kinds)) (now (a .sizes)))
+          ∙ ap (λ (k : Kind). wholeFits (a .at) (scopeAt fs (a .s) (now (a .kinds)) (now (a .sizes)) (now (a .lows)) (now (a .highs))) d (kindIn k (asForm (widened (getD (now (a .sizes)) (a .s .first + c .before .before .before .before .before .before .before .before .wide .result) []))))) (c .before .before .kind-by .ensures)
           ∙ ap (λ (i : ℕ). wholeFits (a .at) (scopeAt fs (a .s) (now (a .kinds)) (now (a .sizes)) (now (a .lows)) (now (a .highs))) d (kindAt (a .s .first + i) (now (a .kinds)) (now (a .sizes)))) v
-          ∙ whole-good (scopeAt fs (a .s) (now (a .kinds)) (now (a .sizes)) (now (a .lows)) (now (a .highs))) d (a .at) (slice from (a .next) p) n more e k get (slice-none (from + 1) (a .next) p (omega arith)),
+          ∙ whole-good (scopeAt fs (a .s) (now (a .kinds)) (now (a .sizes)) (now (a .lows)) (now (a .highs))) d (a .at) (slice from (a .next) program) n more e k get (slice-none (from + 1) (a .next) program (omega arith)),
       c .whole-fits .ensures .1,
     )
 
@@ -156,7 +172,8 @@ whole-spec =
     sub-if3
     returns-3
     add-row
-    shared-slice-read-whole-fits
+    shared-slice-read-kind-by
+    kind-by-requires
     mul-whole-fits
     shared-slice-element-whole-fits
     whole-fits-requires

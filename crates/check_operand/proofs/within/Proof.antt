@@ -7,27 +7,33 @@ use Rattle.check_operand.proofs.must_show.Reads as must-show-reads
 use Rattle.forms.proofs.load.Reads as load-reads
 use Rattle.forms.proofs.set_constant.Reads as set-constant-reads
 use Rattle.forms.proofs.subtract.Reads as subtract-reads
+use borrow.Author.Needs.{needs}
 use mathlib.Core.Path.{refl, sym, ap, _∙_}
+use mathlib.Core.List.{List}
 use denote.Ref.{now}
-use Rattle.language.specs.Form.{Built, inRange, showing, differenceOf}
-use Rattle.language.specs.Check.{Checked, byShowing}
+use Rattle.language.specs.Form.{Built, inRange, differenceOf}
+use Rattle.language.specs.Check.{Checked, Kind, Signature, Scope, mustShow}
 use Rattle.forms.specs.Flat.{widened, asForm}
 use Rattle.forms.specs.Rows.{loopsOf}
-use Rattle.check_index.specs.Answers.{partTold}
+use Rattle.check_index.specs.Answers.{checkedPart}
+use Rattle.check_operand.specs.Tables.{scopeWith}
 use Rattle.check_operand.proofs.Operands.{within-stops, within-goes, room-none, room-some}
-use Rattle.check_operand.proofs.Fits.{shown-outside, is-made, not-made}
-use Rattle.check_index.proofs.Answers.{upon-stops}
+use Rattle.check_operand.proofs.OperandKinds.{shown-outside, is-made, not-made}
+use Rattle.check_index.proofs.Answers.{ends-stops}
 
 -- src/lib.rt:96:9
 must-show-requires : tie.Need-must-show-requires
-must-show-requires c κs = search needs
+must-show-requires c κs =
+    search needs
 
 enum-told : tie.Need-enum-told
-enum-told c = search needs
+enum-told c =
+    search needs
 
 -- src/lib.rt:98:9
 enum-told-2 : tie.Need-enum-told-2
-enum-told-2 c = search needs
+enum-told-2 c =
+    search needs
 
 -- src/lib.rt:98:9
 returns : tie.Need-returns
@@ -36,9 +42,9 @@ returns c =
     let ls = loopsOf (a .loops) (now (a .lows)) (now (a .highs)) in
     let f = asForm (now (a .f)) in
     let size = asForm (widened (now (a .size))) in
-    let shows : Built → Checked (Unit {0}) = λ b. byShowing (a .at) (showing (a .variables) ls b) in
-    let first = c .before .before .must-show .ensures .0 in
-    (within-stops (a .at) (a .variables) ls f size (c .before .before .must-show .result) first (c .before .match .keys2), upon-stops (c .before .before .must-show .result) (a .next) (c .before .match .keys2))
+    let s : List Signature → List Kind → Scope = λ fs ks. scopeWith fs ks (a .variables) ls in
+    let shows : List Signature → List Kind → Built → Checked (Unit {0}) = λ fs ks b. mustShow (a .at) (s fs ks) b in
+    (λ fs ks. within-stops (a .at) (s fs ks) size f (c .before .before .must-show .result) (c .before .before .must-show .ensures .0 fs ks) (c .before .match .keys2), ends-stops (c .before .before .must-show .result) (a .next) (c .before .match .keys2))
 
 -- src/lib.rt:101:5
 set-constant-requires : tie.Need-set-constant-requires
@@ -48,11 +54,13 @@ set-constant-requires c κs =
 
 -- src/lib.rt:103:5
 load-requires : tie.Need-load-requires
-load-requires c κs = search needs
+load-requires c κs =
+    search needs
 
 -- src/lib.rt:104:8
 subtract-requires : tie.Need-subtract-requires
-subtract-requires c κs = search needs
+subtract-requires c κs =
+    search needs
 
 -- src/lib.rt:105:12
 subtract-requires-2 : tie.Need-subtract-requires-2
@@ -71,39 +79,36 @@ returns-2 c =
     let ls = loopsOf (a .loops) (now (a .lows)) (now (a .highs)) in
     let f = asForm (now (a .f)) in
     let size = asForm (widened (now (a .size))) in
-    let shows : Built → Checked (Unit {0}) = λ b. byShowing (a .at) (showing (a .variables) ls b) in
-    let first = c .before .before .before .before .before .before .before .before .before .before .before .before .before .before .before .must-show .ensures .0 in
-    let goes = within-goes (a .at) (a .variables) ls f size (c .before .before .before .before .before .before .before .before .before .before .before .before .before .before .before .must-show .result) first (c .before .before .before .before .before .before .before .before .before .before .before .before .before .before .match .keys1) in
+    let s : List Signature → List Kind → Scope = λ fs ks. scopeWith fs ks (a .variables) ls in
+    let shows : List Signature → List Kind → Built → Checked (Unit {0}) = λ fs ks b. mustShow (a .at) (s fs ks) b in
     let less = c .before .before .before .before .before .before .subtract .ensures .0 ∙ (λ i. differenceOf (asForm (c .before .before .before .before .before .before .before .before .before .load .ensures .0 i)) (c .before .before .before .before .before .before .before .before .before .before .before .set-constant .ensures .0 i)) in
-    (c .must-show2 .ensures .0 ∙ ap shows (sym (room-some size f (asForm (c .before .before .before .before .before .before .subtract .last .0)) (is-made (c .before .before .before .before .before .before .subtract .last .0) less (c .before .before .before .before .before .if1 .taken)) ∙ is-made (c .before .before .before .subtract2 .last .0) (c .before .before .before .subtract2 .ensures .0) (c .before .before .if2 .taken))) ∙ goes, c .must-show2 .ensures .1)
+    (λ fs ks. c .must-show2 .ensures .0 fs ks ∙ ap (shows fs ks) (sym (room-some size f (asForm (c .before .before .before .before .before .before .subtract .last .0)) (is-made (c .before .before .before .before .before .before .subtract .last .0) less (c .before .before .before .before .before .if1 .taken)) ∙ is-made (c .before .before .before .subtract2 .last .0) (c .before .before .before .subtract2 .ensures .0) (c .before .before .if2 .taken))) ∙ within-goes (a .at) (s fs ks) size f (c .before .before .before .before .before .before .before .before .before .before .before .before .before .before .before .must-show .result) (c .before .before .before .before .before .before .before .before .before .before .before .before .before .before .before .must-show .ensures .0 fs ks) (c .before .before .before .before .before .before .before .before .before .before .before .before .before .before .match .keys1), c .must-show2 .ensures .1)
 
 -- src/lib.rt:108:9
 returns-3 : tie.Need-returns-3
-unfolding partTold
+unfolding checkedPart
 returns-3 c =
     let a = c .before .before .before .before .before .before .before .before .before .before .before .before .before .before .before .before .args in
     let ls = loopsOf (a .loops) (now (a .lows)) (now (a .highs)) in
     let f = asForm (now (a .f)) in
     let size = asForm (widened (now (a .size))) in
-    let shows : Built → Checked (Unit {0}) = λ b. byShowing (a .at) (showing (a .variables) ls b) in
-    let first = c .before .before .before .before .before .before .before .before .before .before .before .before .before .must-show .ensures .0 in
-    let goes = within-goes (a .at) (a .variables) ls f size (c .before .before .before .before .before .before .before .before .before .before .before .before .before .must-show .result) first (c .before .before .before .before .before .before .before .before .before .before .before .before .match .keys1) in
+    let s : List Signature → List Kind → Scope = λ fs ks. scopeWith fs ks (a .variables) ls in
+    let shows : List Signature → List Kind → Built → Checked (Unit {0}) = λ fs ks b. mustShow (a .at) (s fs ks) b in
     let less = c .before .before .before .before .subtract .ensures .0 ∙ (λ i. differenceOf (asForm (c .before .before .before .before .before .before .before .load .ensures .0 i)) (c .before .before .before .before .before .before .before .before .before .set-constant .ensures .0 i)) in
-    (shown-outside (a .at) (a .variables) ls ∙ ap shows (sym (room-some size f (asForm (c .before .before .before .before .subtract .last .0)) (is-made (c .before .before .before .before .subtract .last .0) less (c .before .before .before .if1 .taken)) ∙ not-made (c .before .subtract2 .last .0) (c .before .subtract2 .ensures .0) (c .if2 .left))) ∙ goes, tt)
+    (λ fs ks. shown-outside (a .at) (s fs ks) ∙ ap (shows fs ks) (sym (room-some size f (asForm (c .before .before .before .before .subtract .last .0)) (is-made (c .before .before .before .before .subtract .last .0) less (c .before .before .before .if1 .taken)) ∙ not-made (c .before .subtract2 .last .0) (c .before .subtract2 .ensures .0) (c .if2 .left))) ∙ within-goes (a .at) (s fs ks) size f (c .before .before .before .before .before .before .before .before .before .before .before .before .before .must-show .result) (c .before .before .before .before .before .before .before .before .before .before .before .before .before .must-show .ensures .0 fs ks) (c .before .before .before .before .before .before .before .before .before .before .before .before .match .keys1), tt)
 
 -- src/lib.rt:77:1
 returns-4 : tie.Need-returns-4
-unfolding partTold
+unfolding checkedPart
 returns-4 c =
     let a = c .before .before .before .before .before .before .before .before .before .before .before .before .before .args in
     let ls = loopsOf (a .loops) (now (a .lows)) (now (a .highs)) in
     let f = asForm (now (a .f)) in
     let size = asForm (widened (now (a .size))) in
-    let shows : Built → Checked (Unit {0}) = λ b. byShowing (a .at) (showing (a .variables) ls b) in
-    let first = c .before .before .before .before .before .before .before .before .before .before .must-show .ensures .0 in
-    let goes = within-goes (a .at) (a .variables) ls f size (c .before .before .before .before .before .before .before .before .before .before .must-show .result) first (c .before .before .before .before .before .before .before .before .before .match .keys1) in
+    let s : List Signature → List Kind → Scope = λ fs ks. scopeWith fs ks (a .variables) ls in
+    let shows : List Signature → List Kind → Built → Checked (Unit {0}) = λ fs ks b. mustShow (a .at) (s fs ks) b in
     let less = c .before .subtract .ensures .0 ∙ (λ i. differenceOf (asForm (c .before .before .before .before .load .ensures .0 i)) (c .before .before .before .before .before .before .set-constant .ensures .0 i)) in
-    (shown-outside (a .at) (a .variables) ls ∙ ap shows (sym (room-none size f (not-made (c .before .subtract .last .0) less (c .if1 .left)))) ∙ goes, tt)
+    (λ fs ks. shown-outside (a .at) (s fs ks) ∙ ap (shows fs ks) (sym (room-none size f (not-made (c .before .subtract .last .0) less (c .if1 .left)))) ∙ within-goes (a .at) (s fs ks) size f (c .before .before .before .before .before .before .before .before .before .before .must-show .result) (c .before .before .before .before .before .before .before .before .before .before .must-show .ensures .0 fs ks) (c .before .before .before .before .before .before .before .before .before .match .keys1), tt)
 
 pub within-spec : {M : Type 1} → statement M
 within-spec =

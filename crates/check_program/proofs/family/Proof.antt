@@ -9,7 +9,7 @@ use mathlib.Core.Path.{ap, _∙_}
 use native.Mathlib.Omega.{arith}
 use denote.Ref.{now}
 use Rattle.language.specs.Check.{good}
-use Rattle.check_program.specs.Declarations.{stepTold}
+use Rattle.check_program.specs.Declarations.{checkedStep}
 use Rattle.check_program.proofs.Families.{family-bad, family-stops, family-goes, with-family, holds-family, counts-right}
 
 -- src/lib.rt:117:11
@@ -28,7 +28,7 @@ enum-known-m c = search needs
 family-body-requires : tie.Need-family-body-requires
 family-body-requires c κs =
     let a = c .before .before .before .before .before .before .before .before .before .args in
-    let l = now (a .program) in
+    let program = now (a .program) in
     let h = c .before .before .before .before .before .before .before .before .before .pre .1 in
     let x = now (a .families) in
     let e = c .before .before .before .before .before .before .family-counts .ensures .0 in
@@ -50,7 +50,7 @@ enum-told c = search needs
 mul-entry : tie.Need-mul-entry
 mul-entry c =
     let a = c .before .before .before .before .before .before .before .before .before .before .before .before .before .before .before .args in
-    let l = now (a .program) in
+    let program = now (a .program) in
     let h = c .before .before .before .before .before .before .before .before .before .before .before .before .before .before .before .pre .1 in
     let x = now (a .families) in
     let e = c .before .before .before .before .before .before .before .before .before .before .before .before .family-counts .ensures .0 in
@@ -68,7 +68,7 @@ mul-entry c =
 slice-set-from-entry : tie.Need-slice-set-from-entry
 slice-set-from-entry c =
     let a = c .before .before .before .before .before .before .before .before .before .before .before .before .before .before .before .args in
-    let l = now (a .program) in
+    let program = now (a .program) in
     let h = c .before .before .before .before .before .before .before .before .before .before .before .before .before .before .before .pre .1 in
     let x = now (a .families) in
     let e = c .before .before .before .before .before .before .before .before .before .before .before .before .family-counts .ensures .0 in
@@ -90,7 +90,7 @@ add-after c = search needs
 add-rows : tie.Need-add-rows
 add-rows c =
     let a = c .before .before .before .before .before .before .before .before .before .before .before .before .before .before .before .args in
-    let l = now (a .program) in
+    let program = now (a .program) in
     let h = c .before .before .before .before .before .before .before .before .before .before .before .before .before .before .before .pre .1 in
     let x = now (a .families) in
     let e = c .before .before .before .before .before .before .before .before .before .before .before .before .family-counts .ensures .0 in
@@ -108,11 +108,11 @@ add-rows c =
 returns : tie.Need-returns
 returns c =
     let a = c .before .before .before .before .before .before .args in
-    let l = now (a .program) in
+    let program = now (a .program) in
     let h = c .before .before .before .before .before .before .pre .1 in
     let x = now (a .families) in
     let e = c .before .before .before .family-counts .ensures .0 in
-    (family-bad (a .t) x (now (a .kinds)) (now (a .sizes)) l (a .at) (a .next) (c .before .before .before .family-counts .result) e (c .before .k .given .0 .0) (c .before .k .given .0 .1 .0) x (now (a .kinds)) (now (a .sizes)) (c .before .k .given .1), tt)
+    (family-bad (a .t) x (now (a .kinds)) (now (a .sizes)) program (a .at) (a .next) (c .before .before .before .family-counts .result) e (c .before .k .given .0 .0) (c .before .k .given .0 .1 .0) x (now (a .kinds)) (now (a .sizes)) (c .before .k .given .1), tt)
 
 -- src/lib.rt:102:1
 same-length : tie.Need-same-length
@@ -130,7 +130,7 @@ same-length-3 c = search needs
 returns-2 : tie.Need-returns-2
 returns-2 c =
     let a = c .before .before .before .before .before .before .before .before .before .before .before .before .before .before .before .before .args in
-    let l = now (a .program) in
+    let program = now (a .program) in
     let h = c .before .before .before .before .before .before .before .before .before .before .before .before .before .before .before .before .pre .1 in
     let x = now (a .families) in
     let e = c .before .before .before .before .before .before .before .before .before .before .before .before .before .family-counts .ensures .0 in
@@ -142,7 +142,7 @@ returns-2 c =
     let sizes = c .before .before .before .before .before .before .family-body .last .1 .1 .1 .1 .1 .1 .1 .1 .0 in
     let b = c .before .before .before .before .before .before .family-body .ensures .0 in
     let d = c .before .before .before .before .before .before .family-body .ensures .1 in
-    (family-stops (a .t) x (now (a .kinds)) (now (a .sizes)) l (a .at) (a .next) (c .before .before .before .before .before .before .before .before .before .before .before .before .before .family-counts .result) e m p u (c .before .before .before .before .before .before .family-body .result) kinds sizes b (c .before .k2 .given .0 .0) (c .before .k2 .given .0 .1 .0) x kinds sizes (c .before .k2 .given .1), tt)
+    (family-stops (a .t) x (now (a .kinds)) (now (a .sizes)) program (a .at) (a .next) (c .before .before .before .before .before .before .before .before .before .before .before .before .before .family-counts .result) e m p u (c .before .before .before .before .before .before .family-body .result) kinds sizes b (c .before .k2 .given .0 .0) (c .before .k2 .given .0 .1 .0) x kinds sizes (c .before .k2 .given .1), tt)
 
 -- src/lib.rt:102:1
 same-length-4 : tie.Need-same-length-4
@@ -158,10 +158,10 @@ same-length-6 c = search needs
 
 -- src/lib.rt:102:1
 returns-3 : tie.Need-returns-3
-unfolding stepTold
+unfolding checkedStep
 returns-3 c =
     let a = c .before .before .before .before .before .before .before .before .before .before .before .before .before .before .before .args in
-    let l = now (a .program) in
+    let program = now (a .program) in
     let h = c .before .before .before .before .before .before .before .before .before .before .before .before .before .before .before .pre .1 in
     let x = now (a .families) in
     let e = c .before .before .before .before .before .before .before .before .before .before .before .before .family-counts .ensures .0 in
@@ -173,7 +173,7 @@ returns-3 c =
     let sizes = c .before .before .before .before .before .family-body .last .1 .1 .1 .1 .1 .1 .1 .1 .0 in
     let b = c .before .before .before .before .before .family-body .ensures .0 in
     let d = c .before .before .before .before .before .family-body .ensures .1 in
-    (ap good (with-family (a .t) x m p h d (w .2) (w .0) (w .1)) ∙ family-goes (a .t) x (now (a .kinds)) (now (a .sizes)) l (a .at) (a .next) (c .before .before .before .before .before .before .before .before .before .before .before .before .family-counts .result) e m p u (c .before .before .before .before .before .family-body .result) kinds sizes b (c .before .match2 .keys2), holds-family (a .t) x m p h d (w .2) (w .0) (w .1))
+    (ap good (with-family (a .t) x m p h d (w .2) (w .0) (w .1)) ∙ family-goes (a .t) x (now (a .kinds)) (now (a .sizes)) program (a .at) (a .next) (c .before .before .before .before .before .before .before .before .before .before .before .before .family-counts .result) e m p u (c .before .before .before .before .before .family-body .result) kinds sizes b (c .before .match2 .keys2), holds-family (a .t) x m p h d (w .2) (w .0) (w .1))
 
 pub family-spec : {M : Type 1} → statement M
 family-spec =

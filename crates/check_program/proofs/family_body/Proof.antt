@@ -26,7 +26,7 @@ add-from c = search needs
 parameter-types-requires : tie.Need-parameter-types-requires
 parameter-types-requires c κs =
     let a = c .before .before .before .before .args in
-    let l = now (a .program) in
+    let program = now (a .program) in
     let h = c .before .before .before .before .pre .1 .1 .1 .1 in
     let few = c .before .before .before .before .pre .1 .0 in
     let most = c .before .before .before .before .pre .1 .1 .0 in
@@ -57,7 +57,7 @@ returns : tie.Need-returns
 unfolding familyScope
 returns c =
     let a = c .before .before .before .before .before .before .before .before .before .before .args in
-    let l = now (a .program) in
+    let program = now (a .program) in
     let h = c .before .before .before .before .before .before .before .before .before .before .pre .1 .1 .1 .1 in
     let few = c .before .before .before .before .before .before .before .before .before .before .pre .1 .0 in
     let most = c .before .before .before .before .before .before .before .before .before .before .pre .1 .1 .0 in
@@ -68,13 +68,13 @@ returns c =
     let kinds = c .before .before .before .before .before .parameter-types .last .1 .1 .1 .1 .1 .1 .1 .0 in
     let sizes = c .before .before .before .before .before .parameter-types .last .1 .1 .1 .1 .1 .1 .1 .1 .0 in
     let d = declaredIn (a .t) (now (a .families)) (now (a .kinds)) (now (a .sizes)) in
-    (body-stops (a .t) (now (a .families)) (a .at) (a .m) (a .p) l (a .at + 5) (a .next) h (c .before .before .before .before .before .parameter-types .ensures .1 .1) (c .before .before .before .before .before .parameter-types .result) (c .before .before .before .before .before .parameter-types .ensures .0 (d .families) []) (c .before .match .keys2), c .before .before .before .before .before .parameter-types .ensures .1 .1)
+    (body-stops (a .t) (now (a .families)) (a .at) (a .m) (a .parameters) program (a .at + 5) (a .next) h (c .before .before .before .before .before .parameter-types .ensures .1 .1) (c .before .before .before .before .before .parameter-types .result) (c .before .before .before .before .before .parameter-types .ensures .0 (d .families) []) (c .before .match .keys2), c .before .before .before .before .before .parameter-types .ensures .1 .1)
 
 -- src/lib.rt:87:5
 list-requires : tie.Need-list-requires
 list-requires c κs =
     let a = c .before .before .before .before .before .before .before .before .before .before .before .before .before .before .before .args in
-    let l = now (a .program) in
+    let program = now (a .program) in
     let h = c .before .before .before .before .before .before .before .before .before .before .before .before .before .before .before .pre .1 .1 .1 .1 in
     let few = c .before .before .before .before .before .before .before .before .before .before .before .before .before .before .before .pre .1 .0 in
     let most = c .before .before .before .before .before .before .before .before .before .before .before .before .before .before .before .pre .1 .1 .0 in
@@ -84,7 +84,7 @@ list-requires c κs =
     let none = replicate 8 (replicate 13 (pos 0)) in
     let kinds = c .before .before .before .before .before .before .before .before .before .before .parameter-types .last .1 .1 .1 .1 .1 .1 .1 .0 in
     let sizes = c .before .before .before .before .before .before .before .before .before .before .parameter-types .last .1 .1 .1 .1 .1 .1 .1 .1 .0 in
-    (long, (scope-right (familyRows (a .t) (a .m) (a .p)) kinds sizes none none (c .before .before .before .before .before .before .before .before .before .before .parameter-types .ensures .1 .1 .table) eight-rows eight-rows few (omega arith) (omega arith), scope-declares (familyRows (a .t) (a .m) (a .p)) (a .t) (now (a .families)) kinds sizes h (c .before .before .before .before .before .before .before .before .before .before .parameter-types .ensures .1 .1 .table) refl))
+    (long, (scope-right (familyRows (a .t) (a .m) (a .parameters)) kinds sizes none none (c .before .before .before .before .before .before .before .before .before .before .parameter-types .ensures .1 .1 .table) eight-rows eight-rows few (omega arith) (omega arith), scope-declares (familyRows (a .t) (a .m) (a .parameters)) (a .t) (now (a .families)) kinds sizes h (c .before .before .before .before .before .before .before .before .before .before .parameter-types .ensures .1 .1 .table) refl))
 
 -- src/lib.rt:54:1
 same-length-3 : tie.Need-same-length-3
@@ -99,7 +99,7 @@ returns-2 : tie.Need-returns-2
 unfolding familyScope
 returns-2 c =
     let a = c .before .before .before .before .before .before .before .before .before .before .before .before .before .before .before .before .args in
-    let l = now (a .program) in
+    let program = now (a .program) in
     let h = c .before .before .before .before .before .before .before .before .before .before .before .before .before .before .before .before .pre .1 .1 .1 .1 in
     let few = c .before .before .before .before .before .before .before .before .before .before .before .before .before .before .before .before .pre .1 .0 in
     let most = c .before .before .before .before .before .before .before .before .before .before .before .before .before .before .before .before .pre .1 .1 .0 in
@@ -111,8 +111,8 @@ returns-2 c =
     let sizes = c .before .before .before .before .before .before .before .before .before .before .before .parameter-types .last .1 .1 .1 .1 .1 .1 .1 .1 .0 in
     let d = declaredIn (a .t) (now (a .families)) (now (a .kinds)) (now (a .sizes)) in
     let mid = c .before .before .before .before .before .before .r .given .0 .0 in
-    let b = count-upto l (a .at + 5) (a .next) (a .p) (c .before .before .before .before .before .before .before .before .before .before .before .parameter-types .result) mid (c .before .before .before .before .before .before .r .given .1) (c .before .before .before .before .before .before .before .before .before .before .before .parameter-types .ensures .1 .0) in
-    (body-goes (a .t) (now (a .families)) (a .at) (a .m) (a .p) l (a .at + 5) (a .next) h (c .before .before .before .before .before .before .before .before .before .before .before .parameter-types .ensures .1 .1) (c .before .before .before .before .before .before .before .before .before .before .before .parameter-types .result) (c .before .before .before .before .before .before .before .before .before .before .before .parameter-types .ensures .0 (d .families) []) mid (c .before .before .before .before .before .before .r .given .1) b (c .list .result) none none (c .list .ensures), c .before .before .before .before .before .before .before .before .before .before .before .parameter-types .ensures .1 .1)
+    let b = count-upto program (a .at + 5) (a .next) (a .parameters) (c .before .before .before .before .before .before .before .before .before .before .before .parameter-types .result) mid (c .before .before .before .before .before .before .r .given .1) (c .before .before .before .before .before .before .before .before .before .before .before .parameter-types .ensures .1 .0) in
+    (body-goes (a .t) (now (a .families)) (a .at) (a .m) (a .parameters) program (a .at + 5) (a .next) h (c .before .before .before .before .before .before .before .before .before .before .before .parameter-types .ensures .1 .1) (c .before .before .before .before .before .before .before .before .before .before .before .parameter-types .result) (c .before .before .before .before .before .before .before .before .before .before .before .parameter-types .ensures .0 (d .families) []) mid (c .before .before .before .before .before .before .r .given .1) b (c .list .result) none none (c .list .ensures), c .before .before .before .before .before .before .before .before .before .before .before .parameter-types .ensures .1 .1)
 
 pub family-body-spec : {M : Type 1} → statement M
 family-body-spec =

@@ -4,55 +4,57 @@ use Rattle.check_program.proofs.quantum_register.Tie as tie
 use Rattle.check_program.proofs.quantum_register.Reads as reads
 use Rattle.check_program.proofs.quantum_register.Lts as lts
 use Rattle.check_declaration.proofs.register.Reads as register-reads
+use borrow.Author.Needs.{needs}
 use mathlib.Core.Path.{sym, _∙_}
 use Prim.Native.Nat.{_+_}
 use native.Mathlib.Omega.{arith}
-use borrow.Author.Needs.{needs}
 use denote.Ref.{now}
 use lib.Seq.{slice}
+use Rattle.language.specs.Limits.{mostWires}
+use Rattle.kinds.specs.declared.Kind.the-variants.{Quantum}
 use Rattle.check_program.proofs.Registers.{qreg-stops, qreg-goes, register-row, holds-register}
 
 -- src/lib.rt:158:11
 register-requires : tie.Need-register-requires
 register-requires c κs =
-    (c .before .before .before .before .pre .0, (c .before .before .before .before .pre .1 .qubitsFit, c .before .before .before .before .pre .1 .table))
+    (c .before .before .before .before .pre .0, (c .before .before .before .before .pre .1 .qubitsFit, (omega arith, c .before .before .before .before .pre .1 .table)))
 
--- src/lib.rt:168:23
+-- src/lib.rt:169:23
 enum-known-k : tie.Need-enum-known-k
 enum-known-k c =
     search needs
 
--- src/lib.rt:169:20
+-- src/lib.rt:170:20
 enum-known-size : tie.Need-enum-known-size
 enum-known-size c =
     search needs
 
--- src/lib.rt:170:29
+-- src/lib.rt:171:29
 add-registers : tie.Need-add-registers
 add-registers c =
     let a = c .before .before .before .before .before .before .before .before .before .before .before .args in
     let h = c .before .before .before .before .before .before .before .before .before .before .before .pre .1 in
     let content = slice (a .at + 3) (a .next) (now (a .program)) in
-    let kinds = c .before .before .before .before .before .before .register .last .1 .1 .1 .1 .1 .1 .0 in
-    let sizes = c .before .before .before .before .before .before .register .last .1 .1 .1 .1 .1 .1 .1 .0 in
+    let kinds = c .before .before .before .before .before .before .register .last .1 .1 .1 .1 .1 .1 .1 .0 in
+    let sizes = c .before .before .before .before .before .before .register .last .1 .1 .1 .1 .1 .1 .1 .1 .0 in
     let n = c .before .size .given .0 .0 in
     let u = c .before .size .given .1 in
-    let w = register-row (a .t) (now (a .families)) (now (a .kinds)) (now (a .sizes)) (a .at) content (c .before .before .before .before .before .before .register .result) n u h 1 (a .t .registers) (a .t .qubits) kinds sizes (c .before .before .before .before .before .before .register .ensures .1) in
+    let w = register-row (a .t) (now (a .families)) (now (a .kinds)) (now (a .sizes)) (a .at) content (c .before .before .before .before .before .before .register .result) n u h Quantum (a .t .registers) (a .t .qubits) mostWires kinds sizes (c .before .before .before .before .before .before .register .ensures .1) in
     let room = w .room in
     let fits = w .fits in
     omega arith
 
--- src/lib.rt:171:26
+-- src/lib.rt:172:26
 add-qubits : tie.Need-add-qubits
 add-qubits c =
     let a = c .before .before .before .before .before .before .before .before .before .before .before .args in
     let h = c .before .before .before .before .before .before .before .before .before .before .before .pre .1 in
     let content = slice (a .at + 3) (a .next) (now (a .program)) in
-    let kinds = c .before .before .before .before .before .before .register .last .1 .1 .1 .1 .1 .1 .0 in
-    let sizes = c .before .before .before .before .before .before .register .last .1 .1 .1 .1 .1 .1 .1 .0 in
+    let kinds = c .before .before .before .before .before .before .register .last .1 .1 .1 .1 .1 .1 .1 .0 in
+    let sizes = c .before .before .before .before .before .before .register .last .1 .1 .1 .1 .1 .1 .1 .1 .0 in
     let n = c .before .size .given .0 .0 in
     let u = c .before .size .given .1 in
-    let w = register-row (a .t) (now (a .families)) (now (a .kinds)) (now (a .sizes)) (a .at) content (c .before .before .before .before .before .before .register .result) n u h 1 (a .t .registers) (a .t .qubits) kinds sizes (c .before .before .before .before .before .before .register .ensures .1) in
+    let w = register-row (a .t) (now (a .families)) (now (a .kinds)) (now (a .sizes)) (a .at) content (c .before .before .before .before .before .before .register .result) n u h Quantum (a .t .registers) (a .t .qubits) mostWires kinds sizes (c .before .before .before .before .before .before .register .ensures .1) in
     let room = w .room in
     let fits = w .fits in
     omega arith
@@ -73,8 +75,8 @@ returns c =
     let a = c .before .before .before .before .before .before .before .before .before .before .before .args in
     let h = c .before .before .before .before .before .before .before .before .before .before .before .pre .1 in
     let content = slice (a .at + 3) (a .next) (now (a .program)) in
-    let kinds = c .before .before .before .before .before .before .register .last .1 .1 .1 .1 .1 .1 .0 in
-    let sizes = c .before .before .before .before .before .before .register .last .1 .1 .1 .1 .1 .1 .1 .0 in
+    let kinds = c .before .before .before .before .before .before .register .last .1 .1 .1 .1 .1 .1 .1 .0 in
+    let sizes = c .before .before .before .before .before .before .register .last .1 .1 .1 .1 .1 .1 .1 .1 .0 in
     (qreg-stops (a .t) (now (a .families)) (now (a .kinds)) (now (a .sizes)) (a .at) content (c .before .before .before .before .before .before .register .result) (c .before .k .given .0 .0) (c .before .k .given .0 .1 .0) kinds sizes (c .before .k .given .1) (c .before .before .before .before .before .before .register .ensures .0), tt)
 
 -- src/lib.rt:142:1
@@ -83,11 +85,11 @@ same-length-3 c =
     let a = c .before .before .before .before .before .before .before .before .before .before .before .args in
     let h = c .before .before .before .before .before .before .before .before .before .before .before .pre .1 in
     let content = slice (a .at + 3) (a .next) (now (a .program)) in
-    let kinds = c .before .before .before .before .before .before .register .last .1 .1 .1 .1 .1 .1 .0 in
-    let sizes = c .before .before .before .before .before .before .register .last .1 .1 .1 .1 .1 .1 .1 .0 in
+    let kinds = c .before .before .before .before .before .before .register .last .1 .1 .1 .1 .1 .1 .1 .0 in
+    let sizes = c .before .before .before .before .before .before .register .last .1 .1 .1 .1 .1 .1 .1 .1 .0 in
     let n = c .before .size .given .0 .0 in
     let u = c .before .size .given .1 in
-    let w = register-row (a .t) (now (a .families)) (now (a .kinds)) (now (a .sizes)) (a .at) content (c .before .before .before .before .before .before .register .result) n u h 1 (a .t .registers) (a .t .qubits) kinds sizes (c .before .before .before .before .before .before .register .ensures .1) in
+    let w = register-row (a .t) (now (a .families)) (now (a .kinds)) (now (a .sizes)) (a .at) content (c .before .before .before .before .before .before .register .result) n u h Quantum (a .t .registers) (a .t .qubits) mostWires kinds sizes (c .before .before .before .before .before .before .register .ensures .1) in
     let room = w .room in
     let fits = w .fits in
     w .apart .table .kindsLong ∙ sym (h .table .kindsLong)
@@ -98,11 +100,11 @@ same-length-4 c =
     let a = c .before .before .before .before .before .before .before .before .before .before .before .args in
     let h = c .before .before .before .before .before .before .before .before .before .before .before .pre .1 in
     let content = slice (a .at + 3) (a .next) (now (a .program)) in
-    let kinds = c .before .before .before .before .before .before .register .last .1 .1 .1 .1 .1 .1 .0 in
-    let sizes = c .before .before .before .before .before .before .register .last .1 .1 .1 .1 .1 .1 .1 .0 in
+    let kinds = c .before .before .before .before .before .before .register .last .1 .1 .1 .1 .1 .1 .1 .0 in
+    let sizes = c .before .before .before .before .before .before .register .last .1 .1 .1 .1 .1 .1 .1 .1 .0 in
     let n = c .before .size .given .0 .0 in
     let u = c .before .size .given .1 in
-    let w = register-row (a .t) (now (a .families)) (now (a .kinds)) (now (a .sizes)) (a .at) content (c .before .before .before .before .before .before .register .result) n u h 1 (a .t .registers) (a .t .qubits) kinds sizes (c .before .before .before .before .before .before .register .ensures .1) in
+    let w = register-row (a .t) (now (a .families)) (now (a .kinds)) (now (a .sizes)) (a .at) content (c .before .before .before .before .before .before .register .result) n u h Quantum (a .t .registers) (a .t .qubits) mostWires kinds sizes (c .before .before .before .before .before .before .register .ensures .1) in
     let room = w .room in
     let fits = w .fits in
     w .apart .table .sizesLong ∙ sym (h .table .sizesLong)
@@ -113,14 +115,14 @@ returns-2 c =
     let a = c .before .before .before .before .before .before .before .before .before .before .before .args in
     let h = c .before .before .before .before .before .before .before .before .before .before .before .pre .1 in
     let content = slice (a .at + 3) (a .next) (now (a .program)) in
-    let kinds = c .before .before .before .before .before .before .register .last .1 .1 .1 .1 .1 .1 .0 in
-    let sizes = c .before .before .before .before .before .before .register .last .1 .1 .1 .1 .1 .1 .1 .0 in
+    let kinds = c .before .before .before .before .before .before .register .last .1 .1 .1 .1 .1 .1 .1 .0 in
+    let sizes = c .before .before .before .before .before .before .register .last .1 .1 .1 .1 .1 .1 .1 .1 .0 in
     let n = c .before .size .given .0 .0 in
     let u = c .before .size .given .1 in
-    let w = register-row (a .t) (now (a .families)) (now (a .kinds)) (now (a .sizes)) (a .at) content (c .before .before .before .before .before .before .register .result) n u h 1 (a .t .registers) (a .t .qubits) kinds sizes (c .before .before .before .before .before .before .register .ensures .1) in
+    let w = register-row (a .t) (now (a .families)) (now (a .kinds)) (now (a .sizes)) (a .at) content (c .before .before .before .before .before .before .register .result) n u h Quantum (a .t .registers) (a .t .qubits) mostWires kinds sizes (c .before .before .before .before .before .before .register .ensures .1) in
     let room = w .room in
     let fits = w .fits in
-    (qreg-goes (a .t) (now (a .families)) (now (a .kinds)) (now (a .sizes)) (a .at) content (c .before .before .before .before .before .before .register .result) n u h w (c .before .before .before .before .before .before .register .ensures .0), holds-register (a .t) (now (a .families)) n 1 (a .t .qubits) h w (a .t .qubits + n) (a .t .bits) fits (h .bitsFit))
+    (qreg-goes (a .t) (now (a .families)) (now (a .kinds)) (now (a .sizes)) (a .at) content (c .before .before .before .before .before .before .register .result) n u h w (c .before .before .before .before .before .before .register .ensures .0), holds-register (a .t) (now (a .families)) n Quantum (a .t .qubits) mostWires h w (a .t .qubits + n) (a .t .bits) fits (h .bitsFit))
 
 pub quantum-register-spec : {M : Type 1} → statement M
 quantum-register-spec =

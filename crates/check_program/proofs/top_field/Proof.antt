@@ -3,7 +3,7 @@ use Rattle.check_program.proofs.top_field.Statement.{statement}
 use Rattle.check_program.proofs.top_field.Tie as tie
 use Rattle.check_program.proofs.top_field.Reads as reads
 use Rattle.check_program.proofs.top_field.Lts as lts
-use Rattle.check_program.proofs.acting.Reads as acting-reads
+use Rattle.check_program.proofs.top_action.Reads as top-action-reads
 use Rattle.check_program.proofs.classical_register.Reads as classical-register-reads
 use Rattle.check_program.proofs.family.Reads as family-reads
 use Rattle.check_program.proofs.quantum_register.Reads as quantum-register-reads
@@ -25,8 +25,8 @@ classical-register-requires : tie.Need-classical-register-requires
 classical-register-requires c κs = search needs
 
 -- src/lib.rt:287:14
-acting-requires : tie.Need-acting-requires
-acting-requires c κs = search needs
+top-action-requires : tie.Need-top-action-requires
+top-action-requires c κs = search needs
 
 -- src/lib.rt:268:1
 same-length : tie.Need-same-length
@@ -108,7 +108,7 @@ top-field-spec =
     family-requires
     quantum-register-requires
     classical-register-requires
-    acting-requires
+    top-action-requires
     same-length
     same-length-2
     same-length-3

@@ -35,10 +35,10 @@ loop-holds c =
 header-at-requires : tie.Need-header-at-requires Inv-loop μ-loop
 header-at-requires c κs =
     let a = c .before .before .before .args in
-    let l = now (a .program) in
+    let program = now (a .program) in
     let i = c .loop in
     let d = declaredIn (i .t) (i .families) (i .kinds) (i .sizes) in
-    let k : length l ≤ length l = omega arith in
+    let k : length program ≤ length program = omega arith in
     k
 
 -- src/lib.rt:312:28
@@ -65,11 +65,11 @@ same-length-3 c =
 returns : tie.Need-returns Inv-loop μ-loop
 returns c =
     let a = c .before .before .before .before .before .before .args in
-    let l = now (a .program) in
+    let program = now (a .program) in
     let i = c .before .before .before .loop in
     let d = declaredIn (i .t) (i .families) (i .kinds) (i .sizes) in
-    let k : length l ≤ length l = omega arith in
-    tops-end l (i .at) (length l) d (when-end l (i .at) (length l) k (sym (c .before .before .header-at .ensures) ∙ c .enum-told .given .1)) ∙ ap verdict (sym (i .inv .1))
+    let k : length program ≤ length program = omega arith in
+    tops-end program (i .at) (length program) d (when-end program (i .at) (length program) k (sym (c .before .before .header-at .ensures) ∙ c .enum-told .given .1)) ∙ ap verdict (sym (i .inv .1))
 
 -- src/lib.rt:313:28
 enum-told-2 : tie.Need-enum-told-2 Inv-loop μ-loop
@@ -95,11 +95,11 @@ same-length-6 c =
 returns-2 : tie.Need-returns-2 Inv-loop μ-loop
 returns-2 c =
     let a = c .before .before .before .before .before .before .args in
-    let l = now (a .program) in
+    let program = now (a .program) in
     let i = c .before .before .before .loop in
     let d = declaredIn (i .t) (i .families) (i .kinds) (i .sizes) in
-    let k : length l ≤ length l = omega arith in
-    tops-cut l (i .at) (length l) d (when-cut l (i .at) (length l) k (sym (c .before .before .header-at .ensures) ∙ c .enum-told2 .given .1)) ∙ ap verdict (sym (i .inv .1))
+    let k : length program ≤ length program = omega arith in
+    tops-cut program (i .at) (length program) d (when-cut program (i .at) (length program) k (sym (c .before .before .header-at .ensures) ∙ c .enum-told2 .given .1)) ∙ ap verdict (sym (i .inv .1))
 
 -- src/lib.rt:314:27
 enum-known-tag : tie.Need-enum-known-tag Inv-loop μ-loop
@@ -110,13 +110,13 @@ enum-known-tag c =
 top-field-requires : tie.Need-top-field-requires Inv-loop μ-loop
 top-field-requires c κs =
     let a = c .before .before .before .before .before .before .before .before .before .before .args in
-    let l = now (a .program) in
+    let program = now (a .program) in
     let i = c .before .before .before .before .before .before .before .loop in
     let d = declaredIn (i .t) (i .families) (i .kinds) (i .sizes) in
-    let k : length l ≤ length l = omega arith in
+    let k : length program ≤ length program = omega arith in
     let tag = c .before .before .before .before .tag .given .0 .0 in
     let next = c .before .before .before .before .tag .given .0 .1 .0 in
-    let w = when-whole l (i .at) (length l) tag next k (sym (c .before .before .before .before .before .before .header-at .ensures) ∙ c .before .before .before .before .tag .given .1) in
+    let w = when-whole program (i .at) (length program) tag next k (sym (c .before .before .before .before .before .before .header-at .ensures) ∙ c .before .before .before .before .tag .given .1) in
     ((w .low, w .high), i .inv .0)
 
 -- src/lib.rt:317:35
@@ -143,17 +143,17 @@ same-length-9 c =
 returns-3 : tie.Need-returns-3 Inv-loop μ-loop
 returns-3 c =
     let a = c .before .before .before .before .before .before .before .before .before .before .before .before .before .before .before .before .before .before .args in
-    let l = now (a .program) in
+    let program = now (a .program) in
     let i = c .before .before .before .before .before .before .before .before .before .before .before .before .before .before .before .loop in
     let d = declaredIn (i .t) (i .families) (i .kinds) (i .sizes) in
-    let k : length l ≤ length l = omega arith in
+    let k : length program ≤ length program = omega arith in
     let tag = c .before .before .before .before .before .before .before .before .before .before .before .before .tag .given .0 .0 in
     let next = c .before .before .before .before .before .before .before .before .before .before .before .before .tag .given .0 .1 .0 in
-    let w = when-whole l (i .at) (length l) tag next k (sym (c .before .before .before .before .before .before .before .before .before .before .before .before .before .before .header-at .ensures) ∙ c .before .before .before .before .before .before .before .before .before .before .before .before .tag .given .1) in
+    let w = when-whole program (i .at) (length program) tag next k (sym (c .before .before .before .before .before .before .before .before .before .before .before .before .before .before .header-at .ensures) ∙ c .before .before .before .before .before .before .before .before .before .before .before .before .tag .given .1) in
     let families = c .before .before .before .before .before .before .before .top-field .last .1 .1 .1 .1 .1 .0 in
     let kinds = c .before .before .before .before .before .before .before .top-field .last .1 .1 .1 .1 .1 .1 .0 in
     let sizes = c .before .before .before .before .before .before .before .top-field .last .1 .1 .1 .1 .1 .1 .1 .0 in
-    tops-stop l (i .at) (length l) d tag next w (c .before .before .before .before .before .before .before .top-field .result) families kinds sizes (c .before .before .before .before .before .before .before .top-field .ensures .0) (c .before .r .given .0 .0) (c .before .r .given .0 .1 .0) (c .before .r .given .1) ∙ ap verdict (sym (i .inv .1))
+    tops-stop program (i .at) (length program) d tag next w (c .before .before .before .before .before .before .before .top-field .result) families kinds sizes (c .before .before .before .before .before .before .before .top-field .ensures .0) (c .before .r .given .0 .0) (c .before .r .given .0 .1 .0) (c .before .r .given .1) ∙ ap verdict (sym (i .inv .1))
 
 -- src/lib.rt:318:33
 enum-known-r-2 : tie.Need-enum-known-r-2 Inv-loop μ-loop
@@ -164,13 +164,13 @@ enum-known-r-2 c =
 loop-less : tie.Need-loop-less Inv-loop μ-loop
 loop-less c =
     let a = c .before .before .before .before .before .before .before .before .before .before .before .before .before .before .before .before .before .before .args in
-    let l = now (a .program) in
+    let program = now (a .program) in
     let i = c .before .before .before .before .before .before .before .before .before .before .before .before .before .before .before .loop in
     let d = declaredIn (i .t) (i .families) (i .kinds) (i .sizes) in
-    let k : length l ≤ length l = omega arith in
+    let k : length program ≤ length program = omega arith in
     let tag = c .before .before .before .before .before .before .before .before .before .before .before .before .tag .given .0 .0 in
     let next = c .before .before .before .before .before .before .before .before .before .before .before .before .tag .given .0 .1 .0 in
-    let w = when-whole l (i .at) (length l) tag next k (sym (c .before .before .before .before .before .before .before .before .before .before .before .before .before .before .header-at .ensures) ∙ c .before .before .before .before .before .before .before .before .before .before .before .before .tag .given .1) in
+    let w = when-whole program (i .at) (length program) tag next k (sym (c .before .before .before .before .before .before .before .before .before .before .before .before .before .before .header-at .ensures) ∙ c .before .before .before .before .before .before .before .before .before .before .before .before .tag .given .1) in
     let x = w .low in
     let y = w .high in
     omega arith
@@ -179,18 +179,18 @@ loop-less c =
 loop-again : tie.Need-loop-again Inv-loop μ-loop
 loop-again c =
     let a = c .before .before .before .before .before .before .before .before .before .before .before .before .before .before .before .before .before .before .args in
-    let l = now (a .program) in
+    let program = now (a .program) in
     let i = c .before .before .before .before .before .before .before .before .before .before .before .before .before .before .before .loop in
     let d = declaredIn (i .t) (i .families) (i .kinds) (i .sizes) in
-    let k : length l ≤ length l = omega arith in
+    let k : length program ≤ length program = omega arith in
     let tag = c .before .before .before .before .before .before .before .before .before .before .before .before .tag .given .0 .0 in
     let next = c .before .before .before .before .before .before .before .before .before .before .before .before .tag .given .0 .1 .0 in
-    let w = when-whole l (i .at) (length l) tag next k (sym (c .before .before .before .before .before .before .before .before .before .before .before .before .before .before .header-at .ensures) ∙ c .before .before .before .before .before .before .before .before .before .before .before .before .tag .given .1) in
+    let w = when-whole program (i .at) (length program) tag next k (sym (c .before .before .before .before .before .before .before .before .before .before .before .before .before .before .header-at .ensures) ∙ c .before .before .before .before .before .before .before .before .before .before .before .before .tag .given .1) in
     let families = c .before .before .before .before .before .before .before .top-field .last .1 .1 .1 .1 .1 .0 in
     let kinds = c .before .before .before .before .before .before .before .top-field .last .1 .1 .1 .1 .1 .1 .0 in
     let sizes = c .before .before .before .before .before .before .before .top-field .last .1 .1 .1 .1 .1 .1 .1 .0 in
     let t = c .before .r2 .given .0 .0 in
-    (step-holds (c .before .before .before .before .before .before .before .top-field .result) t families kinds sizes (c .before .r2 .given .1) (c .before .before .before .before .before .before .before .top-field .ensures .1), i .inv .1 ∙ tops-go l (i .at) (length l) d tag next w (c .before .before .before .before .before .before .before .top-field .result) families kinds sizes (c .before .before .before .before .before .before .before .top-field .ensures .0) t (c .before .r2 .given .1))
+    (step-holds (c .before .before .before .before .before .before .before .top-field .result) t families kinds sizes (c .before .r2 .given .1) (c .before .before .before .before .before .before .before .top-field .ensures .1), i .inv .1 ∙ tops-go program (i .at) (length program) d tag next w (c .before .before .before .before .before .before .before .top-field .result) families kinds sizes (c .before .before .before .before .before .before .before .top-field .ensures .0) t (c .before .r2 .given .1))
 
 pub top-fields-spec : {M : Type 1} → statement M
 top-fields-spec =

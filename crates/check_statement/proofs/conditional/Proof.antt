@@ -21,7 +21,7 @@ use Rattle.fields.proofs.Reading.{one-byte, slice-none}
 use Rattle.check_operand.specs.Tables.{tabulated}
 use Rattle.check_operand.specs.Operands.{wantedOf}
 use Rattle.check_call.specs.Calls.{signatureAt}
-use Rattle.check_statement.specs.Statements.{declaredTold}
+use Rattle.check_statement.specs.Statements.{checkedDeclared}
 use Rattle.check_index.proofs.Answers.{part-goes, passes-upto}
 use Rattle.check_statement.proofs.Actions.{kept-is, kept-stops, if-none, if-large, if-bit, bit, rest}
 
@@ -31,14 +31,14 @@ add-from c = search needs
 
 -- src/lib.rt:283:9
 returns : tie.Need-returns
-unfolding declaredTold
+unfolding checkedDeclared
 returns c =
     let a = c .before .before .before .args in
-    let p = now (a .program) in
+    let program = now (a .program) in
     let from = a .at + 3 in
-    let content = slice from (a .next) p in
+    let content = slice from (a .next) program in
     let fs = tabulated (signatureAt (now (a .families)) (now (a .kinds)) (now (a .sizes))) (a .s .families) 0 in
-    λ d q. if-none d (a .at) content (slice-none from (a .next) p (c .if1 .taken))
+    λ d q. if-none d (a .at) content (slice-none from (a .next) program (c .if1 .taken))
 
 -- src/lib.rt:285:30
 shared-slice-read-wide : tie.Need-shared-slice-read-wide
@@ -50,16 +50,16 @@ wide-requires c κs = search needs
 
 -- src/lib.rt:287:9
 returns-2 : tie.Need-returns-2
-unfolding declaredTold
+unfolding checkedDeclared
 returns-2 c =
     let a = c .before .before .before .before .before .before .args in
-    let p = now (a .program) in
+    let program = now (a .program) in
     let from = a .at + 3 in
-    let content = slice from (a .next) p in
+    let content = slice from (a .next) program in
     let fs = tabulated (signatureAt (now (a .families)) (now (a .kinds)) (now (a .sizes))) (a .s .families) 0 in
     let v = c .before .wide .result in
-    let e = one-byte from (a .next) p (c .before .before .before .if1 .left) (c .before .before .before .before .before .before .pre .0 .1) ∙ ap (λ (x : ℕ). x ∷ slice (from + 1) (a .next) p) (sym (c .before .wide .ensures .0)) in
-    λ d q. if-large d (a .at) content v p (a .next) e (c .if2 .taken)
+    let e = one-byte from (a .next) program (c .before .before .before .if1 .left) (c .before .before .before .before .before .before .pre .0 .1) ∙ ap (λ (x : ℕ). x ∷ slice (from + 1) (a .next) program) (sym (c .before .wide .ensures .0)) in
+    λ d q. if-large d (a .at) content v program (a .next) e (c .if2 .taken)
 
 -- src/lib.rt:290:17
 add-inner : tie.Need-add-inner
@@ -82,14 +82,14 @@ returns-3 : tie.Need-returns-3
 unfolding wantedOf
 returns-3 c =
     let a = c .before .before .before .before .before .before .before .before .before .before .before .before .args in
-    let p = now (a .program) in
+    let program = now (a .program) in
     let from = a .at + 3 in
-    let content = slice from (a .next) p in
+    let content = slice from (a .next) program in
     let fs = tabulated (signatureAt (now (a .families)) (now (a .kinds)) (now (a .sizes))) (a .s .families) 0 in
     let v = c .before .before .before .before .before .before .before .wide .result in
-    let e = one-byte from (a .next) p (c .before .before .before .before .before .before .before .before .before .if1 .left) (c .before .before .before .before .before .before .before .before .before .before .before .before .pre .0 .1) ∙ ap (λ (x : ℕ). x ∷ slice (from + 1) (a .next) p) (sym (c .before .before .before .before .before .before .before .wide .ensures .0)) in
-    λ d q. kept-stops (c .before .before .operand .result) d (bit d (a .at) content v p (a .next) e) (rest d (a .at) content v p (a .next) e (drop 1 (fieldsAt p (a .at + 4) (a .next)))) (c .before .before .operand .ensures .0 fs ∙ ap (λ (s : C.Scope). checkOperand s C.bit (due readOperand (badOperand 4 (a .at)) (fieldsAt p (a .at + 4) (a .next)))) (sym q)) (c .before .match .keys2)
-    ∙ if-bit d (a .at) content v p (a .next) e (c .before .before .before .before .before .before .if2 .left)
+    let e = one-byte from (a .next) program (c .before .before .before .before .before .before .before .before .before .if1 .left) (c .before .before .before .before .before .before .before .before .before .before .before .before .pre .0 .1) ∙ ap (λ (x : ℕ). x ∷ slice (from + 1) (a .next) program) (sym (c .before .before .before .before .before .before .before .wide .ensures .0)) in
+    λ d q. kept-stops (c .before .before .operand .result) d (bit d (a .at) content v program (a .next) e) (rest d (a .at) content v program (a .next) e (drop 1 (fieldsAt program (a .at + 4) (a .next)))) (c .before .before .operand .ensures .0 fs ∙ ap (λ (s : C.Scope). checkOperand s C.bit (due readOperand (badOperand 4 (a .at)) (fieldsAt program (a .at + 4) (a .next)))) (sym q)) (c .before .match .keys2)
+    ∙ if-bit d (a .at) content v program (a .next) e (c .before .before .before .before .before .before .if2 .left)
 
 -- src/lib.rt:307:5
 list-requires : tie.Need-list-requires
@@ -100,18 +100,18 @@ returns-4 : tie.Need-returns-4
 unfolding wantedOf
 returns-4 c =
     let a = c .before .before .before .before .before .before .before .before .before .before .before .before .before .before .args in
-    let p = now (a .program) in
+    let program = now (a .program) in
     let from = a .at + 3 in
-    let content = slice from (a .next) p in
+    let content = slice from (a .next) program in
     let fs = tabulated (signatureAt (now (a .families)) (now (a .kinds)) (now (a .sizes))) (a .s .families) 0 in
     let v = c .before .before .before .before .before .before .before .before .before .wide .result in
-    let e = one-byte from (a .next) p (c .before .before .before .before .before .before .before .before .before .before .before .if1 .left) (c .before .before .before .before .before .before .before .before .before .before .before .before .before .before .pre .0 .1) ∙ ap (λ (x : ℕ). x ∷ slice (from + 1) (a .next) p) (sym (c .before .before .before .before .before .before .before .before .before .wide .ensures .0)) in
+    let e = one-byte from (a .next) program (c .before .before .before .before .before .before .before .before .before .before .before .if1 .left) (c .before .before .before .before .before .before .before .before .before .before .before .before .before .before .pre .0 .1) ∙ ap (λ (x : ℕ). x ∷ slice (from + 1) (a .next) program) (sym (c .before .before .before .before .before .before .before .before .before .wide .ensures .0)) in
     let mid = c .before .before .r .given .0 .0 in
-    let u = passes-upto p (a .at + 4) (a .next) (c .before .before .before .before .operand .result) mid (c .before .before .r .given .1) (c .before .before .before .before .operand .ensures .1) in
-    λ d q. kept-is (c .list .result) d ∙ ap (λ (x : Checked (Unit {0})). x >> good d) (c .list .ensures ∙ ap (λ (s : C.Scope). checkStatements (statementsBy (readStatement 15) (fieldsAt p mid (a .next))) s) (sym q))
+    let u = passes-upto program (a .at + 4) (a .next) (c .before .before .before .before .operand .result) mid (c .before .before .r .given .1) (c .before .before .before .before .operand .ensures .1) in
+    λ d q. kept-is (c .list .result) d ∙ ap (λ (x : Checked (Unit {0})). x >> good d) (c .list .ensures ∙ ap (λ (s : C.Scope). checkStatements (statementsBy (readStatement 15) (fieldsAt program mid (a .next))) s) (sym q))
     ∙ ap (λ (l : List Field). checkStatements (statementsBy (readStatement 15) l) (topScope d) >> good d) (sym (u .rest))
-    ∙ sym (part-goes (c .before .before .before .before .operand .result) (bit d (a .at) content v p (a .next) e) (c .before .before .before .before .operand .ensures .0 fs ∙ ap (λ (s : C.Scope). checkOperand s C.bit (due readOperand (badOperand 4 (a .at)) (fieldsAt p (a .at + 4) (a .next)))) (sym q)) mid (rest d (a .at) content v p (a .next) e (drop 1 (fieldsAt p (a .at + 4) (a .next)))) (c .before .before .r .given .1))
-    ∙ if-bit d (a .at) content v p (a .next) e (c .before .before .before .before .before .before .before .before .if2 .left)
+    ∙ sym (part-goes (c .before .before .before .before .operand .result) (bit d (a .at) content v program (a .next) e) (c .before .before .before .before .operand .ensures .0 fs ∙ ap (λ (s : C.Scope). checkOperand s C.bit (due readOperand (badOperand 4 (a .at)) (fieldsAt program (a .at + 4) (a .next)))) (sym q)) mid (rest d (a .at) content v program (a .next) e (drop 1 (fieldsAt program (a .at + 4) (a .next)))) (c .before .before .r .given .1))
+    ∙ if-bit d (a .at) content v program (a .next) e (c .before .before .before .before .before .before .before .before .if2 .left)
 
 pub conditional-spec : {M : Type 1} → statement M
 conditional-spec =

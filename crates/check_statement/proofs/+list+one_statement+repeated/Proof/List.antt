@@ -11,7 +11,7 @@ use Rattle.language.specs.Read.{readStatement, statementsBy}
 use Rattle.language.specs.Check.{checkStatements}
 use Rattle.fields.specs.Header.{fieldsAt}
 use Rattle.fields.proofs.Reading.{when-whole, when-end, when-cut}
-use Rattle.check_index.specs.Answers.{partTold}
+use Rattle.check_index.specs.Answers.{checkedPart}
 use Rattle.check_operand.specs.Tables.{tabulated}
 use Rattle.check_call.specs.Calls.{scopeFull, signatureAt}
 use Rattle.check_statement.proofs.Statements.{stated, list-end, list-cut, list-next}
@@ -43,13 +43,13 @@ module _ (t : ℕ) where
 
   -- src/lib.rt:184:28
   pub returns : lts.Need-returns (calls t) (at t) Post Inv-loop μ-loop
-  unfolding partTold
+  unfolding checkedPart
   returns c =
       let a = c .before .before .before .before .before .before .args in
-      let p = now (a .program) in
+      let program = now (a .program) in
       let s = scopeFull (a .s) (now (a .families)) (now (a .kinds)) (now (a .sizes)) (now (a .lows)) (now (a .highs)) in
       let fs = tabulated (signatureAt (now (a .families)) (now (a .kinds)) (now (a .sizes))) (a .s .families) 0 in
-      list-end (a .levels) p (c .before .before .before .loop .at) (a .to) s (when-end p (c .before .before .before .loop .at) (a .to) (c .before .before .before .before .before .before .pre .1 .0) (sym (c .before .before .header-at .ensures) ∙ c .enum-told .given .1)) ∙ sym (c .before .before .before .loop .inv)
+      list-end (a .levels) program (c .before .before .before .loop .at) (a .to) s (when-end program (c .before .before .before .loop .at) (a .to) (c .before .before .before .before .before .before .pre .1 .0) (sym (c .before .before .header-at .ensures) ∙ c .enum-told .given .1)) ∙ sym (c .before .before .before .loop .inv)
 
   -- src/lib.rt:185:28
   pub enum-told-2 : lts.Need-enum-told-2 (calls t) (at t) Post Inv-loop μ-loop
@@ -58,13 +58,13 @@ module _ (t : ℕ) where
 
   -- src/lib.rt:185:28
   pub returns-2 : lts.Need-returns-2 (calls t) (at t) Post Inv-loop μ-loop
-  unfolding partTold
+  unfolding checkedPart
   returns-2 c =
       let a = c .before .before .before .before .before .before .args in
-      let p = now (a .program) in
+      let program = now (a .program) in
       let s = scopeFull (a .s) (now (a .families)) (now (a .kinds)) (now (a .sizes)) (now (a .lows)) (now (a .highs)) in
       let fs = tabulated (signatureAt (now (a .families)) (now (a .kinds)) (now (a .sizes))) (a .s .families) 0 in
-      list-cut (a .levels) p (c .before .before .before .loop .at) (a .to) s (when-cut p (c .before .before .before .loop .at) (a .to) (c .before .before .before .before .before .before .pre .1 .0) (sym (c .before .before .header-at .ensures) ∙ c .enum-told2 .given .1)) ∙ sym (c .before .before .before .loop .inv)
+      list-cut (a .levels) program (c .before .before .before .loop .at) (a .to) s (when-cut program (c .before .before .before .loop .at) (a .to) (c .before .before .before .before .before .before .pre .1 .0) (sym (c .before .before .header-at .ensures) ∙ c .enum-told2 .given .1)) ∙ sym (c .before .before .before .loop .inv)
 
   -- src/lib.rt:186:27
   pub enum-known-tag : lts.Need-enum-known-tag (calls t) (at t) Post Inv-loop μ-loop
@@ -75,12 +75,12 @@ module _ (t : ℕ) where
   pub one-statement-requires : lts.Need-one-statement-requires (calls t) (at t) Post Inv-loop μ-loop
   one-statement-requires c κs =
       let a = c .before .before .before .before .before .before .before .args in
-      let p = now (a .program) in
+      let program = now (a .program) in
       let s = scopeFull (a .s) (now (a .families)) (now (a .kinds)) (now (a .sizes)) (now (a .lows)) (now (a .highs)) in
       let fs = tabulated (signatureAt (now (a .families)) (now (a .kinds)) (now (a .sizes))) (a .s .families) 0 in
       let tag = c .before .tag .given .0 .0 in
       let next = c .before .tag .given .0 .1 .0 in
-      let w = when-whole p (c .before .before .before .before .loop .at) (a .to) tag next (c .before .before .before .before .before .before .before .pre .1 .0) (sym (c .before .before .before .header-at .ensures) ∙ c .before .tag .given .1) in
+      let w = when-whole program (c .before .before .before .before .loop .at) (a .to) tag next (c .before .before .before .before .before .before .before .pre .1 .0) (sym (c .before .before .before .header-at .ensures) ∙ c .before .tag .given .1) in
       let h = w .high in
       let k = w .low in
       let q = c .before .before .before .before .before .before .before .pre .1 .0 in
@@ -100,28 +100,28 @@ module _ (t : ℕ) where
   pub returns-3 : lts.Need-returns-3 (calls t) (at t) Post Inv-loop μ-loop
   returns-3 c =
       let a = c .before .before .before .before .before .before .before .before .before .before .args in
-      let p = now (a .program) in
+      let program = now (a .program) in
       let s = scopeFull (a .s) (now (a .families)) (now (a .kinds)) (now (a .sizes)) (now (a .lows)) (now (a .highs)) in
       let fs = tabulated (signatureAt (now (a .families)) (now (a .kinds)) (now (a .sizes))) (a .s .families) 0 in
       let tag = c .before .before .before .before .tag .given .0 .0 in
       let next = c .before .before .before .before .tag .given .0 .1 .0 in
-      let w = when-whole p (c .before .before .before .before .before .before .before .loop .at) (a .to) tag next (c .before .before .before .before .before .before .before .before .before .before .pre .1 .0) (sym (c .before .before .before .before .before .before .header-at .ensures) ∙ c .before .before .before .before .tag .given .1) in
+      let w = when-whole program (c .before .before .before .before .before .before .before .loop .at) (a .to) tag next (c .before .before .before .before .before .before .before .before .before .before .pre .1 .0) (sym (c .before .before .before .before .before .before .header-at .ensures) ∙ c .before .before .before .before .tag .given .1) in
       let h = w .high in
       let k = w .low in
       let q = c .before .before .before .before .before .before .before .before .before .before .pre .1 .0 in
-      let rest = checkStatements (statementsBy (readStatement (a .levels)) (fieldsAt p next (a .to))) s in
-      part-stops (c .before .before .one-statement .result) (stated (a .levels) (c .before .before .before .before .before .before .before .loop .at) tag next p s) rest (c .before .before .one-statement .ensures) (c .before .match2 .keys2) ∙ sym (list-next (a .levels) p (c .before .before .before .before .before .before .before .loop .at) (a .to) s tag next w) ∙ sym (c .before .before .before .before .before .before .before .loop .inv)
+      let rest = checkStatements (statementsBy (readStatement (a .levels)) (fieldsAt program next (a .to))) s in
+      part-stops (c .before .before .one-statement .result) (stated (a .levels) (c .before .before .before .before .before .before .before .loop .at) tag next program s) rest (c .before .before .one-statement .ensures) (c .before .match2 .keys2) ∙ sym (list-next (a .levels) program (c .before .before .before .before .before .before .before .loop .at) (a .to) s tag next w) ∙ sym (c .before .before .before .before .before .before .before .loop .inv)
 
   -- src/lib.rt:182:5
   pub loop-less : lts.Need-loop-less (calls t) (at t) Post Inv-loop μ-loop
   loop-less c =
       let a = c .before .before .before .before .before .before .before .before .before .before .args in
-      let p = now (a .program) in
+      let program = now (a .program) in
       let s = scopeFull (a .s) (now (a .families)) (now (a .kinds)) (now (a .sizes)) (now (a .lows)) (now (a .highs)) in
       let fs = tabulated (signatureAt (now (a .families)) (now (a .kinds)) (now (a .sizes))) (a .s .families) 0 in
       let tag = c .before .before .before .before .tag .given .0 .0 in
       let next = c .before .before .before .before .tag .given .0 .1 .0 in
-      let w = when-whole p (c .before .before .before .before .before .before .before .loop .at) (a .to) tag next (c .before .before .before .before .before .before .before .before .before .before .pre .1 .0) (sym (c .before .before .before .before .before .before .header-at .ensures) ∙ c .before .before .before .before .tag .given .1) in
+      let w = when-whole program (c .before .before .before .before .before .before .before .loop .at) (a .to) tag next (c .before .before .before .before .before .before .before .before .before .before .pre .1 .0) (sym (c .before .before .before .before .before .before .header-at .ensures) ∙ c .before .before .before .before .tag .given .1) in
       let h = w .high in
       let k = w .low in
       let q = c .before .before .before .before .before .before .before .before .before .before .pre .1 .0 in
@@ -131,14 +131,14 @@ module _ (t : ℕ) where
   pub loop-again : lts.Need-loop-again (calls t) (at t) Post Inv-loop μ-loop
   loop-again c =
       let a = c .before .before .before .before .before .before .before .before .before .before .args in
-      let p = now (a .program) in
+      let program = now (a .program) in
       let s = scopeFull (a .s) (now (a .families)) (now (a .kinds)) (now (a .sizes)) (now (a .lows)) (now (a .highs)) in
       let fs = tabulated (signatureAt (now (a .families)) (now (a .kinds)) (now (a .sizes))) (a .s .families) 0 in
       let tag = c .before .before .before .before .tag .given .0 .0 in
       let next = c .before .before .before .before .tag .given .0 .1 .0 in
-      let w = when-whole p (c .before .before .before .before .before .before .before .loop .at) (a .to) tag next (c .before .before .before .before .before .before .before .before .before .before .pre .1 .0) (sym (c .before .before .before .before .before .before .header-at .ensures) ∙ c .before .before .before .before .tag .given .1) in
+      let w = when-whole program (c .before .before .before .before .before .before .before .loop .at) (a .to) tag next (c .before .before .before .before .before .before .before .before .before .before .pre .1 .0) (sym (c .before .before .before .before .before .before .header-at .ensures) ∙ c .before .before .before .before .tag .given .1) in
       let h = w .high in
       let k = w .low in
       let q = c .before .before .before .before .before .before .before .before .before .before .pre .1 .0 in
-      let rest = checkStatements (statementsBy (readStatement (a .levels)) (fieldsAt p next (a .to))) s in
-      c .before .before .before .before .before .before .before .loop .inv ∙ list-next (a .levels) p (c .before .before .before .before .before .before .before .loop .at) (a .to) s tag next w ∙ part-went (c .before .before .one-statement .result) (stated (a .levels) (c .before .before .before .before .before .before .before .loop .at) tag next p s) rest (c .before .before .one-statement .ensures) (c .before .match2 .keys1)
+      let rest = checkStatements (statementsBy (readStatement (a .levels)) (fieldsAt program next (a .to))) s in
+      c .before .before .before .before .before .before .before .loop .inv ∙ list-next (a .levels) program (c .before .before .before .before .before .before .before .loop .at) (a .to) s tag next w ∙ part-went (c .before .before .one-statement .result) (stated (a .levels) (c .before .before .before .before .before .before .before .loop .at) tag next program s) rest (c .before .before .one-statement .ensures) (c .before .match2 .keys1)

@@ -7,8 +7,10 @@ use mathlib.Core.Path.{sym, _∙_}
 use native.Mathlib.Omega.{arith}
 use borrow.Author.Needs.{needs}
 use denote.Ref.{now}
+use Rattle.language.specs.Read.{gateOf, cxOf}
+use Rattle.language.specs.Check.{checkStatement}
 use Rattle.fields.specs.Header.{fieldsAt}
-use Rattle.check_index.specs.Answers.{partTold}
+use Rattle.check_index.specs.Answers.{checkedPart}
 use Rattle.check_operand.specs.Tables.{tabulated}
 use Rattle.check_call.specs.Calls.{scopeFull, signatureAt}
 use Rattle.check_statement.proofs.Statements.{statement-deep, statement-acts}
@@ -24,13 +26,13 @@ module _ (t : ℕ) where
 
   -- src/lib.rt:123:9
   pub returns : lts.Need-returns (calls t) (at t) Post
-  unfolding partTold
+  unfolding checkedPart
   returns c =
       let a = c .before .before .before .before .args in
-      let p = now (a .program) in
+      let program = now (a .program) in
       let s = scopeFull (a .s) (now (a .families)) (now (a .kinds)) (now (a .sizes)) (now (a .lows)) (now (a .highs)) in
       let fs = tabulated (signatureAt (now (a .families)) (now (a .kinds)) (now (a .sizes))) (a .s .families) 0 in
-      statement-deep (a .levels) (a .at) (a .tag) (a .next) p s (c .too-deep .result) (c .too-deep .ensures (a .at) (slice (a .at + 3) (a .next) p)) (c .before .if1 .taken)
+      statement-deep (a .levels) (a .at) (a .tag) (a .next) program s (c .too-deep .result) (c .too-deep .ensures (a .at) (slice (a .at + 3) (a .next) program)) (c .before .if1 .taken)
 
   -- src/lib.rt:125:17
   pub sub-below : lts.Need-sub-below (calls t) (at t) Post
@@ -106,59 +108,59 @@ module _ (t : ℕ) where
 
   -- src/lib.rt:104:1
   pub returns-2 : lts.Need-returns-2 (calls t) (at t) Post
-  unfolding fieldsAt
+  unfolding checkStatement gateOf fieldsAt
   returns-2 c =
       let a = c .before .before .before .before .before .before .before .before .before .args in
-      let p = now (a .program) in
+      let program = now (a .program) in
       let s = scopeFull (a .s) (now (a .families)) (now (a .kinds)) (now (a .sizes)) (now (a .lows)) (now (a .highs)) in
       let fs = tabulated (signatureAt (now (a .families)) (now (a .kinds)) (now (a .sizes))) (a .s .families) 0 in
-      c .one-wire .ensures .0 fs ∙ statement-acts (a .levels) (a .at) (a .tag) (a .next) p s Gate (c .before .before .before .before .before .before .if1 .left) (c .before .before .before .before .before .statement-tag .result) (c .before .before .before .before .before .statement-tag .ensures) (c .before .before .before .enum-told .given .1)
+      c .one-wire .ensures .0 fs ∙ statement-acts (a .levels) (a .at) (a .tag) (a .next) program s Gate (c .before .before .before .before .before .before .if1 .left) (c .before .before .before .before .before .statement-tag .result) (c .before .before .before .before .before .statement-tag .ensures) (c .before .before .before .enum-told .given .1)
 
   -- src/lib.rt:104:1
   pub returns-3 : lts.Need-returns-3 (calls t) (at t) Post
-  unfolding fieldsAt
+  unfolding checkStatement cxOf fieldsAt
   returns-3 c =
       let a = c .before .before .before .before .before .before .before .before .before .args in
-      let p = now (a .program) in
+      let program = now (a .program) in
       let s = scopeFull (a .s) (now (a .families)) (now (a .kinds)) (now (a .sizes)) (now (a .lows)) (now (a .highs)) in
       let fs = tabulated (signatureAt (now (a .families)) (now (a .kinds)) (now (a .sizes))) (a .s .families) 0 in
-      c .two-wires .ensures fs ∙ statement-acts (a .levels) (a .at) (a .tag) (a .next) p s Cx (c .before .before .before .before .before .before .if1 .left) (c .before .before .before .before .before .statement-tag .result) (c .before .before .before .before .before .statement-tag .ensures) (c .before .before .before .enum-told2 .given .1)
+      c .two-wires .ensures fs ∙ statement-acts (a .levels) (a .at) (a .tag) (a .next) program s Cx (c .before .before .before .before .before .before .if1 .left) (c .before .before .before .before .before .statement-tag .result) (c .before .before .before .before .before .statement-tag .ensures) (c .before .before .before .enum-told2 .given .1)
 
   -- src/lib.rt:104:1
   pub returns-4 : lts.Need-returns-4 (calls t) (at t) Post
   returns-4 c =
       let a = c .before .before .before .before .before .before .before .before .before .args in
-      let p = now (a .program) in
+      let program = now (a .program) in
       let s = scopeFull (a .s) (now (a .families)) (now (a .kinds)) (now (a .sizes)) (now (a .lows)) (now (a .highs)) in
       let fs = tabulated (signatureAt (now (a .families)) (now (a .kinds)) (now (a .sizes))) (a .s .families) 0 in
-      c .call .ensures ∙ statement-acts (a .levels) (a .at) (a .tag) (a .next) p s Call (c .before .before .before .before .before .before .if1 .left) (c .before .before .before .before .before .statement-tag .result) (c .before .before .before .before .before .statement-tag .ensures) (c .before .before .before .enum-told3 .given .1)
+      c .call .ensures ∙ statement-acts (a .levels) (a .at) (a .tag) (a .next) program s Call (c .before .before .before .before .before .before .if1 .left) (c .before .before .before .before .before .statement-tag .result) (c .before .before .before .before .before .statement-tag .ensures) (c .before .before .before .enum-told3 .given .1)
 
   -- src/lib.rt:104:1
   pub returns-5 : lts.Need-returns-5 (calls t) (at t) Post
-  unfolding fieldsAt
+  unfolding checkStatement fieldsAt
   returns-5 c =
       let a = c .before .before .before .before .before .before .before .args in
-      let p = now (a .program) in
+      let program = now (a .program) in
       let s = scopeFull (a .s) (now (a .families)) (now (a .kinds)) (now (a .sizes)) (now (a .lows)) (now (a .highs)) in
       let fs = tabulated (signatureAt (now (a .families)) (now (a .kinds)) (now (a .sizes))) (a .s .families) 0 in
-      c .list .ensures ∙ statement-acts (a .levels) (a .at) (a .tag) (a .next) p s Reverse (c .before .before .before .before .if1 .left) (c .before .before .before .statement-tag .result) (c .before .before .before .statement-tag .ensures) (c .before .enum-told4 .given .1)
+      c .list .ensures ∙ statement-acts (a .levels) (a .at) (a .tag) (a .next) program s Reverse (c .before .before .before .before .if1 .left) (c .before .before .before .statement-tag .result) (c .before .before .before .statement-tag .ensures) (c .before .enum-told4 .given .1)
 
   -- src/lib.rt:104:1
   pub returns-6 : lts.Need-returns-6 (calls t) (at t) Post
   unfolding fieldsAt
   returns-6 c =
       let a = c .before .before .before .before .before .before .before .args in
-      let p = now (a .program) in
+      let program = now (a .program) in
       let s = scopeFull (a .s) (now (a .families)) (now (a .kinds)) (now (a .sizes)) (now (a .lows)) (now (a .highs)) in
       let fs = tabulated (signatureAt (now (a .families)) (now (a .kinds)) (now (a .sizes))) (a .s .families) 0 in
-      c .repeated .ensures ∙ statement-acts (a .levels) (a .at) (a .tag) (a .next) p s For (c .before .before .before .before .if1 .left) (c .before .before .before .statement-tag .result) (c .before .before .before .statement-tag .ensures) (c .before .enum-told5 .given .1)
+      c .repeated .ensures ∙ statement-acts (a .levels) (a .at) (a .tag) (a .next) program s For (c .before .before .before .before .if1 .left) (c .before .before .before .statement-tag .result) (c .before .before .before .statement-tag .ensures) (c .before .enum-told5 .given .1)
 
   -- src/lib.rt:104:1
   pub returns-7 : lts.Need-returns-7 (calls t) (at t) Post
-  unfolding partTold
+  unfolding checkedPart checkStatement
   returns-7 c =
       let a = c .before .before .before .before .before .before .args in
-      let p = now (a .program) in
+      let program = now (a .program) in
       let s = scopeFull (a .s) (now (a .families)) (now (a .kinds)) (now (a .sizes)) (now (a .lows)) (now (a .highs)) in
       let fs = tabulated (signatureAt (now (a .families)) (now (a .kinds)) (now (a .sizes))) (a .s .families) 0 in
-      statement-acts (a .levels) (a .at) (a .tag) (a .next) p s S.Other (c .before .before .before .if1 .left) (c .before .before .statement-tag .result) (c .before .before .statement-tag .ensures) (c .enum-told6 .given .1)
+      statement-acts (a .levels) (a .at) (a .tag) (a .next) program s S.Other (c .before .before .before .if1 .left) (c .before .before .statement-tag .result) (c .before .before .statement-tag .ensures) (c .enum-told6 .given .1)

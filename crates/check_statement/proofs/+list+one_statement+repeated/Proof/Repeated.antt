@@ -10,7 +10,7 @@ use denote.Ref.{now}
 use Rattle.language.specs.Read.{readStatement, statementsBy}
 use Rattle.language.specs.Check.{checkStatements, inLoop}
 use Rattle.fields.specs.Header.{fieldsAt}
-use Rattle.check_index.specs.Answers.{partTold}
+use Rattle.check_index.specs.Answers.{checkedPart}
 use Rattle.check_operand.specs.Tables.{tabulated, kindsAt, scopeWith}
 use Rattle.check_call.specs.Calls.{scopeFull, signatureAt}
 use mathlib.Core.List.{List}
@@ -18,20 +18,20 @@ use lib.ListN.{length}
 use Rattle.language.specs.Form.{Loop}
 use Rattle.forms.specs.Rows.{loopsOf}
 use Rattle.check_operand.proofs.Tables.{length-loops, rows-set}
-use Rattle.check_statement.proofs.Loops.{for-many, for-stops, for-good, loops-more, loop-same, loop-upto}
+use Rattle.check_statement.proofs.Loops.{for-many, for-stops, for-good, loops-more, bounds-same, bounds-upto}
 
 module _ (t : ℕ) where
   -- src/lib.rt:229:9
   pub returns : lts.Need-returns (calls t) (at t) Post
-  unfolding partTold
+  unfolding checkedPart
   returns c =
       let a = c .before .before .before .args in
-      let p = now (a .program) in
+      let program = now (a .program) in
       let s = scopeFull (a .s) (now (a .families)) (now (a .kinds)) (now (a .sizes)) (now (a .lows)) (now (a .highs)) in
       let fs = tabulated (signatureAt (now (a .families)) (now (a .kinds)) (now (a .sizes))) (a .s .families) 0 in
       let n = a .s .loops in
       let long = length-loops n (now (a .lows)) (now (a .highs)) in
-      for-many (readStatement (a .levels)) s p (a .at) (a .at + 3) (a .next) (let z = c .if1 .taken in omega arith)
+      for-many (readStatement (a .levels)) s program (a .at) (a .at + 3) (a .next) (let z = c .if1 .taken in omega arith)
 
   -- src/lib.rt:231:17
   pub add-loops : lts.Need-add-loops (calls t) (at t) Post
@@ -46,8 +46,8 @@ module _ (t : ℕ) where
       omega arith
 
   -- src/lib.rt:235:9
-  pub loop-forms-requires : lts.Need-loop-forms-requires (calls t) (at t) Post
-  loop-forms-requires c κs =
+  pub loop-bounds-requires : lts.Need-loop-bounds-requires (calls t) (at t) Post
+  loop-bounds-requires c κs =
       let q = c .before .before .before .before .before .before .pre .1 .1 .0 .few in
       let z = c .before .before .before .if1 .left in
       (c .before .before .before .before .before .before .pre .1 .0, omega arith)
@@ -66,17 +66,17 @@ module _ (t : ℕ) where
   pub returns-2 : lts.Need-returns-2 (calls t) (at t) Post
   returns-2 c =
       let a = c .before .before .before .before .before .before .before .before .before .args in
-      let p = now (a .program) in
+      let program = now (a .program) in
       let s = scopeFull (a .s) (now (a .families)) (now (a .kinds)) (now (a .sizes)) (now (a .lows)) (now (a .highs)) in
       let fs = tabulated (signatureAt (now (a .families)) (now (a .kinds)) (now (a .sizes))) (a .s .families) 0 in
       let n = a .s .loops in
       let ks = kindsAt (a .s .count) (a .s .first) (now (a .kinds)) (now (a .sizes)) in
       let long = length-loops n (now (a .lows)) (now (a .highs)) in
-      let l = c .before .before .loop-forms .last .1 .1 .1 .1 .0 in
-      let h = c .before .before .loop-forms .last .1 .1 .1 .1 .1 .0 in
-      let e = c .before .before .loop-forms .ensures .0 ∙ loop-same fs ks (a .s .variables) n (now (a .lows)) (now (a .highs)) (a .at) (fieldsAt p (a .at + 3) (a .next)) in
+      let l = c .before .before .loop-bounds .last .1 .1 .1 .1 .0 in
+      let h = c .before .before .loop-bounds .last .1 .1 .1 .1 .1 .0 in
+      let e = c .before .before .loop-bounds .ensures .0 ∙ bounds-same fs ks (a .s .variables) n (now (a .lows)) (now (a .highs)) (a .at) (fieldsAt program (a .at + 3) (a .next)) in
       let few : length (loopsOf n (now (a .lows)) (now (a .highs))) < 8 = (let z = c .before .before .before .before .before .before .if1 .left in omega arith) in
-      for-stops (readStatement (a .levels)) s p (a .at) (a .at + 3) (a .next) few (c .before .before .loop-forms .result) l h e (c .before .match .keys2)
+      for-stops (readStatement (a .levels)) s program (a .at) (a .at + 3) (a .next) few (c .before .before .loop-bounds .result) l h e (c .before .match .keys2)
 
   -- src/lib.rt:240:5
   pub mul-inner-lows : lts.Need-mul-inner-lows (calls t) (at t) Post
@@ -102,18 +102,18 @@ module _ (t : ℕ) where
   pub list-requires : lts.Need-list-requires (calls t) (at t) Post
   list-requires c κs =
       let a = c .before .before .before .before .before .before .before .before .before .before .before .before .before .before .args in
-      let p = now (a .program) in
+      let program = now (a .program) in
       let s = scopeFull (a .s) (now (a .families)) (now (a .kinds)) (now (a .sizes)) (now (a .lows)) (now (a .highs)) in
       let fs = tabulated (signatureAt (now (a .families)) (now (a .kinds)) (now (a .sizes))) (a .s .families) 0 in
       let n = a .s .loops in
       let ks = kindsAt (a .s .count) (a .s .first) (now (a .kinds)) (now (a .sizes)) in
       let long = length-loops n (now (a .lows)) (now (a .highs)) in
-      let l = c .before .before .before .before .before .before .before .loop-forms .last .1 .1 .1 .1 .0 in
-      let h = c .before .before .before .before .before .before .before .loop-forms .last .1 .1 .1 .1 .1 .0 in
-      let e = c .before .before .before .before .before .before .before .loop-forms .ensures .0 ∙ loop-same fs ks (a .s .variables) n (now (a .lows)) (now (a .highs)) (a .at) (fieldsAt p (a .at + 3) (a .next)) in
+      let l = c .before .before .before .before .before .before .before .loop-bounds .last .1 .1 .1 .1 .0 in
+      let h = c .before .before .before .before .before .before .before .loop-bounds .last .1 .1 .1 .1 .1 .0 in
+      let e = c .before .before .before .before .before .before .before .loop-bounds .ensures .0 ∙ bounds-same fs ks (a .s .variables) n (now (a .lows)) (now (a .highs)) (a .at) (fieldsAt program (a .at + 3) (a .next)) in
       let few : length (loopsOf n (now (a .lows)) (now (a .highs))) < 8 = (let z = c .before .before .before .before .before .before .before .before .before .before .before .if1 .left in omega arith) in
       let mid = c .before .before .before .before .before .r .given .0 .0 in
-      let v = loop-upto p (a .at + 3) (a .next) (c .before .before .before .before .before .before .before .loop-forms .result) l h mid (c .before .before .before .before .before .r .given .1) (c .before .before .before .before .before .before .before .loop-forms .ensures .1) in
+      let v = bounds-upto program (a .at + 3) (a .next) (c .before .before .before .before .before .before .before .loop-bounds .result) l h mid (c .before .before .before .before .before .r .given .1) (c .before .before .before .before .before .before .before .loop-bounds .ensures .1) in
       let r = c .before .before .before .before .before .before .before .before .before .before .before .before .before .before .pre .1 .1 .0 in
       let d = c .before .before .before .before .before .before .before .before .before .before .before .before .before .before .pre .1 .1 .1 in
       let z = c .before .before .before .before .before .before .before .before .before .before .before .if1 .left in (
@@ -132,22 +132,22 @@ module _ (t : ℕ) where
   unfolding inLoop
   returns-3 c =
       let a = c .before .before .before .before .before .before .before .before .before .before .before .before .before .before .before .args in
-      let p = now (a .program) in
+      let program = now (a .program) in
       let s = scopeFull (a .s) (now (a .families)) (now (a .kinds)) (now (a .sizes)) (now (a .lows)) (now (a .highs)) in
       let fs = tabulated (signatureAt (now (a .families)) (now (a .kinds)) (now (a .sizes))) (a .s .families) 0 in
       let n = a .s .loops in
       let ks = kindsAt (a .s .count) (a .s .first) (now (a .kinds)) (now (a .sizes)) in
       let long = length-loops n (now (a .lows)) (now (a .highs)) in
-      let l = c .before .before .before .before .before .before .before .before .loop-forms .last .1 .1 .1 .1 .0 in
-      let h = c .before .before .before .before .before .before .before .before .loop-forms .last .1 .1 .1 .1 .1 .0 in
-      let e = c .before .before .before .before .before .before .before .before .loop-forms .ensures .0 ∙ loop-same fs ks (a .s .variables) n (now (a .lows)) (now (a .highs)) (a .at) (fieldsAt p (a .at + 3) (a .next)) in
+      let l = c .before .before .before .before .before .before .before .before .loop-bounds .last .1 .1 .1 .1 .0 in
+      let h = c .before .before .before .before .before .before .before .before .loop-bounds .last .1 .1 .1 .1 .1 .0 in
+      let e = c .before .before .before .before .before .before .before .before .loop-bounds .ensures .0 ∙ bounds-same fs ks (a .s .variables) n (now (a .lows)) (now (a .highs)) (a .at) (fieldsAt program (a .at + 3) (a .next)) in
       let few : length (loopsOf n (now (a .lows)) (now (a .highs))) < 8 = (let z = c .before .before .before .before .before .before .before .before .before .before .before .before .if1 .left in omega arith) in
       let mid = c .before .before .before .before .before .before .r .given .0 .0 in
-      let v = loop-upto p (a .at + 3) (a .next) (c .before .before .before .before .before .before .before .before .loop-forms .result) l h mid (c .before .before .before .before .before .before .r .given .1) (c .before .before .before .before .before .before .before .before .loop-forms .ensures .1) in
+      let v = bounds-upto program (a .at + 3) (a .next) (c .before .before .before .before .before .before .before .before .loop-bounds .result) l h mid (c .before .before .before .before .before .before .r .given .1) (c .before .before .before .before .before .before .before .before .loop-bounds .ensures .1) in
       let r = c .before .before .before .before .before .before .before .before .before .before .before .before .before .before .before .pre .1 .1 .0 in
       let z = c .before .before .before .before .before .before .before .before .before .before .before .before .if1 .left in
       let x = r .lowRows .enough in
       let y = r .highRows .enough in
       c .list .ensures
-      ∙ ap (λ (ls : List Loop). checkStatements (statementsBy (readStatement (a .levels)) (fieldsAt p mid (a .next))) (scopeWith fs ks (a .s .variables) ls)) (loops-more n (now (a .lows)) (now (a .highs)) l h (omega arith) (omega arith))
-      ∙ for-good (readStatement (a .levels)) s p (a .at) (a .at + 3) (a .next) few (c .before .before .before .before .before .before .before .before .loop-forms .result) l h e mid (c .before .before .before .before .before .before .r .given .1) (v .0)
+      ∙ ap (λ (ls : List Loop). checkStatements (statementsBy (readStatement (a .levels)) (fieldsAt program mid (a .next))) (scopeWith fs ks (a .s .variables) ls)) (loops-more n (now (a .lows)) (now (a .highs)) l h (omega arith) (omega arith))
+      ∙ for-good (readStatement (a .levels)) s program (a .at) (a .at + 3) (a .next) few (c .before .before .before .before .before .before .before .before .loop-bounds .result) l h e mid (c .before .before .before .before .before .before .r .given .1) (v .0)

@@ -1,8 +1,8 @@
 use borrow.Author.Needs.{needs}
-use Rattle.check_program.proofs.acting.Statement.{statement}
-use Rattle.check_program.proofs.acting.Tie as tie
-use Rattle.check_program.proofs.acting.Reads as reads
-use Rattle.check_program.proofs.acting.Lts as lts
+use Rattle.check_program.proofs.top_action.Statement.{statement}
+use Rattle.check_program.proofs.top_action.Tie as tie
+use Rattle.check_program.proofs.top_action.Reads as reads
+use Rattle.check_program.proofs.top_action.Lts as lts
 use Rattle.check_statement.proofs.action.Reads as action-reads
 use mathlib.Core.Path.{refl, _∙_}
 use native.Mathlib.Omega.{arith}
@@ -57,5 +57,5 @@ returns-2 c =
     let e = top-scope (a .t) (now (a .families)) (now (a .kinds)) (now (a .sizes)) none none in
     (kept-going (c .before .before .action .result) (a .t) (now (a .families)) (now (a .kinds)) (now (a .sizes)) (c .before .match .keys2) ∙ c .before .before .action .ensures d e, h)
 
-pub acting-spec : {M : Type 1} → statement M
-acting-spec = tie.close (tie.spec action-requires enum-known-k enum-told returns returns-2)
+pub top-action-spec : {M : Type 1} → statement M
+top-action-spec = tie.close (tie.spec action-requires enum-known-k enum-told returns returns-2)

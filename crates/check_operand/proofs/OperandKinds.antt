@@ -1,0 +1,82 @@
+-- What is shown, and which kinds fit. Assumes nothing.
+use mathlib.Core.Path.{_≡_, refl, sym, ap, _∙_}
+use mathlib.Core.List.{List, [], _∷_}
+use mathlib.Core.Bool.{Bool, true, false}
+use Prim.Native.Nat.{ℕ}
+use lib.IntN.{ℤ}
+use types.Run.{OneOf, miss}
+use denote.Enum.Declared.{tagOf}
+use Rattle.language.specs.Form.{Form, Built, built, outOfRange, differenceOf, _thenBuild_}
+use Rattle.language.specs.Check.{good, refused, Kind, byShowing, mustShow, wholeFits, elementSize}
+use Rattle.kinds.proofs.Kind.{the-type}
+use Rattle.kinds.specs.declared.Kind.the-variants.{Qubit, Quantum, Classical}
+use Rattle.forms.specs.Flat.{asForm, builtOf}
+use Rattle.forms.proofs.Laws.{show-outside}
+use Rattle.check_operand.specs.Tables.{kindIn}
+use Rattle.check_operand.specs.Operands.{wantedOf}
+use Rattle.check_operand.specs.declared.Wanted.the-variants.{Wire, Bit, Register}
+use Rattle.kinds.specs.declared.Kind as K
+use Rattle.language.specs.Check as C
+
+pub shown-outside : (p : ℕ) (s : C.Scope) → refused 11 p ≡ mustShow p s outOfRange
+unfolding byShowing mustShow
+shown-outside p s = sym (ap (byShowing p) (show-outside (s .variables) (s .loops)))
+
+-- what is built where a difference was refused, or made
+pub not-made : (l : List ℤ) {t : Bool} {b : Built} → builtOf t l ≡ b → t ≡ false → b ≡ outOfRange
+not-made l e q = sym e ∙ ap (λ (t : Bool). builtOf t l) q
+
+pub is-made : (l : List ℤ) {t : Bool} {b : Built} → builtOf t l ≡ b → t ≡ true → b ≡ built (asForm l)
+is-made l e q = sym e ∙ ap (λ (t : Bool). builtOf t l) q
+
+-- an operand of the kind k taken whole
+module _ (p : ℕ) (s : C.Scope) (f : Form) (l : List ℤ) where
+  pub wire-good : good tt ≡ wholeFits p s (wantedOf Wire l) (kindIn Qubit f)
+  unfolding wantedOf wholeFits kindIn
+  wire-good = refl
+
+  pub wire-bad : (k : K.Kind) → OneOf (1 ∷ 2 ∷ []) (tagOf the-type k) → refused 9 p ≡ wholeFits p s (wantedOf Wire l) (kindIn k f)
+  unfolding wantedOf wholeFits kindIn
+  wire-bad Qubit h = absurd (miss (1 ∷ 2 ∷ []) 0 tt h)
+  wire-bad Quantum h = refl
+  wire-bad Classical h = refl
+
+  pub bit-bad : (k : Kind) → refused 9 p ≡ wholeFits p s (wantedOf Bit l) k
+  unfolding wantedOf wholeFits
+  bit-bad k = refl
+
+  pub register-good : (t : Bool) → mustShow p s (builtOf t l thenBuild differenceOf f) ≡ wholeFits p s (wantedOf (Register t) l) (kindIn Quantum f)
+  unfolding wantedOf wholeFits kindIn
+  register-good t = refl
+
+  pub register-bad : (t : Bool) (k : K.Kind) → OneOf (0 ∷ 2 ∷ []) (tagOf the-type k) → refused 9 p ≡ wholeFits p s (wantedOf (Register t) l) (kindIn k f)
+  unfolding wantedOf wholeFits kindIn
+  register-bad t Qubit h = refl
+  register-bad t Quantum h = absurd (miss (0 ∷ 2 ∷ []) 1 tt h)
+  register-bad t Classical h = refl
+
+-- the kind k of an operand whose element is due
+module _ (p : ℕ) (f : Form) (l : List ℤ) where
+  pub element-wire : good f ≡ elementSize p (wantedOf Wire l) (kindIn Quantum f)
+  unfolding wantedOf elementSize kindIn
+  element-wire = refl
+
+  pub element-no-wire : (k : K.Kind) → OneOf (0 ∷ 2 ∷ []) (tagOf the-type k) → refused 9 p ≡ elementSize p (wantedOf Wire l) (kindIn k f)
+  unfolding wantedOf elementSize kindIn
+  element-no-wire Qubit h = refl
+  element-no-wire Quantum h = absurd (miss (0 ∷ 2 ∷ []) 1 tt h)
+  element-no-wire Classical h = refl
+
+  pub element-bit : good f ≡ elementSize p (wantedOf Bit l) (kindIn Classical f)
+  unfolding wantedOf elementSize kindIn
+  element-bit = refl
+
+  pub element-no-bit : (k : K.Kind) → OneOf (0 ∷ 1 ∷ []) (tagOf the-type k) → refused 9 p ≡ elementSize p (wantedOf Bit l) (kindIn k f)
+  unfolding wantedOf elementSize kindIn
+  element-no-bit Qubit h = refl
+  element-no-bit Quantum h = refl
+  element-no-bit Classical h = absurd (miss (0 ∷ 1 ∷ []) 2 tt h)
+
+  pub element-register : (t : Bool) (k : Kind) → refused 9 p ≡ elementSize p (wantedOf (Register t) l) k
+  unfolding wantedOf elementSize
+  element-register t k = refl
