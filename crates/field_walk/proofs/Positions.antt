@@ -18,10 +18,8 @@ use Rattle.language.proofs.Runs.{Skips}
 use Rattle.language.proofs.Runs as R
 use Rattle.fields.specs.declared.Header.{Header}
 use Rattle.fields.specs.declared.Header.the-variants.{Whole, End, Cut}
-use Rattle.fields.specs.declared.Counted.{Counted}
-use Rattle.fields.specs.declared.Counted.the-variants.{Many, Broken}
 use Rattle.fields.specs.Header.{fieldsAt, headerOf}
-use Rattle.fields.specs.Count.{more, counted, span}
+use Rattle.fields.specs.Count.{Counted, Many, Broken, more, counted, span}
 use Rattle.fields.proofs.Header.{the-type}
 use Rattle.fields.proofs.Parts as P
 use Rattle.fields.proofs.Parts.{look, Part, when-part, when-bad, part-is, not-first, stands}

@@ -7,10 +7,8 @@ use lib.ListN.{length, getD}
 use lib.Seq.{slice}
 use Rattle.language.specs.Read.{fields}
 use Rattle.fields.specs.declared.Header.the-variants.{Whole}
-use Rattle.fields.specs.declared.Counted.{Counted}
-use Rattle.fields.specs.declared.Counted.the-variants.{Many, Broken}
 use Rattle.fields.specs.Header.{fieldsAt, headerOf}
-use Rattle.fields.specs.Count.{counted}
+use Rattle.fields.specs.Count.{Counted, Many, Broken, counted}
 use Rattle.field_walk.specs.declared.Walk.{Walk}
 use Rattle.field_walk.specs.declared.Begun.{Begun}
 use Rattle.field_walk.specs.declared.Begun.the-variants as B

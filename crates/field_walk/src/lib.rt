@@ -33,12 +33,6 @@ struct Held {
     sure: usize,
 }
 
-fn long(x: u16) -> usize
-    ensures { λ r. ⌜ (r ≡ x) × (r < 65536) ⌝ }
-{
-    x as usize
-}
-
 // An array tells how long it is.
 fn tell(cuts: [u16; KEPT])
     ensures { λ _. ⌜ length cuts ≡ mostKept ⌝ }
@@ -86,7 +80,7 @@ fn last(bytes: &[u8], from: usize, to: usize, cuts: &mut [u16; KEPT], depth: usi
 {
     tell(*cuts);
     let first = depth - 1;
-    let mut at = long(cuts[first]);
+    let mut at = fields::long(cuts[first]);
     let mut d = depth;
     let mut due: usize = 0;
     let mut all = true;
@@ -102,7 +96,7 @@ fn last(bytes: &[u8], from: usize, to: usize, cuts: &mut [u16; KEPT], depth: usi
                     sure: first,
                 };
             }
-            if long(cuts[top]) == at {
+            if fields::long(cuts[top]) == at {
                 return Held {
                     depth: d,
                     sure: top,
@@ -187,7 +181,7 @@ pub fn seek(bytes: &[u8], w: Walk, reversed: bool, cuts: &mut [u16; KEPT]) -> Wa
         if w.sure < w.depth {
             tell(*cuts);
             let below = w.depth - 1;
-            let top = long(cuts[below]);
+            let top = fields::long(cuts[below]);
             return Walk {
                 at,
                 to,
@@ -199,7 +193,7 @@ pub fn seek(bytes: &[u8], w: Walk, reversed: bool, cuts: &mut [u16; KEPT]) -> Wa
         let held = last(bytes, at, to, cuts, w.depth);
         tell(*cuts);
         let depth = held.depth - 1;
-        let here = long(cuts[depth]);
+        let here = fields::long(cuts[depth]);
         return Walk {
             at,
             to,

@@ -5,7 +5,7 @@ use mathlib.Core.List.{List, [], _∷_, _++_, map}
 use mathlib.Core.Bool.{Bool, true, false}
 use lib.ListN.{length, take, getD}
 use Rattle.language.specs.Tree.{Top}
-use Rattle.language.specs.Limits.{mostFamilies, mostRegisters, longestProgram}
+use Rattle.language.specs.Limits.{mostFamilies, mostRegisters, mostWires, longestProgram}
 use Rattle.language.specs.Read.{read, readTop, twoBytes}
 use Rattle.language.specs.Check.{Declared, check, good}
 use Rattle.language.specs.Machine.{Meaning, wires, bits, Globals, Family, allDeclared}
@@ -52,7 +52,7 @@ sizeIn p = twoBytes (getD p 0 0) (getD p 1 0)
 pub record RegisterRoom (p : List ℕ) (count total : ℕ) : Type 0 where
   pub long : 2 ≤ length p
   pub few : count < mostRegisters
-  pub fits : total + sizeIn p ≤ 65535
+  pub fits : total + sizeIn p ≤ mostWires
 
 -- a program that the check accepts, and that is no longer than a program may be
 pub record Acceptable (l : List ℕ) : Type 0 where
@@ -64,7 +64,7 @@ pub record Acceptable (l : List ℕ) : Type 0 where
 pub record DeclareReady (tag : ℕ) (p : List ℕ) (t : Totals) : Type 0 where
   pub least : 1 ≤ tag
   pub most : tag ≤ 3
-  pub family : tag ≡ 1 → t .families < 255
+  pub family : tag ≡ 1 → t .families < mostFamilies
   pub quantum : tag ≡ 2 → RegisterRoom p (t .registers) (t .qubits)
   pub classical : tag ≡ 3 → RegisterRoom p (t .registers) (t .bits)
 

@@ -6,9 +6,11 @@ ghost use mathlib.Core.Option.{some};
 ghost use Prim.Native.Nat.{ℕ, _+_, _*_, _≤_, _<_};
 ghost use lib.ListN.{length, take, getElem?};
 ghost use lib.Seq.{slice};
+ghost use Rattle.language.specs.Limits.{mostFamilies, mostRegisters, mostVariables, longestProgram};
 ghost use Rattle.language.specs.Read.{field, fields, read, readTop};
 ghost use Rattle.language.specs.Machine.{actTop, whenBit, runTops, runProgram, nothingYet, allDeclared, instanceRun};
 ghost use Rattle.language.specs.Result.{conclusionOf, instanceOf};
+ghost use Rattle.indexes.specs.Values.{mostValues};
 ghost use Rattle.operands.specs.Meanings.{theBit, registersOf};
 ghost use Rattle.records.specs.Outcomes.{Does, conditionOf};
 ghost use Rattle.gates.specs.Gates.{frameIn};
@@ -17,19 +19,23 @@ ghost use Rattle.unroller.specs.Runs.{listRun};
 ghost use Rattle.runs.specs.Whole.{totalOf, moreLocations, registerFrom, sizeIn, RegisterRoom, Acceptable, moreFamilies, DeclareReady, Declares, DeclaringTag, FullTable, started, familyWith};
 ghost use Rattle.runs.specs.TopFields.{globalsIn, topMode, underMode, ifAt, WholeField, IfReady, ActReady};
 ghost use Rattle.runs.specs.Conclusions.{concluded};
+use fields::Header;
+use gates::LEVELS;
+use gates::Mode;
+use indexes::VALUES;
+use layout::Layout;
+use layout::Sizes;
+use limits::MOST_FAMILIES;
+use operands::Bit;
+use operands::BitMeaning;
+use operands::REGISTER_NUMBERS;
+use operands::Scope;
 use records::Answer;
 use records::Condition;
 use records::State;
-use fields::Header;
-use gates::Mode;
-use layout::Layout;
-use layout::Sizes;
-use operands::Bit;
-use operands::BitMeaning;
-use operands::Operand;
-use operands::Parameter;
-use operands::Scope;
-use operands::Wire;
+
+// Levels of nested statements under a condition.
+const UNDER_CONDITION: u8 = LEVELS - 1;
 
 // How much a program has declared so far: families, registers, qubits and bits.
 pub struct Totals {
@@ -40,12 +46,12 @@ pub struct Totals {
 }
 
 // Declares the register with this content: it goes to the table.
-fn register(p: &[u8], quantum: bool, t: Totals, regs: &mut [u16; 765]) -> Totals
-    requires { ⌜ RegisterRoom (now p) (t .registers) (totalOf quantum t) ⌝ }
-    ensures { λ r. ⌜ r ≡ moreLocations quantum t (sizeIn (now (p .entry))) ⌝ }
-    ensures { λ _. ⌜ registersOf (take (3 * (t .registers + 1)) (now (regs .exit))) ≡ registersOf (take (3 * t .registers) (now (regs .entry))) ++ (registerFrom quantum (totalOf quantum t) (sizeIn (now (p .entry))) ∷ []) ⌝ }
+fn register(content: &[u8], quantum: bool, t: Totals, regs: &mut [u16; REGISTER_NUMBERS]) -> Totals
+    requires { ⌜ RegisterRoom (now content) (t .registers) (totalOf quantum t) ⌝ }
+    ensures { λ r. ⌜ r ≡ moreLocations quantum t (sizeIn (now (content .entry))) ⌝ }
+    ensures { λ _. ⌜ registersOf (take (3 * (t .registers + 1)) (now (regs .exit))) ≡ registersOf (take (3 * t .registers) (now (regs .entry))) ++ (registerFrom quantum (totalOf quantum t) (sizeIn (now (content .entry))) ∷ []) ⌝ }
 {
-    let n = fields::two_bytes(p, 0);
+    let n = fields::two_bytes(content, 0);
     let count = t.registers;
     let registers = count + 1;
     if quantum {
@@ -72,13 +78,10 @@ fn register(p: &[u8], quantum: bool, t: Totals, regs: &mut [u16; 765]) -> Totals
 
 // The scope at the top: the first so many registers of the table.
 fn top_scope(registers: usize) -> Scope
-    requires { ⌜ registers ≤ 255 ⌝ }
+    requires { ⌜ registers ≤ mostRegisters ⌝ }
     ensures { λ r. ⌜ (r .top ≡ true) × (r .count ≡ registers) ⌝ }
 {
-    let none = Parameter {
-        operand: Operand::Single(Wire(0)),
-    };
-    let params = [none; 8];
+    let params = operands::no_parameters();
     let count = registers as u8;
     Scope {
         params,
@@ -105,7 +108,7 @@ fn top_mode(limit: u64, seen: u16, many: u8) -> Mode
     Mode {
         limit,
         families_visible: seen,
-        levels: 16,
+        levels: LEVELS,
         variables: many,
         reversed: false,
         condition: Condition::Always,
@@ -119,7 +122,7 @@ fn under_mode(limit: u64, seen: u16, condition: Condition) -> Mode
     Mode {
         limit,
         families_visible: seen,
-        levels: 15,
+        levels: UNDER_CONDITION,
         variables: 0,
         reversed: false,
         condition,
@@ -131,16 +134,16 @@ fn once(
     program: &[u8],
     from: usize,
     to: usize,
-    vars: &mut [i32; 20],
+    vars: &mut [i32; VALUES],
     scope: Scope,
-    regs: &[u16; 765],
-    table: &[u16; 255],
+    regs: &[u16; REGISTER_NUMBERS],
+    table: &[u16; MOST_FAMILIES],
     mode: Mode,
     st: State,
     out: &mut [u8],
 ) -> Answer
     requires { ⌜ (from ≤ to) × (to ≤ length (now program)) ⌝ }
-    requires { ⌜ mode .variables + mode .levels ≤ 20 ⌝ }
+    requires { ⌜ mode .variables + mode .levels ≤ mostValues ⌝ }
     requires { ⌜ Tabled (now program) (now table) (mode .«families_visible») ⌝ }
     ensures { λ r. ⌜ Does (now (out .entry)) st (now (out .exit)) r (listRun mode (length (now (out .entry))) from (slice from to (now (program .entry))) (now (program .entry)) (frameIn mode (take (mode .variables) (now (vars .entry))) scope (now (regs .entry)))) ⌝ }
 {
@@ -171,8 +174,8 @@ fn conditional(
     to: usize,
     seen: u16,
     scope: Scope,
-    regs: &[u16; 765],
-    table: &[u16; 255],
+    regs: &[u16; REGISTER_NUMBERS],
+    table: &[u16; MOST_FAMILIES],
     limit: u64,
     st: State,
     out: &mut [u8],
@@ -182,7 +185,7 @@ fn conditional(
     requires { ⌜ Tabled (now program) (now table) seen ⌝ }
     ensures { λ r. ⌜ Does (now (out .entry)) st (now (out .exit)) r (ifAt limit (length (now (out .entry))) at (slice (at + 3) to (now (program .entry))) (take seen (allDeclared limit (length (now (out .entry))) (read (now (program .entry))) [])) (frameIn (topMode limit seen 0) [] scope (now (regs .entry)))) ⌝ }
 {
-    let mut vars = [0i32; 20];
+    let mut vars = [0i32; VALUES];
     let from = at + 3;
     let first = from + 1;
     let Header::Whole(_, mid) = fields::header_at(program, first, to) else {
@@ -207,34 +210,28 @@ fn act(
     next: usize,
     tag: u8,
     t: Totals,
-    regs: &[u16; 765],
-    table: &[u16; 255],
+    regs: &[u16; REGISTER_NUMBERS],
+    table: &[u16; MOST_FAMILIES],
     limit: u64,
     st: State,
     out: &mut [u8],
 ) -> Answer
     requires { ⌜ ActReady tag (slice (at + 3) next (now program)) × WholeField (now program) at next ⌝ }
     requires { ⌜ fields at (slice at next (now program)) ≡ (field at tag (slice (at + 3) next (now program)) ∷ []) ⌝ }
-    requires { ⌜ (t .registers ≤ 255) × (t .families ≤ 255) ⌝ }
+    requires { ⌜ (t .registers ≤ mostRegisters) × (t .families ≤ mostFamilies) ⌝ }
     requires { ⌜ Tabled (now program) (now table) (t .families) ⌝ }
     ensures { λ r. ⌜ ((q b : ℕ) → Does (now (out .entry)) st (now (out .exit)) r (actTop limit (length (now (out .entry))) (readTop (field at tag (slice (at + 3) next (now (program .entry))))) (globalsIn limit (length (now (out .entry))) (now (program .entry)) (t .families) (take (3 * t .registers) (now (regs .entry))) q b))) ⌝ }
 {
-    let mut vars = [0i32; 20];
+    let mut vars = [0i32; VALUES];
     let seen = t.families as u16;
     let scope = top_scope(t.registers);
     let mode = top_mode(limit, seen, 0);
     if tag == 0 || 6 < tag {
         return once(program, at, next, &mut vars, scope, regs, table, mode, st, out);
     }
-    let steps = st.steps;
-    if limit <= steps {
-        let here = at as u16;
-        return Answer::Ended(26, here, st);
-    }
-    let taken = steps + 1;
-    let s = State {
-        written: st.written,
-        steps: taken,
+    let r = records::take_step(limit, at, st);
+    let Answer::Going(s) = r else {
+        return r;
     };
     let from = at + 3;
     if tag == 4 {
@@ -248,7 +245,7 @@ fn act(
 
 // One family more.
 fn more_families(t: Totals) -> Totals
-    requires { ⌜ t .families < 255 ⌝ }
+    requires { ⌜ t .families < mostFamilies ⌝ }
     ensures { λ r. ⌜ r ≡ moreFamilies t ⌝ }
 {
     let families = t.families + 1;
@@ -261,17 +258,17 @@ fn more_families(t: Totals) -> Totals
 }
 
 // Declares what the top field with this tag and content declares.
-fn declare(p: &[u8], tag: u8, t: Totals, regs: &mut [u16; 765]) -> Totals
-    requires { ⌜ DeclareReady tag (now p) t ⌝ }
-    ensures { λ r. ⌜ Declares tag (now (p .entry)) t (now (regs .entry)) (now (regs .exit)) r ⌝ }
+fn declare(content: &[u8], tag: u8, t: Totals, regs: &mut [u16; REGISTER_NUMBERS]) -> Totals
+    requires { ⌜ DeclareReady tag (now content) t ⌝ }
+    ensures { λ r. ⌜ Declares tag (now (content .entry)) t (now (regs .entry)) (now (regs .exit)) r ⌝ }
 {
     if tag == 1 {
         return more_families(t);
     }
     if tag == 2 {
-        return register(p, true, t, regs);
+        return register(content, true, t, regs);
     }
-    register(p, false, t, regs)
+    register(content, false, t, regs)
 }
 
 // Whether a top field with this tag declares something.
@@ -285,7 +282,7 @@ fn is_declaring(tag: u8) -> bool
 }
 
 fn narrow(n: usize) -> u16
-    requires { ⌜ n ≤ 65535 ⌝ }
+    requires { ⌜ n ≤ longestProgram ⌝ }
     ensures { λ r. ⌜ r ≡ n ⌝ }
 {
     n as u16
@@ -294,8 +291,8 @@ fn narrow(n: usize) -> u16
 // Runs the top fields of a program, one after the other. The table of families is full, and that of registers is filled.
 fn top_fields(
     program: &[u8],
-    table: &[u16; 255],
-    regs: &mut [u16; 765],
+    table: &[u16; MOST_FAMILIES],
+    regs: &mut [u16; REGISTER_NUMBERS],
     limit: u64,
     out: &mut [u8],
 ) -> Answer
@@ -318,9 +315,9 @@ fn top_fields(
             Header::Cut => return Answer::Stuck,
             Header::Whole(tag, next) => {
                 let from = at + 3;
-                let p = &program[from..next];
+                let content = &program[from..next];
                 if is_declaring(tag) {
-                    t = declare(p, tag, t, regs);
+                    t = declare(content, tag, t, regs);
                     at = next;
                     continue;
                 }
@@ -340,8 +337,8 @@ pub fn run(program: &[u8], limit: u64, out: &mut [u8]) -> Answer
     requires { ⌜ Acceptable (now program) ⌝ }
     ensures { λ r. ⌜ concluded (now (out .exit)) r ≡ conclusionOf (now (out .entry)) (runProgram limit (length (now (out .entry))) (read (now (program .entry)))) ⌝ }
 {
-    let mut table = [0u16; 255];
-    let mut regs = [0u16; 765];
+    let mut table = [0u16; MOST_FAMILIES];
+    let mut regs = [0u16; REGISTER_NUMBERS];
     fields::families(program, &mut table);
     top_fields(program, &table, &mut regs, limit, out)
 }
@@ -351,15 +348,15 @@ fn placed(
     program: &[u8],
     at: usize,
     k: u16,
-    table: &[u16; 255],
-    values: &mut [i32; 20],
+    table: &[u16; MOST_FAMILIES],
+    values: &mut [i32; VALUES],
     many: u8,
     limit: u64,
     out: &mut [u8],
 ) -> Answer
     requires { ⌜ Entry (now program) k at ⌝ }
     requires { ⌜ Tabled (now program) (now table) k ⌝ }
-    requires { ⌜ many ≤ 4 ⌝ }
+    requires { ⌜ many ≤ mostVariables ⌝ }
     ensures { λ r. ⌜ Does (now (out .entry)) started (now (out .exit)) r (instanceRun (familyWith limit (length (now (out .entry))) (now (program .entry)) k at) (take many (now (values .entry)))) ⌝ }
 {
     let st = State { written: 0, steps: 0 };
@@ -369,19 +366,19 @@ fn placed(
     let laid = layout::lay_out(program, from, to, count, values, fields::wide(many));
     let answer = laid.answer;
     match answer {
-        Layout::Past(p) => {
-            let past = p as u16;
+        Layout::Past(place) => {
+            let past = place as u16;
             Answer::Ended(23, past, st)
         }
-        Layout::Over(p) => {
-            let over = p as u16;
+        Layout::Over(place) => {
+            let over = place as u16;
             Answer::Ended(24, over, st)
         }
         Layout::Stuck => Answer::Stuck,
         Layout::Done => {
             let body = calls::body_start(program, at);
             let mode = top_mode(limit, k, many);
-            let none = [0u16; 765];
+            let none = [0u16; REGISTER_NUMBERS];
             let scope = laid.scope;
             once(program, body, to, values, scope, &none, table, mode, st, out)
         }
@@ -393,7 +390,7 @@ fn sized(
     program: &[u8],
     at: usize,
     k: u16,
-    table: &[u16; 255],
+    table: &[u16; MOST_FAMILIES],
     sizes: &[u8],
     limit: u64,
     out: &mut [u8],
@@ -405,7 +402,7 @@ fn sized(
     let none = State { written: 0, steps: 0 };
     let many = program[at + 3];
     let mode = fields::wide(many);
-    let mut values = [0i32; 20];
+    let mut values = [0i32; VALUES];
     match layout::read_sizes(sizes, mode, &mut values) {
         Sizes::WrongLength => Answer::Ended(21, 0, none),
         Sizes::TooLarge => Answer::Ended(22, 0, none),
@@ -413,22 +410,16 @@ fn sized(
     }
 }
 
-fn long(x: u16) -> usize
-    ensures { λ r. ⌜ r ≡ x ⌝ }
-{
-    x as usize
-}
-
 // An instance of a family of an accepted program.
 pub fn instance(program: &[u8], family: usize, sizes: &[u8], limit: u64, out: &mut [u8]) -> Answer
     requires { ⌜ Acceptable (now program) ⌝ }
     ensures { λ r. ⌜ concluded (now (out .exit)) r ≡ instanceOf (getElem? (allDeclared limit (length (now (out .entry))) (read (now (program .entry))) []) family) (now (sizes .entry)) (now (out .entry)) ⌝ }
 {
-    let mut table = [0u16; 255];
+    let mut table = [0u16; MOST_FAMILIES];
     let n = fields::families(program, &mut table);
     if n <= family {
         return Answer::Ended(20, 0, State { written: 0, steps: 0 });
     }
-    let at = long(table[family]);
+    let at = fields::long(table[family]);
     sized(program, at, narrow(family), &table, sizes, limit, out)
 }

@@ -14,10 +14,8 @@ use Rattle.language.specs.Machine.{Run, Frame, Direction, forward, backward, no
 use Rattle.language.proofs.Runs.{run-joined, statements-split, then-done, done-then}
 use Rattle.language.proofs.Integers.{clash}
 use Rattle.fields.specs.declared.Header.the-variants.{Whole}
-use Rattle.fields.specs.declared.Counted.{Counted}
-use Rattle.fields.specs.declared.Counted.the-variants.{Many, Broken}
 use Rattle.fields.specs.Header.{fieldsAt, headerOf}
-use Rattle.fields.specs.Count.{counted}
+use Rattle.fields.specs.Count.{Counted, Many, Broken, counted}
 use Rattle.fields.proofs.Header.{the-type}
 use Rattle.fields.proofs.Reading.{slice-none}
 use Rattle.fields.proofs.Parts.{not-first}

@@ -4,7 +4,7 @@ use Rattle.field_walk.proofs.last.Reads as reads
 use Rattle.field_walk.proofs.last.Lts as lts
 use Rattle.fields.proofs.header_at.Reads as header-at-reads
 use Rattle.field_walk.proofs.later.Reads as later-reads
-use Rattle.field_walk.proofs.long.Reads as long-reads
+use Rattle.fields.proofs.long.Reads as long-reads
 use Rattle.field_walk.proofs.skipped.Reads as skipped-reads
 use Rattle.field_walk.proofs.spaced.Reads as spaced-reads
 use Rattle.field_walk.proofs.tell.Reads as tell-reads

@@ -4,7 +4,7 @@ use Rattle.field_walk.proofs.seek.Tie as tie
 use Rattle.field_walk.proofs.seek.Reads as reads
 use Rattle.field_walk.proofs.seek.Lts as lts
 use Rattle.field_walk.proofs.last.Reads as last-reads
-use Rattle.field_walk.proofs.long.Reads as long-reads
+use Rattle.fields.proofs.long.Reads as long-reads
 use Rattle.field_walk.proofs.tell.Reads as tell-reads
 use Prim.Native.Nat.{suc, _≤_, _<_, _-_, _+_}
 use native.Mathlib.Omega.{arith}

@@ -30,7 +30,7 @@ add-registers c =
 cast-declare : tie.Need-cast-declare
 cast-declare c =
     let a = c .before .before .before .before .args in
-    omega (arith, quantum-fits (a .quantum) (a .t) (now (a .p)) (c .before .before .before .before .pre) (c .before .before .two-bytes .result) (c .before .before .two-bytes .ensures .0) (c .before .if1 .taken), c .before .before .two-bytes .ensures .1)
+    omega (arith, quantum-fits (a .quantum) (a .t) (now (a .content)) (c .before .before .before .before .pre) (c .before .before .two-bytes .result) (c .before .before .two-bytes .ensures .0) (c .before .if1 .taken), c .before .before .two-bytes .ensures .1)
 
 -- src/lib.rt:53:57
 cast-declare-2 : tie.Need-cast-declare-2
@@ -46,19 +46,19 @@ declare-requires c κs =
 add-qubits : tie.Need-add-qubits
 add-qubits c =
     let a = c .before .before .before .before .before .args in
-    omega (arith, quantum-fits (a .quantum) (a .t) (now (a .p)) (c .before .before .before .before .before .pre) (c .before .before .before .two-bytes .result) (c .before .before .before .two-bytes .ensures .0) (c .before .before .if1 .taken), c .before .before .before .two-bytes .ensures .1)
+    omega (arith, quantum-fits (a .quantum) (a .t) (now (a .content)) (c .before .before .before .before .before .pre) (c .before .before .before .two-bytes .result) (c .before .before .before .two-bytes .ensures .0) (c .before .before .if1 .taken), c .before .before .before .two-bytes .ensures .1)
 
 -- src/lib.rt:55:9
 returns : tie.Need-returns
 returns c =
     let a = c .before .before .before .before .before .args in
-    (quantum-more (a .quantum) (a .t) (now (a .p)) (c .before .before .before .before .before .pre) (c .before .before .before .two-bytes .result) (c .before .before .before .two-bytes .ensures .0) (c .before .before .if1 .taken), c .declare .ensures ∙ ap (λ (m : Meaning). registersOf (take (3 * a .t .registers) (now (a .regs))) ++ (m ∷ [])) (quantum-row (a .quantum) (a .t) (now (a .p)) (c .before .before .before .before .before .pre) (c .before .before .before .two-bytes .result) (c .before .before .before .two-bytes .ensures .0) (c .before .before .if1 .taken)))
+    (quantum-more (a .quantum) (a .t) (now (a .content)) (c .before .before .before .before .before .pre) (c .before .before .before .two-bytes .result) (c .before .before .before .two-bytes .ensures .0) (c .before .before .if1 .taken), c .declare .ensures ∙ ap (λ (m : Meaning). registersOf (take (3 * a .t .registers) (now (a .regs))) ++ (m ∷ [])) (quantum-row (a .quantum) (a .t) (now (a .content)) (c .before .before .before .before .before .pre) (c .before .before .before .two-bytes .result) (c .before .before .before .two-bytes .ensures .0) (c .before .before .if1 .taken)))
 
 -- src/lib.rt:63:39
 cast-declare-3 : tie.Need-cast-declare-3
 cast-declare-3 c =
     let a = c .before .before .before .before .args in
-    omega (arith, classical-fits (a .quantum) (a .t) (now (a .p)) (c .before .before .before .before .pre) (c .before .before .two-bytes .result) (c .before .before .two-bytes .ensures .0) (c .before .if1 .left), c .before .before .two-bytes .ensures .1)
+    omega (arith, classical-fits (a .quantum) (a .t) (now (a .content)) (c .before .before .before .before .pre) (c .before .before .two-bytes .result) (c .before .before .two-bytes .ensures .0) (c .before .if1 .left), c .before .before .two-bytes .ensures .1)
 
 -- src/lib.rt:63:53
 cast-declare-4 : tie.Need-cast-declare-4
@@ -74,13 +74,13 @@ declare-requires-2 c κs =
 add-bits : tie.Need-add-bits
 add-bits c =
     let a = c .before .before .before .before .before .args in
-    omega (arith, classical-fits (a .quantum) (a .t) (now (a .p)) (c .before .before .before .before .before .pre) (c .before .before .before .two-bytes .result) (c .before .before .before .two-bytes .ensures .0) (c .before .before .if1 .left), c .before .before .before .two-bytes .ensures .1)
+    omega (arith, classical-fits (a .quantum) (a .t) (now (a .content)) (c .before .before .before .before .before .pre) (c .before .before .before .two-bytes .result) (c .before .before .before .two-bytes .ensures .0) (c .before .before .if1 .left), c .before .before .before .two-bytes .ensures .1)
 
 -- src/lib.rt:43:1
 returns-2 : tie.Need-returns-2
 returns-2 c =
     let a = c .before .before .before .before .before .args in
-    (classical-more (a .quantum) (a .t) (now (a .p)) (c .before .before .before .before .before .pre) (c .before .before .before .two-bytes .result) (c .before .before .before .two-bytes .ensures .0) (c .before .before .if1 .left), c .declare2 .ensures ∙ ap (λ (m : Meaning). registersOf (take (3 * a .t .registers) (now (a .regs))) ++ (m ∷ [])) (classical-row (a .quantum) (a .t) (now (a .p)) (c .before .before .before .before .before .pre) (c .before .before .before .two-bytes .result) (c .before .before .before .two-bytes .ensures .0) (c .before .before .if1 .left)))
+    (classical-more (a .quantum) (a .t) (now (a .content)) (c .before .before .before .before .before .pre) (c .before .before .before .two-bytes .result) (c .before .before .before .two-bytes .ensures .0) (c .before .before .if1 .left), c .declare2 .ensures ∙ ap (λ (m : Meaning). registersOf (take (3 * a .t .registers) (now (a .regs))) ++ (m ∷ [])) (classical-row (a .quantum) (a .t) (now (a .content)) (c .before .before .before .before .before .pre) (c .before .before .before .two-bytes .result) (c .before .before .before .two-bytes .ensures .0) (c .before .before .if1 .left)))
 
 pub register-spec : {M : Type 1} → statement M
 register-spec =
