@@ -15,7 +15,7 @@ use Rattle.language.specs.Result.{writtenInto}
 use Rattle.records.specs.declared.State.{State}
 use Rattle.records.specs.declared.Answer.{Answer}
 use Rattle.records.specs.declared.Answer.the-variants.{Going, Ended, Stuck}
-use Rattle.records.specs.Outcomes.{FlatOutcome, going, ended, stuck, answerTold, flatOutcome, Holds, Does, Leads, stateOf}
+use Rattle.records.specs.Outcomes.{FlatOutcome, going, ended, stuck, answerTold, flatOutcome, Holds, Does, Leads, OneStep, Stepped, stateOf}
 use Rattle.records.proofs.Answer.{the-type}
 
 pub not-first : OneOf (1 ∷ 2 ∷ []) 0 → ⊥
@@ -72,3 +72,15 @@ unfolding step _>>_ after
 step-taken limit room l st t p next x q h e f d lent rs w = simp (lt-ltb (st .steps) limit h)
     (let z : st .steps + 1 ≡ suc (st .steps) = omega arith in
     d lent rs (record { output = w .output; size = w .size ∙ sym e }) ∙ ap (λ (n : ℕ). flatOutcome lent (next (record { records = rs; steps = n }))) (f ∙ z))
+
+-- what taking a step answers, and what comes after it
+pub stepped-stops : (limit room : ℕ) (l : List ℕ) (st : State) (p : Place) (next : Run (Unit {0})) (r : Answer) → Stepped limit p st r → OneOf (1 ∷ 2 ∷ []) (tagOf the-type r)
+    → Does l st l r (step limit room p >> next)
+unfolding Stepped
+stepped-stops limit room l st p next (Going t) h k = absurd (not-first k)
+stepped-stops limit room l st p next (Ended n q t) h k = rw (h .number, h .here, h .same) (step-full limit room l st p next (h .none))
+stepped-stops limit room l st p next Stuck h k = absurd h
+
+pub stepped-goes : (limit : ℕ) (p : Place) (st t : State) (r : Answer) → Stepped limit p st r → r ≡ Going t → OneStep limit st t
+unfolding Stepped
+stepped-goes limit p st t r h e = rw e at h

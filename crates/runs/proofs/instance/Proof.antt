@@ -4,7 +4,7 @@ use Rattle.runs.proofs.instance.Tie as tie
 use Rattle.runs.proofs.instance.Reads as reads
 use Rattle.runs.proofs.instance.Lts as lts
 use Rattle.fields.proofs.families.Reads as families-reads
-use Rattle.runs.proofs.long.Reads as long-reads
+use Rattle.fields.proofs.long.Reads as long-reads
 use Rattle.runs.proofs.narrow.Reads as narrow-reads
 use Rattle.runs.proofs.sized.Reads as sized-reads
 use borrow.Author.Needs.{needs}
@@ -65,7 +65,7 @@ sized-requires c κs =
     let p = c .before .before .before .before .before .before .before .before .before .before .before .pre in
     let table = c .before .before .before .before .before .before .families .last .1 .0 in
     let T = tabled l table (c .before .before .before .before .before .before .families .result) (p .declares) (p .accepted) (p .short) (c .before .before .before .before .before .before .families .ensures .0) in
-    (rw (c .before .before .narrow .ensures, c .before .before .before .long .ensures) (T .each (a .family) (omega (arith, c .before .before .before .before .if1 .left))), rw (c .before .before .narrow .ensures) (tabled-fewer l table (c .before .before .before .before .before .before .families .result) (a .family) (omega (arith, c .before .before .before .before .if1 .left)) T))
+    (rw (c .before .before .narrow .ensures, c .before .before .before .long .ensures .0) (T .each (a .family) (omega (arith, c .before .before .before .before .if1 .left))), rw (c .before .before .narrow .ensures) (tabled-fewer l table (c .before .before .before .before .before .before .families .result) (a .family) (omega (arith, c .before .before .before .before .if1 .left)) T))
 
 -- src/lib.rt:459:1
 same-length : tie.Need-same-length
@@ -82,7 +82,7 @@ returns-2 c =
     let T = tabled l table (c .before .before .before .before .before .before .before .before .before .families .result) (p .declares) (p .accepted) (p .short) (c .before .before .before .before .before .before .before .before .before .families .ensures .0) in
     let room = length (now (a .out)) in
     let e = T .each (a .family) (omega (arith, c .before .before .before .before .before .before .before .if1 .left)) in
-    rw (c .before .before .before .before .before .narrow .ensures, c .before .before .before .before .before .before .long .ensures) at (c .before .before .sized .ensures) ∙ ap (λ o. instanceOf o (now (a .sizes)) (now (a .out))) (sym (family-is (a .limit) room l (a .family) (getD table (a .family) 0) e))
+    rw (c .before .before .before .before .before .narrow .ensures, c .before .before .before .before .before .before .long .ensures .0) at (c .before .before .sized .ensures) ∙ ap (λ o. instanceOf o (now (a .sizes)) (now (a .out))) (sym (family-is (a .limit) room l (a .family) (getD table (a .family) 0) e))
 
 pub instance-spec : {M : Type 1} → statement M
 instance-spec =

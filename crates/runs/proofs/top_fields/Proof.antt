@@ -90,8 +90,8 @@ add-from c =
     omega (arith, w .low, w .high)
 
 -- src/lib.rt:332:25
-sub-p : tie.Need-sub-p Inv-loop μ-loop
-sub-p c =
+sub-content : tie.Need-sub-content Inv-loop μ-loop
+sub-content c =
     let a = c .before .before .before .before .before .before .before .args in
     let l = now (a .program) in
     let i = c .before .before .before .before .loop in
@@ -102,8 +102,8 @@ sub-p c =
     omega (arith, w .low, w .high)
 
 -- src/lib.rt:332:25
-part-p-start : tie.Need-part-p-start Inv-loop μ-loop
-part-p-start c =
+part-content-start : tie.Need-part-content-start Inv-loop μ-loop
+part-content-start c =
     let a = c .before .before .before .before .before .before .before .args in
     let l = now (a .program) in
     let i = c .before .before .before .before .loop in
@@ -114,8 +114,8 @@ part-p-start c =
     omega (arith, w .low, w .high)
 
 -- src/lib.rt:332:25
-part-p-end : tie.Need-part-p-end Inv-loop μ-loop
-part-p-end c =
+part-content-end : tie.Need-part-content-end Inv-loop μ-loop
+part-content-end c =
     let a = c .before .before .before .before .before .before .before .args in
     let l = now (a .program) in
     let i = c .before .before .before .before .loop in
@@ -240,9 +240,9 @@ top-fields-spec =
     returns-2
     enum-known-tag
     add-from
-    sub-p
-    part-p-start
-    part-p-end
+    sub-content
+    part-content-start
+    part-content-end
     is-declaring-requires
     declare-requires
     loop-less
