@@ -1,4 +1,4 @@
--- A parameter's size is a form in the family's variables alone, so that five numbers keep it. Assumes nothing.
+-- A parameter's size is a form in the family's variables alone, so that a size in a table keeps it. Assumes nothing.
 use mathlib.Core.Path.{_≡_, refl, sym, ap, _∙_, subst}
 use mathlib.Core.List.{List, [], _∷_}
 use mathlib.Core.Bool.{Bool, true, false}
@@ -94,7 +94,7 @@ zeros-all : (l : List ℤ) → Zeros l → l ≡ replicate (length l) (pos 0)
 zeros-all [] z = refl
 zeros-all (c ∷ cs) (also e z) = λ i. e i ∷ zeros-all cs z i
 
--- beyond its first five numbers, the list of such a form has only zeros
+-- beyond the numbers of such a size, the list of such a form has only zeros
 pub narrow : (r : TypeRead) (n : ℕ) (l : List ℤ) (s : Scope) (x : ParameterType) → r ≡ Many n → Kept l → checkedType r l ≡ kindOf s x → s .variables + length (s .loops) ≤ 4 → drop 5 l ≡ replicate 8 (pos 0)
 unfolding checkedType asForm
 narrow r n l s x u k e h = by l k (subst (λ (c : Checked Kind). FewKind 4 c) (sym e ∙ ap (λ (y : TypeRead). checkedType y l) u) (kind-few 4 s x h))

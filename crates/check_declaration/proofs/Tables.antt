@@ -10,7 +10,7 @@ use lib.ListN.{length, getD, set, length-set}
 use lib.Seq.{getD-set-same, getD-set-other}
 use borrow.Author.Tests.{eqb-true, eqb-false}
 use Rattle.language.specs.Form.{Form}
-use Rattle.kinds.specs.Numbers.{numberOf, kindWith, kind-back}
+use Rattle.kinds.specs.Numbers.{numberOf, kind-back}
 use Rattle.kinds.specs.declared.Kind.{Kind}
 use Rattle.forms.specs.Flat.{Short, widened, asForm}
 use Rattle.forms.specs.Rows.{ShortRows}

@@ -23,7 +23,7 @@ indexReader part Variable = readVariable
 indexReader part (Both o) = ofFields (operationOf part (treeOperation o))
 indexReader part Other = λ q rest. badIndex 3 q
 
--- a tag says this of an index field
+-- what a tag says of an index field: it is read so
 abbrev pub IndexSays : ℕ → IndexTag → Type 0
 IndexSays tag k = (part : Field → Index) (p : ℕ) (content : List ℕ) → indexBy part (field p tag content) ≡ indexReader part k p content
 

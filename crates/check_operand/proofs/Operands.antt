@@ -19,7 +19,7 @@ use Rattle.fields.proofs.Reading.{Wholly}
 use Rattle.forms.specs.Flat.{asForm}
 use Rattle.check_index.proofs.Read.{the-type}
 use Rattle.check_index.specs.Answers.{checkedForm, PastField, checkedPart}
-use Rattle.check_operand.specs.Operands.{sizeKnown}
+use Rattle.check_operand.specs.Operands.{checkedSize}
 use Rattle.check_index.specs.declared.Read.{Read}
 use Rattle.check_index.specs.declared.Read.the-variants.{Upto, Refused}
 use Rattle.check_index.proofs.Answers.{not-first, more-left, none-left, form-stops, checked-then, drop-two, part-stops, part-went}
@@ -122,20 +122,20 @@ module _ (s : C.Scope) (d : C.Due) (at : ℕ) (content : List ℕ) where
         element-good h = sym (element-end ∙ ap (λ (x : T.Ending). noLeftover at x >> sized k (asForm l)) (none-left program end next h))
 
 -- an element, from the answer on its kind
-module _ (s : C.Scope) (d : C.Due) (at : ℕ) (k : Kind) (size f : Form) (r : Read) (e : sizeKnown r size ≡ elementSize at d k) where
+module _ (s : C.Scope) (d : C.Due) (at : ℕ) (k : Kind) (size f : Form) (r : Read) (e : checkedSize r size ≡ elementSize at d k) where
   pub kind-stops : OneOf (1 ∷ []) (tagOf the-type r) → checkedPart r ≡ (elementSize at d k >>= λ size. checkWithin at s size f)
-  unfolding sizeKnown checkedPart _>>=_
+  unfolding checkedSize checkedPart _>>=_
   kind-stops h = by r h ∙ ap (λ (c : Checked Form). c >>= λ size. checkWithin at s size f) e
     where
-      by : (r : Read) → OneOf (1 ∷ []) (tagOf the-type r) → checkedPart r ≡ (sizeKnown r size >>= λ size. checkWithin at s size f)
+      by : (r : Read) → OneOf (1 ∷ []) (tagOf the-type r) → checkedPart r ≡ (checkedSize r size >>= λ size. checkWithin at s size f)
       by (Upto n) h = not-first h
       by (Refused n p) h = refl
 
   pub kind-goes : OneOf (0 ∷ []) (tagOf the-type r) → checkWithin at s size f ≡ (elementSize at d k >>= λ size. checkWithin at s size f)
-  unfolding sizeKnown _>>=_
+  unfolding checkedSize _>>=_
   kind-goes h = by r h ∙ ap (λ (c : Checked Form). c >>= λ size. checkWithin at s size f) e
     where
-      by : (r : Read) → OneOf (0 ∷ []) (tagOf the-type r) → checkWithin at s size f ≡ (sizeKnown r size >>= λ size. checkWithin at s size f)
+      by : (r : Read) → OneOf (0 ∷ []) (tagOf the-type r) → checkWithin at s size f ≡ (checkedSize r size >>= λ size. checkWithin at s size f)
       by (Upto n) h = refl
       by (Refused n p) h = absurd (let z : _≡_ {A = ℕ} 1 0 = h in omega arith)
 

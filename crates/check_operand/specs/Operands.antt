@@ -21,20 +21,21 @@ wantedOf Wire l = C.wire
 wantedOf Bit l = C.bit
 wantedOf (Register t) l = C.register (builtOf t l)
 
--- the size that is known of a register whose element is due: its own, where its kind is right
-unfoldable pub sizeKnown : Read → Form → Checked Form
-sizeKnown (Upto n) f = good f
-sizeKnown (Refused n p) f = refused n p
+-- what the answer on the kind of an operand whose element is due stands for: its size
+unfoldable pub checkedSize : Read → Form → Checked Form
+checkedSize (Upto n) f = good f
+checkedSize (Refused n p) f = refused n p
 
+-- the form beside it is right, if it was built
 abbrev pub SizeRight : Wanted → List ℤ → Type 0
 SizeRight Wire l = Unit {0}
 SizeRight Bit l = Unit {0}
 SizeRight (Register t) l = t ≡ true → Kept l
 
--- a wire, the only one of the fields in the field at p
+-- a wire, which is due to be the only field in the field at p
 abbrev pub oneWire : C.Scope → ℕ → List Field → Checked (Unit {0})
 oneWire s p fs = checkOneWire p s (operandDue p 0 fs) (ending (drop 1 fs))
 
--- a wire and another operand, the only two of the fields in the field at p
+-- a wire and another operand, which are due to be the only fields in the field at p
 abbrev pub twoOperands : C.Scope → C.Due → ℕ → List Field → Checked (Unit {0})
 twoOperands s d p fs = checkTwo p s d (operandDue p 0 fs) (operandDue p 1 fs) (ending (drop 2 fs))

@@ -2,7 +2,7 @@
 ghost use mathlib.Core.Path.{_≡_};
 ghost use mathlib.Core.Bool.{true};
 ghost use mathlib.Core.List.{List};
-ghost use Prim.Native.Nat.{ℕ, _+_, _≤_};
+ghost use Prim.Native.Nat.{_+_, _≤_};
 ghost use lib.ListN.{length, replicate};
 ghost use lib.Seq.{slice};
 ghost use lib.IntN.{ℤ, pos};
@@ -16,7 +16,7 @@ ghost use Rattle.fields.specs.Header.{fieldsAt};
 ghost use Rattle.forms.specs.Flat.{formNumbers, Kept, Short, widened, asForm, builtOf};
 ghost use Rattle.forms.specs.Rows.{Rows, loopsOf};
 ghost use Rattle.check_operand.specs.Tables.{kindIn, TablesRight, scopeWith, scopeAt};
-ghost use Rattle.check_operand.specs.Operands.{sizeKnown, wantedOf, SizeRight, oneWire, twoOperands};
+ghost use Rattle.check_operand.specs.Operands.{checkedSize, wantedOf, SizeRight, oneWire, twoOperands};
 ghost use Rattle.check_index.specs.Answers.{checkedPart, EndsAt, Passes};
 use check_index::Read;
 use fields::Header;
@@ -179,7 +179,7 @@ fn whole_fits(
 
 // Whether an element of an operand of a kind is what is due, for the field from `at` to `next`.
 fn element_kind(wanted: Wanted, kind: kinds::Kind, at: usize, next: usize) -> Read
-    ensures { λ r. ⌜ ((f : Form) (l : List ℤ) → sizeKnown r f ≡ elementSize at (wantedOf wanted l) (kindIn kind f)) ⌝ }
+    ensures { λ r. ⌜ ((f : Form) (l : List ℤ) → checkedSize r f ≡ elementSize at (wantedOf wanted l) (kindIn kind f)) ⌝ }
     ensures { λ r. ⌜ EndsAt next r ⌝ }
 {
     match wanted {

@@ -15,7 +15,7 @@ use denote.Enum.Declared.{tagOf}
 use Rattle.language.specs.Read.{Field, fields, typesOf, statementsBy, outerStatement, familyOf, readFamily}
 use Rattle.language.specs.Limits.{mostFamilies, mostVariables, mostParameters}
 use Rattle.language.specs.Tree.{Number, number, missing}
-use Rattle.language.specs.Check.{Checked, good, refused, _>>=_, _>>_, require, checkNumber, Kind, Signature, kindsOf, checkStatements, Declared, familyScope, withFamily, checkCounts, checkFamily, checkTop}
+use Rattle.language.specs.Check.{Checked, good, _>>=_, _>>_, require, checkNumber, Kind, Signature, kindsOf, checkStatements, Declared, familyScope, withFamily, checkCounts, checkFamily, checkTop}
 use Rattle.fields.specs.Header.{fieldsAt}
 use Rattle.forms.specs.Rows.{loopsOf}
 use Rattle.check_operand.specs.Tables.{kindsAt, tabulated}

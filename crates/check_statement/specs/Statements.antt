@@ -39,7 +39,7 @@ statementReader part Reverse = ofFields (λ p fs. reverse p (statementsBy part f
 statementReader part For = ofFields (forOf part)
 statementReader part Other = λ p content. badStatement 3 p
 
--- the check asks of a statement what this says of its tag
+-- what a tag says of a statement: the check of it is that of a statement read so
 abbrev pub StatementSays : ℕ → StatementTag → Type 0
 StatementSays tag k = (part : Field → Statement) (p : ℕ) (content : List ℕ) (s : C.Scope) → checkStatement (statementBy part (field p tag content)) s ≡ checkStatement (statementReader part k p content) s
 

@@ -1,15 +1,14 @@
--- What the leaf's answer says, and the definition that the one loop meets, of lists.
--- Assumes nothing.
+-- What `entry` answers, and the sums, differences, multiples and showings of forms as lists. Assumes nothing.
 use mathlib.Core.Path.{_≡_, refl, sym, ap, _∙_}
 use mathlib.Core.List.{List, [], _∷_, map}
-use mathlib.Core.Bool.{Bool, true, false, cond, _&&_}
+use mathlib.Core.Bool.{Bool, true, false, _&&_}
 use Prim.Native.Nat.{ℕ, zero, suc, _+_, _-_, _<_, _≤_}
 use native.Mathlib.Omega.{arith}
 use lib.IntN.{ℤ, pos, negsuc, _+ℤ_, _-ℤ_, _*ℤ_, +ℤ-idl}
 use native.Mathlib.Numerals.{add-one}
 use lib.ListN.{length, getD, take, drop, replicate, length-map, length-take, drop-of-length-le, List·getD-map}
 use lib.Seq.{drop-cons, getD-take, length-take-le}
-use Rattle.language.specs.Form.{Form, Built, built, outOfRange, closed, closedAll, Loop, Showing, beyondRange, showing, showingOf, inRange, allInRange, zipped, build, sumOf, differenceOf, multipleOf, _thenBuild_, constantForm, termsPutIn, putIn}
+use Rattle.language.specs.Form.{Form, Built, built, outOfRange, closed, closedAll, Loop, beyondRange, showing, showingOf, inRange, allInRange, zipped, build, sumOf, differenceOf, multipleOf, _thenBuild_, constantForm, termsPutIn}
 use Rattle.forms.specs.Flat.{Kept, asForm, builtOf}
 use Rattle.language.proofs.Integers.{integers, plus, minus, times}
 use Rattle.forms.proofs.Lists.{sum-flat, difference-flat, ranges, both}

@@ -4,15 +4,15 @@
 -- Assumes nothing.
 use mathlib.Core.Path.{_≡_, refl, sym, ap, _∙_, subst}
 use mathlib.Core.List.{List, [], _∷_, _++_, map}
-use mathlib.Core.Bool.{Bool, true, false, cond, _&&_}
+use mathlib.Core.Bool.{Bool, true, false, _&&_}
 use Prim.Native.Nat.{ℕ, zero, suc, _+_, _-_, _≤_, _<_}
 use native.Mathlib.Numerals.{add-one}
 use native.Mathlib.Omega.{arith}
-use lib.IntN.{ℤ, pos, negsuc, _+ℤ_, _-ℤ_, _*ℤ_}
+use lib.IntN.{ℤ, pos, negsuc, _+ℤ_, _-ℤ_}
 use lib.Signed.{leZ, ltZ}
-use lib.ListN.{length, getD, take, drop, set, replicate, length-set, length-take, length-drop, length-append, take-append-drop, List·getD-append}
-use lib.Seq.{getD-take, getD-drop, take-all}
-use Rattle.language.specs.Form.{Form, Built, built, outOfRange, Loop, closed, closedAll, showing, showingOf, inRange, allInRange, zipped, build, sumOf, differenceOf, multipleOf, _thenBuild_, without, noneNegative, isZero, allZero, constantForm, variableForm}
+use lib.ListN.{length, getD, take, drop, set, replicate, length-set, length-take, length-append, take-append-drop, List·getD-append}
+use lib.Seq.{take-all}
+use Rattle.language.specs.Form.{Built, built, Loop, closed, showingOf, inRange, allInRange, zipped, build, sumOf, differenceOf, multipleOf, _thenBuild_, without, noneNegative, isZero, allZero}
 use Rattle.forms.specs.Flat.{Kept, Short, widened, asForm, builtOf, showingBy}
 use Rattle.language.proofs.Integers.{clash, lt-true}
 

@@ -1,8 +1,8 @@
 // Index forms: the constant, and then the coefficient of each index variable.
 ghost use mathlib.Core.Path.{_≡_};
 ghost use mathlib.Core.Bool.{true, false};
-ghost use Prim.Native.Nat.{ℕ, _+_, _≤_, _<_};
-ghost use lib.ListN.{length, getD, drop, replicate};
+ghost use Prim.Native.Nat.{_+_, _≤_, _<_};
+ghost use lib.ListN.{getD, drop, replicate};
 ghost use lib.IntN.{pos};
 ghost use Rattle.language.specs.Form.{built, inRange, constantForm, variableForm, sumOf, differenceOf, multipleOf, _thenBuild_, allZero, closed, showingOf, showing, putIn};
 ghost use Rattle.language.specs.Tree.{Place, product};

@@ -4,7 +4,7 @@ use Rattle.check_call.proofs.taken_by.Tie as tie
 use Rattle.check_call.proofs.taken_by.Reads as reads
 use Rattle.check_call.proofs.taken_by.Lts as lts
 use Rattle.forms.proofs.put_in.Reads as put-in-reads
-use mathlib.Core.Path.{refl, sym, ap, _∙_}
+use mathlib.Core.Path.{sym, ap, _∙_}
 use denote.Ref.{now}
 use Rattle.language.specs.Check.{register, taken}
 use Rattle.kinds.specs.declared.Kind.{Kind}

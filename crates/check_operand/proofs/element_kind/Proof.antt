@@ -7,7 +7,7 @@ use mathlib.Core.Path.{refl, sym, ap, _∙_}
 use Rattle.language.specs.Check.{elementSize}
 use Rattle.check_operand.specs.declared.Wanted.{Wanted}
 use Rattle.check_operand.specs.Tables.{kindIn}
-use Rattle.check_operand.specs.Operands.{wantedOf, sizeKnown}
+use Rattle.check_operand.specs.Operands.{wantedOf, checkedSize}
 use Rattle.check_operand.proofs.OperandKinds.{element-wire, element-no-wire, element-bit, element-no-bit, element-register}
 
 -- src/lib.rt:186:25
@@ -37,35 +37,35 @@ enum-told-5 c =
 
 -- src/lib.rt:181:1
 returns : tie.Need-returns
-unfolding sizeKnown
+unfolding checkedSize
 returns c =
     let a = c .before .before .before .before .args in
     (λ f l. element-wire (a .at) f l ∙ (λ i. elementSize (a .at) (wantedOf (sym (c .before .before .enum-told .given .1) i) l) (kindIn (sym (c .enum-told2 .given .1) i) f)), refl)
 
 -- src/lib.rt:181:1
 returns-2 : tie.Need-returns-2
-unfolding sizeKnown
+unfolding checkedSize
 returns-2 c =
     let a = c .before .before .before .args in
     (λ f l. element-no-wire (a .at) f l (a .kind) (c .match2 .keys2) ∙ ap (λ (w : Wanted). elementSize (a .at) (wantedOf w l) (kindIn (a .kind) f)) (sym (c .before .enum-told .given .1)), tt)
 
 -- src/lib.rt:181:1
 returns-3 : tie.Need-returns-3
-unfolding sizeKnown
+unfolding checkedSize
 returns-3 c =
     let a = c .before .before .before .before .args in
     (λ f l. element-bit (a .at) f l ∙ (λ i. elementSize (a .at) (wantedOf (sym (c .before .before .enum-told3 .given .1) i) l) (kindIn (sym (c .enum-told4 .given .1) i) f)), refl)
 
 -- src/lib.rt:181:1
 returns-4 : tie.Need-returns-4
-unfolding sizeKnown
+unfolding checkedSize
 returns-4 c =
     let a = c .before .before .before .args in
     (λ f l. element-no-bit (a .at) f l (a .kind) (c .match3 .keys2) ∙ ap (λ (w : Wanted). elementSize (a .at) (wantedOf w l) (kindIn (a .kind) f)) (sym (c .before .enum-told3 .given .1)), tt)
 
 -- src/lib.rt:181:1
 returns-5 : tie.Need-returns-5
-unfolding sizeKnown
+unfolding checkedSize
 returns-5 c =
     let a = c .before .before .args in
     (λ f l. element-register (a .at) f l (c .enum-told5 .given .0 .0) (kindIn (a .kind) f) ∙ ap (λ (w : Wanted). elementSize (a .at) (wantedOf w l) (kindIn (a .kind) f)) (sym (c .enum-told5 .given .1)), tt)

@@ -36,23 +36,23 @@ parameter-types-requires c κs =
     let none = replicate 8 (replicate 13 (pos 0)) in
     (long, (few, (omega arith, h .table)))
 
--- src/lib.rt:76:20
+-- src/lib.rt:86:20
 enum-known-r : tie.Need-enum-known-r
 enum-known-r c = search needs
 
--- src/lib.rt:77:9
+-- src/lib.rt:87:9
 enum-told : tie.Need-enum-told
 enum-told c = search needs
 
--- src/lib.rt:77:9
+-- src/lib.rt:87:9
 same-length : tie.Need-same-length
 same-length c = search needs
 
--- src/lib.rt:77:9
+-- src/lib.rt:87:9
 same-length-2 : tie.Need-same-length-2
 same-length-2 c = search needs
 
--- src/lib.rt:77:9
+-- src/lib.rt:87:9
 returns : tie.Need-returns
 unfolding familyScope
 returns c =
@@ -70,7 +70,7 @@ returns c =
     let d = declaredIn (a .t) (now (a .families)) (now (a .kinds)) (now (a .sizes)) in
     (body-stops (a .t) (now (a .families)) (a .at) (a .m) (a .parameters) program (a .at + 5) (a .next) h (c .before .before .before .before .before .parameter-types .ensures .1 .1) (c .before .before .before .before .before .parameter-types .result) (c .before .before .before .before .before .parameter-types .ensures .0 (d .families) []) (c .before .match .keys2), c .before .before .before .before .before .parameter-types .ensures .1 .1)
 
--- src/lib.rt:87:5
+-- src/lib.rt:97:5
 list-requires : tie.Need-list-requires
 list-requires c κs =
     let a = c .before .before .before .before .before .before .before .before .before .before .before .before .before .before .before .args in

@@ -8,10 +8,10 @@ use Prim.Native.Nat.{_-_, _+_, _*_}
 use lib.IntN.{ℤ, pos, _+ℤ_, _*ℤ_}
 use native.Mathlib.Numerals.{add-one}
 use mathlib.Core.Bool.{Bool, true, _&&_}
-use lib.ListN.{length, drop, getD, length-map}
+use lib.ListN.{drop, getD, length-map}
 use mir.Syntax.{w64}
 use mir.Val.{toZ, ofZ}
-use Rattle.language.specs.Form.{Built, inRange, allInRange, zipped, sumOf, multipleOf, _thenBuild_}
+use Rattle.language.specs.Form.{inRange, allInRange, zipped, sumOf, multipleOf, _thenBuild_}
 use Rattle.forms.specs.Flat.{asForm, builtOf}
 use Rattle.language.proofs.Integers.{range-back, clash}
 use Rattle.forms.proofs.Lists.{ranges, rest-good, rest-bad, rest-none, Passed, begun, first-in, second-in, again, stopped, ended, ended-kept}

@@ -3,20 +3,20 @@ use Rattle.forms.proofs.set_constant.Statement.{statement}
 use Rattle.forms.proofs.set_constant.Tie as tie
 use Rattle.forms.proofs.set_constant.Reads as reads
 use Rattle.forms.proofs.set_constant.Lts as lts
-use mathlib.Core.Path.{_≡_, refl, sym, ap, _∙_}
+use mathlib.Core.Path.{refl}
 use lib.IntN.{pos}
-use lib.ListN.{set, replicate}
+use lib.ListN.{replicate}
 use mir.Syntax.{w64}
 use mir.ValLaws.{toZ-ofZ}
 use Rattle.forms.specs.Flat.{asForm}
 use Rattle.forms.proofs.Lists.{set-kept}
 use Rattle.forms.proofs.Laws.{zeros-kept}
 
--- src/lib.rt:98:5
+-- src/lib.rt:115:5
 element-set-from-z : tie.Need-element-set-from-z
 element-set-from-z c = search needs
 
--- src/lib.rt:92:1
+-- src/lib.rt:109:1
 returns : tie.Need-returns
 unfolding asForm
 returns c =

@@ -5,24 +5,24 @@ use Rattle.forms.proofs.set_multiple.Reads as reads
 use Rattle.forms.proofs.set_multiple.Lts as lts
 use Rattle.forms.proofs.add_scaled.Reads as add-scaled-reads
 use Rattle.forms.proofs.set_constant.Reads as set-constant-reads
-use mathlib.Core.Path.{_≡_, refl, sym, ap, _∙_}
+use mathlib.Core.Path.{refl, ap, _∙_}
 use lib.IntN.{ℤ}
 use Rattle.language.specs.Form.{inRange, multipleOf, sumOf, _thenBuild_}
 use Rattle.forms.specs.Flat.{asForm}
 use Rattle.language.proofs.Integers.{range-back}
 use Rattle.forms.proofs.Laws.{multiple-alone}
 
--- src/lib.rt:118:5
+-- src/lib.rt:135:5
 set-constant-requires : tie.Need-set-constant-requires
 unfolding inRange
 set-constant-requires c κs =
     refl
 
--- src/lib.rt:119:5
+-- src/lib.rt:136:5
 add-scaled-requires : tie.Need-add-scaled-requires
 add-scaled-requires c κs = search needs
 
--- src/lib.rt:112:1
+-- src/lib.rt:129:1
 returns : tie.Need-returns
 returns c =
     let a = c .before .before .before .before .args in

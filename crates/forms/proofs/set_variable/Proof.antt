@@ -3,9 +3,9 @@ use Rattle.forms.proofs.set_variable.Statement.{statement}
 use Rattle.forms.proofs.set_variable.Tie as tie
 use Rattle.forms.proofs.set_variable.Reads as reads
 use Rattle.forms.proofs.set_variable.Lts as lts
-use mathlib.Core.Path.{_≡_, refl, sym, ap, _∙_}
+use mathlib.Core.Path.{refl}
 use lib.IntN.{pos}
-use lib.ListN.{set, replicate}
+use lib.ListN.{replicate}
 use Prim.Native.Nat.{_+_}
 use native.Mathlib.Numerals.{add-one}
 use Rattle.language.specs.Form.{inRange}
@@ -13,19 +13,19 @@ use Rattle.forms.specs.Flat.{asForm}
 use Rattle.forms.proofs.Lists.{set-kept}
 use Rattle.forms.proofs.Laws.{zeros-kept}
 
--- src/lib.rt:108:7
+-- src/lib.rt:125:7
 add-f : tie.Need-add-f
 add-f c = search needs
 
--- src/lib.rt:108:5
+-- src/lib.rt:125:5
 mul-f : tie.Need-mul-f
 mul-f c = search needs
 
--- src/lib.rt:108:5
+-- src/lib.rt:125:5
 element-set-of-f : tie.Need-element-set-of-f
 element-set-of-f c = search needs
 
--- src/lib.rt:102:1
+-- src/lib.rt:119:1
 returns : tie.Need-returns
 unfolding asForm inRange
 returns c =

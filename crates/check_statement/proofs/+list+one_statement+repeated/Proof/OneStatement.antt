@@ -3,7 +3,7 @@ use Rattle.check_statement.proofs.+list+one_statement+repeated.Lts-one_
 use Rattle.check_statement.proofs.one_statement.Reads.{Post}
 use Rattle.check_statement.proofs.+list+one_statement+repeated.Proof.Shared.{one-statement-calls as calls, one-statement-at as at}
 use Prim.Native.Nat.{ℕ, _+_}
-use mathlib.Core.Path.{sym, _∙_}
+use mathlib.Core.Path.{_∙_}
 use native.Mathlib.Omega.{arith}
 use borrow.Author.Needs.{needs}
 use denote.Ref.{now}
