@@ -16,6 +16,8 @@ use Rattle.language.specs.Limits.{mostParameters}
 use Rattle.language.specs.Tree.{Place, ParameterType, qbit, qbits, badType, operand, badArgument}
 use Rattle.language.specs.Read.{field, readArgument, readOperand, choose, isIndexTag, isOperandTag}
 use Rattle.language.specs.Machine.{Meaning, Run, Outcome, going, begin, give, noMeaning, after, _>>=_, Direction, Condition, meaningsOf, meaningOf, isWire, isQuantum, takes, allTake}
+use Rattle.kinds.specs.declared.Kind.{Kind}
+use Rattle.kinds.specs.Numbers.{numberOf, kindWith, kind-back}
 use Rattle.operands.specs.declared.OperandMeaning.{OperandMeaning}
 use Rattle.operands.specs.declared.OperandMeaning.the-variants.{AWire, ABit, Wires, Bits, Over, Stuck}
 use Rattle.operands.specs.Meanings.{frameOf, meaningTold, FieldMeans}
@@ -76,8 +78,8 @@ unfit-long ms m h types e = all-take-long types (ms ++ (m ∷ [])) (λ f. omega 
 abbrev tooMany : ℕ
 tooMany = mostParameters + 1
 
-pub handed-more : (k f s n : ℕ) (l : List ℕ) → 3 * n + 2 < length l
-    → gatheredOperands (take (3 * (n + 1)) (set (set (set l (3 * n) k) (3 * n + 1) f) (3 * n + 2) s)) ≡ gatheredOperands (take (3 * n) l) ++ (gatheredOperand k f s ∷ [])
+handed-more : (k f s n : ℕ) (l : List ℕ) → 3 * n + 2 < length l
+    → gatheredOperands (take (3 * (n + 1)) (set (set (set l (3 * n) k) (3 * n + 1) f) (3 * n + 2) s)) ≡ gatheredOperands (take (3 * n) l) ++ (gatheredOperand (kindWith k) f s ∷ [])
 unfolding gatheredOperands
 handed-more k f s n [] h = absurd (omega arith)
 handed-more k f s n (a ∷ []) h = absurd (omega arith)
@@ -88,7 +90,12 @@ handed-more k f s (suc n) (a ∷ b ∷ c ∷ l) h =
     let d : 3 * (suc n + 1) ≡ suc (suc (suc (3 * (n + 1)))) = omega arith in
     let i : suc (suc (suc (3 * n))) + 1 ≡ suc (suc (suc (3 * n + 1))) = omega arith in
     let j : suc (suc (suc (3 * n))) + 2 ≡ suc (suc (suc (3 * n + 2))) = omega arith in
-    rw (d, e, i, j) (ap (λ (ms : List Meaning). gatheredOperand a b c ∷ ms) (handed-more k f s n l (omega arith)))
+    rw (d, e, i, j) (ap (λ (ms : List Meaning). gatheredOperand (kindWith a) b c ∷ ms) (handed-more k f s n l (omega arith)))
+
+-- of a kind, by its number
+pub handed-kind : (k : Kind) (x f s n : ℕ) (l : List ℕ) → x ≡ numberOf k → 3 * n + 2 < length l
+    → gatheredOperands (take (3 * (n + 1)) (set (set (set l (3 * n) x) (3 * n + 1) f) (3 * n + 2) s)) ≡ gatheredOperands (take (3 * n) l) ++ (gatheredOperand k f s ∷ [])
+handed-kind k x f s n l e h = handed-more x f s n l h ∙ ap (λ (j : Kind). gatheredOperands (take (3 * n) l) ++ (gatheredOperand j f s ∷ [])) (ap kindWith e ∙ kind-back k)
 
 pub handed-length : (n : ℕ) (l : List ℕ) → 3 * n ≤ length l → length (gatheredOperands (take (3 * n) l)) ≡ n
 unfolding gatheredOperands
@@ -111,7 +118,7 @@ module _ (given : List ℕ) (n : ℕ) (s : OperandMeaning) where
       go false f g = unfit-more ms m (k .unfit (g refl))
 
   module _ (h : n < mostParameters) where
-    pub keeps-quantum : (kind first size : ℕ) (after : List ℕ) → ((p : Place) → meaningTold p s ≡ give (gatheredOperand kind first size))
+    pub keeps-quantum : (kind : Kind) (first size : ℕ) (after : List ℕ) → ((p : Place) → meaningTold p s ≡ give (gatheredOperand kind first size))
         → gatheredOperands (take (3 * (n + 1)) after) ≡ gatheredOperands (take (3 * n) given) ++ (gatheredOperand kind first size ∷ []) → KeepsMore given n s after (n + 1)
     keeps-quantum kind first size after f g p ms m e k = record {
       same = λ i. rw (give-same (sym e ∙ f p)) (ap (λ (x : List Meaning). x ++ (gatheredOperand kind first size ∷ [])) (k .same (omega arith)) ∙ sym g);

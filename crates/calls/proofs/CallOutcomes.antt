@@ -27,6 +27,7 @@ use Rattle.calls.specs.declared.Taken.the-variants.{All, Over, Stuck}
 use Rattle.calls.proofs.Gathered.{the-type as gathered-type}
 use Rattle.calls.specs.Families.{FamilyHead, declaredAt, BodyFrom}
 use Rattle.language.specs.Limits.{mostParameters}
+use Rattle.kinds.specs.Numbers.{kindWith}
 use Rattle.calls.specs.Arguments.{argumentsIn, sizeArguments, operandArguments, operandNumbers, gatheredOperand, gatheredOperands, Gives, SizesGathered, are, over, stuck, OperandsKept, OperandsGathered, hands, ends, sticks, taking, Fitting, Scopes, given, BodyBegins, Arguments}
 use Rattle.fields.proofs.Parts.{not-first}
 
@@ -166,7 +167,7 @@ take-handed zero l = refl
 take-handed (suc n) [] = let e : 3 * suc n ≡ suc (suc (suc (3 * n))) = omega arith in rw e refl
 take-handed (suc n) (a ∷ []) = let e : 3 * suc n ≡ suc (suc (suc (3 * n))) = omega arith in rw e refl
 take-handed (suc n) (a ∷ b ∷ []) = let e : 3 * suc n ≡ suc (suc (suc (3 * n))) = omega arith in rw e refl
-take-handed (suc n) (a ∷ b ∷ c ∷ l) = let e : 3 * suc n ≡ suc (suc (suc (3 * n))) = omega arith in rw e (ap (λ (x : List Meaning). gatheredOperand a b c ∷ x) (take-handed n l))
+take-handed (suc n) (a ∷ b ∷ c ∷ l) = let e : 3 * suc n ≡ suc (suc (suc (3 * n))) = omega arith in rw e (ap (λ (x : List Meaning). gatheredOperand (kindWith a) b c ∷ x) (take-handed n l))
 
 map-take : (n : ℕ) (ps : List Parameter) → map ofParameter (take n ps) ≡ take n (map ofParameter ps)
 map-take zero ps = refl
@@ -175,7 +176,7 @@ map-take (suc n) (p ∷ ps) = ap (λ (x : List Meaning). ofParameter p ∷ x) (m
 
 -- the operand whose numbers begin at j
 abbrev one : List ℕ → ℕ → Meaning
-one l j = gatheredOperand (getD l j 0) (getD l (j + 1) 0) (getD l (j + 2) 0)
+one l j = gatheredOperand (kindWith (getD l j 0)) (getD l (j + 1) 0) (getD l (j + 2) 0)
 
 handed-from : (l : List ℕ) (j : ℕ) → j + 2 < length l → gatheredOperands (drop j l) ≡ (one l j ∷ gatheredOperands (drop (j + 3) l))
 unfolding gatheredOperands

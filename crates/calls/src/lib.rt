@@ -10,12 +10,14 @@ ghost use Rattle.language.specs.Limits.{mostVariables, mostParameters};
 ghost use Rattle.language.specs.Read.{isIndexTag, isOperandTag};
 ghost use Rattle.fields.specs.Table.{pastOf};
 ghost use Rattle.indexes.specs.Values.{mostValues};
+ghost use Rattle.kinds.specs.Numbers.{kindWith};
 ghost use Rattle.operands.specs.Meanings.{operandsOf, ofParameter};
 ghost use Rattle.calls.specs.Families.{FamilyHead, PastFields, BodyFrom};
 ghost use Rattle.calls.specs.Arguments.{operandNumbers, gatheredOperand, gatheredOperands, operandArguments, SizesAre, KeepsMore, OperandsGathered, Takes, Fits, Fitting, Scopes, Arguments};
 use fields::Header;
 use indexes::VALUES;
 use indexes::Value;
+use kinds::Kind;
 use limits::DEEPEST;
 use limits::MOST_PARAMETERS;
 use limits::MOST_VARIABLES;
@@ -154,8 +156,8 @@ fn tell_given(given: [u16; OPERAND_NUMBERS])
     ensures { λ _. ⌜ length given ≡ operandNumbers ⌝ }
 {}
 
-// Puts an operand behind the n that are gathered: the tag of its type, its first wire and its size.
-fn put(given: &mut [u16; OPERAND_NUMBERS], n: usize, kind: u16, first: u16, size: u16)
+// Puts an operand of a kind behind the n that are gathered, with its first wire and its size.
+fn put(given: &mut [u16; OPERAND_NUMBERS], n: usize, kind: Kind, first: u16, size: u16)
     requires { ⌜ n < mostParameters ⌝ }
     ensures { λ _. ⌜ gatheredOperands (take (3 * (n + 1)) (now (given .exit))) ≡ gatheredOperands (take (3 * n) (now (given .entry))) ++ (gatheredOperand kind first size ∷ []) ⌝ }
 {
@@ -163,7 +165,7 @@ fn put(given: &mut [u16; OPERAND_NUMBERS], n: usize, kind: u16, first: u16, size
     let at = 3 * n;
     let second = at + 1;
     let third = at + 2;
-    given[at] = kind;
+    given[at] = fields::wider(kinds::number(kind));
     given[second] = first;
     given[third] = size;
 }
@@ -180,11 +182,11 @@ fn keep(given: &mut [u16; OPERAND_NUMBERS], n: usize, s: OperandMeaning) -> usiz
     let more = n + 1;
     match s {
         OperandMeaning::AWire(w) => {
-            put(given, n, 16, w.0, 0);
+            put(given, n, Kind::Qubit, w.0, 0);
             return more;
         }
         OperandMeaning::Wires(first, size) => {
-            put(given, n, 17, first.0, size);
+            put(given, n, Kind::Quantum, first.0, size);
             return more;
         }
         OperandMeaning::ABit(_) => {
@@ -243,14 +245,14 @@ fn operands_of(
     }
 }
 
-// Whether a parameter of the type with this tag takes an operand whose own type has the tag `kind`.
-fn takes(tag: u8, kind: u16) -> bool
+// Whether a parameter of the type with this tag takes an operand of a kind.
+fn takes(tag: u8, kind: Kind) -> bool
     ensures { λ r. ⌜ Takes tag kind r ⌝ }
 {
-    if kind == 17 {
-        return tag == 17;
+    if let Kind::Quantum = kind {
+        return tag == fields::QBITS;
     }
-    tag == 16
+    tag == fields::QBIT
 }
 
 // Whether types take the operands gathered, and if so where the fields after them begin.
@@ -273,7 +275,7 @@ fn fits(bytes: &[u8], from: usize, to: usize, n: usize, given: &[u16; OPERAND_NU
             return Fit::Not;
         };
         let j = 3 * i;
-        let kind = given[j];
+        let kind = kinds::with_number(given[j]);
         if !takes(tag, kind) {
             return Fit::Not;
         }
@@ -303,12 +305,12 @@ fn fitting(program: &[u8], at: usize, k: usize, n: usize, given: &[u16; OPERAND_
 // The parameter whose three numbers begin at i.
 fn parameter(given: &[u16; OPERAND_NUMBERS], i: usize) -> Parameter
     requires { ⌜ i + 2 < operandNumbers ⌝ }
-    ensures { λ r. ⌜ ofParameter r ≡ gatheredOperand (getD (now (given .entry)) i 0) (getD (now (given .entry)) (i + 1) 0) (getD (now (given .entry)) (i + 2) 0) ⌝ }
+    ensures { λ r. ⌜ ofParameter r ≡ gatheredOperand (kindWith (getD (now (given .entry)) i 0)) (getD (now (given .entry)) (i + 1) 0) (getD (now (given .entry)) (i + 2) 0) ⌝ }
 {
     let second = i + 1;
     let third = i + 2;
     let first = Wire(given[second]);
-    if given[i] == 17 {
+    if let Kind::Quantum = kinds::with_number(given[i]) {
         let size = given[third];
         return Parameter {
             operand: Operand::Register { first, size },

@@ -4,7 +4,10 @@ use mathlib.Core.Path.{_≡_, refl, sym, ap, _∙_}
 use mathlib.Core.List.{List, [], _∷_, map}
 use mathlib.Core.Bool.{Bool, true, false, cond}
 use mathlib.Core.Option.{Option, none, some}
+use mathlib.Core.Logic.{⊎-elim}
 use native.Mathlib.Omega.{arith}
+use types.Run.{OneOf}
+use denote.Enum.Declared.{tagOf}
 use borrow.Author.Tests.{lt-ltb, le-ltb, eq-eqb, ne-eqb}
 use lib.ListN.{length, getD, getElem?, take, drop, length-take}
 use lib.Seq.{getD-take}
@@ -15,6 +18,10 @@ use mir.Syntax.{w64}
 use mir.Val.{ofZ, Fits}
 use Rattle.language.proofs.Integers.{integers, range-true}
 use Rattle.language.specs.Form.{inRange}
+use Rattle.kinds.specs.declared.Kind.{Kind}
+use Rattle.kinds.specs.declared.Kind.the-variants.{Qubit, Quantum, Classical}
+use Rattle.kinds.specs.Numbers.{kindWith}
+use Rattle.kinds.proofs.Kind.{the-type as kind-type}
 use Rattle.operands.specs.declared.Wire.{Wire}
 use Rattle.operands.specs.declared.Bit.{Bit}
 use Rattle.language.specs.Tree.{Place}
@@ -27,7 +34,7 @@ use Rattle.operands.specs.declared.OperandMeaning.the-variants.{AWire, A
 use Rattle.operands.specs.declared.Location.the-variants.{At, Nowhere}
 use Rattle.operands.specs.Meanings.{ofParameter, parameterOf, registerOf, registersOf, operandsOf, meaningTold, locationIn, locations, clipped, locationOf, theWire, theBit}
 
-pub register-at : (n : ℕ) (l : List ℕ) → 3 * n + 2 < length l → getElem? (registersOf l) n ≡ some (registerOf (getD l (3 * n) 0) (getD l (3 * n + 1) 0) (getD l (3 * n + 2) 0))
+pub register-at : (n : ℕ) (l : List ℕ) → 3 * n + 2 < length l → getElem? (registersOf l) n ≡ some (registerOf (kindWith (getD l (3 * n) 0)) (getD l (3 * n + 1) 0) (getD l (3 * n + 2) 0))
 unfolding registersOf
 register-at n [] h = absurd (omega arith)
 register-at n (a ∷ []) h = absurd (omega arith)
@@ -47,9 +54,16 @@ register-past n (a ∷ b ∷ []) h = refl
 register-past zero (a ∷ b ∷ c ∷ l) h = absurd (omega arith)
 register-past (suc n) (a ∷ b ∷ c ∷ l) h = register-past n l (omega arith)
 
+-- a kind that is not classical
+pub register-quantum : (k : Kind) (first size : ℕ) → OneOf (0 ∷ 1 ∷ []) (tagOf kind-type k) → registerOf k first size ≡ wires (theWire first) (clipped first size)
+unfolding registerOf
+register-quantum Qubit first size h = refl
+register-quantum Quantum first size h = refl
+register-quantum Classical first size h = absurd (⊎-elim (λ z. omega arith) (λ z. omega arith) h)
+
 -- of the first `count` in a table
 pub table-at : (n count : ℕ) (l : List ℕ) → n < count → 3 * count ≤ length l
-    → getElem? (registersOf (take (3 * count) l)) n ≡ some (registerOf (getD l (3 * n) 0) (getD l (3 * n + 1) 0) (getD l (3 * n + 2) 0))
+    → getElem? (registersOf (take (3 * count) l)) n ≡ some (registerOf (kindWith (getD l (3 * n) 0)) (getD l (3 * n + 1) 0) (getD l (3 * n + 2) 0))
 table-at n count l h k =
     register-at n (take (3 * count) l) (omega (arith, length-take (3 * count) l))
     ∙ rw (getD-take (3 * count) l (3 * n) 0 (omega arith), getD-take (3 * count) l (3 * n + 1) 0 (omega arith), getD-take (3 * count) l (3 * n + 2) 0 (omega arith))

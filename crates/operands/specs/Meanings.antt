@@ -4,7 +4,7 @@ use mathlib.Core.Path.{_≡_}
 use mathlib.Core.List.{List, [], _∷_, map}
 use mathlib.Core.Bool.{Bool, true, false, cond}
 use mathlib.Core.Option.{Option, none, some}
-use lib.Dec.{eqb, ltb}
+use lib.Dec.{ltb}
 use lib.IntN.{ℤ, pos, negsuc}
 use lib.ListN.{length, getD, getElem?, take, drop}
 use Rattle.language.specs.Limits.{mostRegisters}
@@ -13,6 +13,9 @@ use Rattle.language.specs.Tree as tree
 use Rattle.language.specs.Read.{Field, field, readOperand, due, fields}
 use Rattle.language.specs.Machine.{Meaning, aWire, aBit, wires, bits, Run, give, endAt, noMeaning, found, elementAt, meaningOf, Frame, Direction, Condition, asWire, asBit, wireOf, bitOf, _>>=_}
 use Rattle.language.specs.Machine as machine
+use Rattle.kinds.specs.declared.Kind.{Kind}
+use Rattle.kinds.specs.declared.Kind.the-variants.{Qubit, Quantum, Classical}
+use Rattle.kinds.specs.Numbers.{kindWith}
 use Rattle.operands.specs.declared.Wire.{Wire}
 use Rattle.operands.specs.declared.Bit.{Bit}
 use Rattle.operands.specs.declared.Operand.{Operand}
@@ -53,15 +56,18 @@ parameterOf (Register first size) = wires (theWire (first .0)) (clipped (first .
 abbrev pub ofParameter : Parameter → Meaning
 ofParameter q = parameterOf (q .operand)
 
--- the register with these three numbers
-unfoldable pub registerOf : ℕ → ℕ → ℕ → Meaning
-registerOf kind first size = cond (eqb kind 0) (wires (theWire first) (clipped first size)) (bits (theBit first) (clipped first size))
+-- the register of a kind, with its first location and its size; one that is not classical is quantum
+unfoldable pub registerOf : Kind → (first size : ℕ) → Meaning
+registerOf Qubit first size = wires (theWire first) (clipped first size)
+registerOf Quantum first size = wires (theWire first) (clipped first size)
+registerOf Classical first size = bits (theBit first) (clipped first size)
 
+-- the registers of a table, which has three numbers for each
 unfoldable pub registersOf : List ℕ → List Meaning
 registersOf [] = []
 registersOf (k ∷ []) = []
 registersOf (k ∷ f ∷ []) = []
-registersOf (k ∷ f ∷ s ∷ l) = registerOf k f s ∷ registersOf l
+registersOf (k ∷ f ∷ s ∷ l) = registerOf (kindWith k) f s ∷ registersOf l
 
 -- the operands in scope: the first `count` registers of a table, or parameters
 unfoldable pub operandsOf : Scope → List ℕ → List Meaning

@@ -14,6 +14,7 @@ ghost use Rattle.operands.specs.Meanings.{registerNumbers, ofParameter, 
 use fields::Header;
 use indexes::VALUES;
 use indexes::Value;
+use kinds::Kind;
 use limits::MOST_PARAMETERS;
 use limits::MOST_REGISTERS;
 
@@ -67,8 +68,7 @@ fn tell_table(regs: [u16; REGISTER_NUMBERS])
     ensures { λ _. ⌜ length regs ≡ registerNumbers ⌝ }
 {}
 
-// The register n of the first `count` in a table that has three numbers for each: 0 or 1 for a quantum or a classical one, its
-// first location, its size.
+// The register n of the first `count` in a table that has three numbers for each: its kind's, its first location, its size.
 fn register(regs: &[u16; REGISTER_NUMBERS], count: u8, n: usize) -> OperandMeaning
     ensures { λ r. ⌜ OperandIs (registersOf (take (3 * count) (now (regs .entry)))) n r ⌝ }
 {
@@ -79,15 +79,14 @@ fn register(regs: &[u16; REGISTER_NUMBERS], count: u8, n: usize) -> OperandMeani
     let at = 3 * n;
     let first = at + 1;
     let size = at + 2;
-    if regs[at] == 0 {
-        return OperandMeaning::Wires(Wire(regs[first]), regs[size]);
+    if let Kind::Classical = kinds::with_number(regs[at]) {
+        return OperandMeaning::Bits(Bit(regs[first]), regs[size]);
     }
-    OperandMeaning::Bits(Bit(regs[first]), regs[size])
+    OperandMeaning::Wires(Wire(regs[first]), regs[size])
 }
 
-// Puts a register into the table, behind the `count` that it has: 0 or 1 for a quantum or a classical one, its first location
-// and its size.
-pub fn declare(regs: &mut [u16; REGISTER_NUMBERS], count: usize, kind: u16, first: u16, size: u16)
+// Puts a register of a kind into the table, behind the `count` that it has, with its first location and its size.
+pub fn declare(regs: &mut [u16; REGISTER_NUMBERS], count: usize, kind: Kind, first: u16, size: u16)
     requires { ⌜ count < mostRegisters ⌝ }
     ensures { λ _. ⌜ registersOf (take (3 * (count + 1)) (now (regs .exit))) ≡ registersOf (take (3 * count) (now (regs .entry))) ++ (registerOf kind first size ∷ []) ⌝ }
 {
@@ -95,7 +94,7 @@ pub fn declare(regs: &mut [u16; REGISTER_NUMBERS], count: usize, kind: u16, firs
     let at = 3 * count;
     let second = at + 1;
     let third = at + 2;
-    regs[at] = kind;
+    regs[at] = fields::wider(kinds::number(kind));
     regs[second] = first;
     regs[third] = size;
 }
@@ -105,14 +104,11 @@ fn tell(ps: [Parameter; MOST_PARAMETERS])
     ensures { λ _. ⌜ length ps ≡ mostParameters ⌝ }
 {}
 
-// What fills the parameters of a scope before any is known.
-pub fn no_parameters() -> [Parameter; MOST_PARAMETERS]
-    ensures { λ r. ⌜ length r ≡ mostParameters ⌝ }
-{
-    let none = Parameter {
+// What fills a scope's places for parameters that it does not have.
+pub fn no_parameter() -> Parameter {
+    Parameter {
         operand: Operand::Single(Wire(0)),
-    };
-    [none; MOST_PARAMETERS]
+    }
 }
 
 // What the parameter n stands for.
