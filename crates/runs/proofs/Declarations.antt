@@ -7,7 +7,7 @@ use mathlib.Core.Bool.{Bool, true, false, cond}
 use lib.ListN.{length, take, getD, length-append}
 use lib.Seq.{slice}
 use lib.IntN.{pos}
-use Rattle.language.specs.Limits.{mostFamilies, mostRegisters, mostWires, mostBits}
+use Rattle.language.specs.Limits.{mostWires, mostFamilies, mostRegisters, mostWires, mostBits}
 use Rattle.language.specs.Tree.{Place, Top, family, qreg, creg, measure, reset, if, statement, badTop, number, missing, Number, Ending, Statements, ParameterType}
 use Rattle.language.specs.Read.{read, field, readTop, readFamily, readRegister, registerSize, registerEnd, familyOf, choose, twoBytes}
 use Rattle.language.specs.Form.{constantForm}
@@ -15,6 +15,7 @@ use Rattle.language.specs.Check as C
 use Rattle.language.specs.Check.{Declared, Signature, quantum, classical}
 use Rattle.language.specs.Machine.{Meaning, wires, bits, Globals, Family, Run, give, declared, allDeclared, actTop, declareTop, runTop, runTops, withFamilies, withWires, withBits, _>>=_, _>>_, after}
 use Rattle.language.proofs.Accepted.{TopGood, aFamily, aQreg, aCreg, aMeasure, aReset, anIf, aStatement}
+use Rattle.kinds.specs.declared.Kind.the-variants.{Quantum, Classical}
 use Rattle.operands.specs.Meanings.{theWire, theBit, clipped, registerOf, registersOf}
 use Rattle.fields.specs.declared.Header.the-variants.{Whole}
 use Rattle.fields.proofs.Parts.{look}
@@ -215,18 +216,18 @@ module _ (limit room : ℕ) (l : List ℕ) where
 
 -- ---- the code's register is the machine's
 
-pub register-whole : (b : Bool) (first size : ℕ) → first + size ≤ 65535 → registerOf (cond b 0 1) first size ≡ registerFrom b first size
+pub register-whole : (b : Bool) (first size : ℕ) → first + size ≤ mostWires → registerOf (cond b Quantum Classical) first size ≡ registerFrom b first size
 unfolding registerOf registerFrom
 register-whole true first size h = let e : clipped first size ≡ size = omega arith in ap (wires (theWire first)) e
 register-whole false first size h = let e : clipped first size ≡ size = omega arith in ap (bits (theBit first)) e
 
 -- what the two branches of the code know
 module _ (b : Bool) (t : Totals) (p : List ℕ) (r : RegisterRoom p (t .registers) (totalOf b t)) (n : ℕ) (e : n ≡ sizeIn p) where
-  pub quantum-fits : b ≡ true → t .qubits + n ≤ 65535
+  pub quantum-fits : b ≡ true → t .qubits + n ≤ mostWires
   unfolding totalOf
   quantum-fits h = let f = rw h at (r .fits) in omega arith
 
-  pub classical-fits : b ≡ false → t .bits + n ≤ 65535
+  pub classical-fits : b ≡ false → t .bits + n ≤ mostWires
   unfolding totalOf
   classical-fits h = let f = rw h at (r .fits) in omega arith
 
@@ -238,10 +239,10 @@ module _ (b : Bool) (t : Totals) (p : List ℕ) (r : RegisterRoom p (t .register
   unfolding moreLocations
   classical-more h = rw (h, e) refl
 
-  pub quantum-row : b ≡ true → registerOf 0 (t .qubits) n ≡ registerFrom b (totalOf b t) (sizeIn p)
+  pub quantum-row : b ≡ true → registerOf Quantum (t .qubits) n ≡ registerFrom b (totalOf b t) (sizeIn p)
   unfolding totalOf
   quantum-row h = rw (h, ← e) (register-whole true (t .qubits) n (quantum-fits h))
 
-  pub classical-row : b ≡ false → registerOf 1 (t .bits) n ≡ registerFrom b (totalOf b t) (sizeIn p)
+  pub classical-row : b ≡ false → registerOf Classical (t .bits) n ≡ registerFrom b (totalOf b t) (sizeIn p)
   unfolding totalOf
   classical-row h = rw (h, ← e) (register-whole false (t .bits) n (classical-fits h))

@@ -23,9 +23,11 @@ use fields::Header;
 use gates::LEVELS;
 use gates::Mode;
 use indexes::VALUES;
+use kinds::Kind;
 use layout::Layout;
 use layout::Sizes;
 use limits::MOST_FAMILIES;
+use limits::MOST_PARAMETERS;
 use operands::Bit;
 use operands::BitMeaning;
 use operands::REGISTER_NUMBERS;
@@ -56,7 +58,7 @@ fn register(content: &[u8], quantum: bool, t: Totals, regs: &mut [u16; REGISTER_
     let registers = count + 1;
     if quantum {
         let first = t.qubits;
-        operands::declare(regs, count, 0, first as u16, n as u16);
+        operands::declare(regs, count, Kind::Quantum, first as u16, n as u16);
         let qubits = first + n;
         return Totals {
             families: t.families,
@@ -66,7 +68,7 @@ fn register(content: &[u8], quantum: bool, t: Totals, regs: &mut [u16; REGISTER_
         };
     }
     let first = t.bits;
-    operands::declare(regs, count, 1, first as u16, n as u16);
+    operands::declare(regs, count, Kind::Classical, first as u16, n as u16);
     let bits = first + n;
     Totals {
         families: t.families,
@@ -81,7 +83,7 @@ fn top_scope(registers: usize) -> Scope
     requires { ⌜ registers ≤ mostRegisters ⌝ }
     ensures { λ r. ⌜ (r .top ≡ true) × (r .count ≡ registers) ⌝ }
 {
-    let params = operands::no_parameters();
+    let params = [operands::no_parameter(); MOST_PARAMETERS];
     let count = registers as u8;
     Scope {
         params,
