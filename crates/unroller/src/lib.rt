@@ -6,7 +6,7 @@ ghost use lib.Seq.{slice};
 ghost use Rattle.records.specs.Outcomes.{Does};
 ghost use Rattle.gates.specs.Gates.{frameIn, Enterable};
 ghost use Rattle.calls.specs.Families.{Tabled};
-ghost use Rattle.unroller.specs.Runs.{Ready, Often, Turns, Turned, Completes, oneRun, timesRun, keptIn};
+ghost use Rattle.unroller.specs.Runs.{Ready, Often, Turns, Turned, Completes, Nestable, Inside, oneRun, timesRun, keptIn};
 use calls::Taken;
 use records::Answer;
 use records::State;
@@ -76,6 +76,44 @@ fn begin_round(
         written: st.written,
         steps: taken,
     })
+}
+
+// A reverse or a for whose step is taken: where its content begins, its tag, what stays in it, and the state.
+pub struct Nested {
+    pub from: usize,
+    pub tag: u8,
+    pub mode: Mode,
+    pub st: State,
+}
+
+// The innermost of reverses that hold nothing but one reverse or for: enters them one by one, with their steps. Where one cannot be
+// entered, it is what the run of its list finds.
+fn inmost(bytes: &[u8], base: usize, to: usize, e: Nested) -> Nested
+    requires { ⌜ Nestable base to (length (now bytes)) e ⌝ }
+    ensures { λ r. ⌜ Inside (now (bytes .entry)) base to e r ⌝ }
+{
+    let mut r = e;
+    while r.tag == 37 {
+        let at = r.from;
+        let Header::Whole(tag, next) = fields::header_at(bytes, at, to) else {
+            return r;
+        };
+        if next < to {
+            return r;
+        }
+        if tag < 37 {
+            return r;
+        }
+        let from = at + 3;
+        let place = base + at;
+        let size = to - from;
+        let mode = gates::inner(r.mode, 37);
+        let Answer::Going(st) = gates::step(tag, size, place, mode, r.st) else {
+            return r;
+        };
+        r = Nested { from, tag, mode, st };
+    }
+    r
 }
 
 // Runs the statement with this tag and the content from `from` to `to`, whose tag is at `place` of the program.
@@ -166,28 +204,33 @@ fn run_rounds(
     requires { ⌜ Enterable mode tag (to - from) × (36 < tag) ⌝ }
     ensures { λ r. ⌜ Completes mode tag (to - from) (now (out .entry)) st (now (out .exit)) r (oneRun mode (length (now (out .entry))) place tag (slice from to (now (bytes .entry))) (now (program .entry)) (frameIn mode (take (mode .variables) (now (vars .entry))) scope (now (regs .entry)))) × (take (mode .variables) (now (vars .exit)) ≡ take (mode .variables) (now (vars .entry))) ⌝ }
 {
-    let many = fields::wide(mode.variables);
-    match gates::repeats_of(bytes, from, to, tag, vars, many, mode.reversed) {
-        Repeats::Over => Answer::Ended(24, place as u16, st),
+    let e = inmost(bytes, base, to, Nested { from, tag, mode, st });
+    let own = e.mode;
+    let s = e.st;
+    let past = base + e.from;
+    let here = past - 3;
+    let many = fields::wide(own.variables);
+    match gates::repeats_of(bytes, e.from, to, e.tag, vars, many, own.reversed) {
+        Repeats::Over => Answer::Ended(24, here as u16, s),
         Repeats::Stuck => Answer::Stuck,
         Repeats::Are(start, total, body) => {
-            let n = gates::inner(mode, tag);
+            let n = gates::inner(own, e.tag);
             run_list(
                 bytes,
                 base,
                 body,
                 to,
-                place,
+                here,
                 start,
                 total,
-                tag == 38,
+                e.tag == 38,
                 vars,
                 scope,
                 regs,
                 program,
                 table,
                 n,
-                st,
+                s,
                 out,
             )
         }

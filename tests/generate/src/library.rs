@@ -86,18 +86,30 @@ pub fn wrapped(levels: usize, statement: Field) -> Field {
     (0..levels).fold(statement, |inner, _| reverse(vec![inner]))
 }
 
-/// So many families, each calling the one before from so many levels down.
-pub fn deep_calls(families: usize, levels: usize) -> Vec<Field> {
+/// So many families, each calling the one before with the call wrapped up.
+fn calling(families: usize, wrap: impl Fn(Field) -> Field) -> Vec<Field> {
     let mut fields = Vec::new();
     for number in 0..families {
         let innermost = match number {
             0 => t(whole(0)),
             _ => call((number - 1) as u8, vec![], vec![whole(0)]),
         };
-        let body = vec![wrapped(levels - 1, innermost)];
-        fields.push(family(0, vec![qbit()], body));
+        fields.push(family(0, vec![qbit()], vec![wrap(innermost)]));
     }
     fields
+}
+
+/// So many families, each calling the one before from so many levels down.
+pub fn deep_calls(families: usize, levels: usize) -> Vec<Field> {
+    calling(families, |inner| wrapped(levels - 1, inner))
+}
+
+/// The same, with a gate beside the statement at each level.
+pub fn deep_lists(families: usize, levels: usize) -> Vec<Field> {
+    let beside = |inner| reverse(vec![inner, t(whole(0))]);
+    calling(families, |inner| {
+        (1..levels).fold(inner, |inner, _| beside(inner))
+    })
 }
 
 /// Deep calls that pass a size and a register down through loops of one round
@@ -240,7 +252,7 @@ pub const SHAPES: [Shape; 6] = [
         [1, 1],
     ),
     shape("loops, reversals in turn", Order::InTurn, [8, 7], [1, 1]),
-    shape("in turn, 8 parameters", Order::InTurn, [8, 7], [4, 8]),
+    shape("in turn, 6 parameters", Order::InTurn, [8, 7], [4, 6]),
 ];
 
 /// A shape of so many loops and reversals, index variables and parameters.
@@ -261,7 +273,8 @@ const fn shape(
 }
 
 impl Shape {
-    /// Statements at the bottom of the loops and reversals.
+    /// Statements at the bottom of the loops and reversals. Each reversal also
+    /// holds an empty one, as one that holds a single loop or reversal needs less stack.
     fn nest(&self, statements: Vec<Field>) -> Vec<Field> {
         let (loops, reversals) = (self.loops, self.reversals);
         let mut is_loop: Vec<bool> = match self.order {
@@ -270,9 +283,12 @@ impl Shape {
             Order::InTurn => (0..loops + reversals).map(|n| n % 2 == 0).collect(),
         };
         is_loop.reverse();
-        let wrap = |inner, is_loop| match is_loop {
+        let wrap = |mut inner: Vec<Field>, is_loop| match is_loop {
             true => vec![repeat(literal(1), literal(1), inner)],
-            false => vec![reverse(inner)],
+            false => {
+                inner.push(reverse(Vec::new()));
+                vec![reverse(inner)]
+            }
         };
         is_loop.into_iter().fold(statements, wrap)
     }

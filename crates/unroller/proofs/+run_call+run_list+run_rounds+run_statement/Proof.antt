@@ -23,6 +23,6 @@ pub +run-call+run-list+run-rounds+run-statement-spec : {M : Type 1} → statemen
     (λ t. run-list-lts.spec (run-list-calls t) (run-list-at t) run-list.Post RunList.Inv-loop RunList.μ-loop
     (RunList.whole-requires t) (RunList.loop-holds t) (RunList.same-length t) (RunList.returns t) (RunList.begin-round-requires t) (RunList.enum-known-r t) (RunList.same-length-2 t) (RunList.returns-2 t) (RunList.begin-requires t) (RunList.enum-known-depth t) (RunList.enum-told t) (RunList.same-length-3 t) (RunList.returns-3 t) (RunList.whole-requires-2 t) (RunList.add-i t) (RunList.loop-less t) (RunList.loop-again t) (RunList.seek-requires t) (RunList.header-at-requires t) (RunList.enum-known-tag t) (RunList.same-length-4 t) (RunList.returns-4 t) (RunList.add-content t) (RunList.add-at t) (RunList.run-statement-requires t) (RunList.enum-known-r-2 t) (RunList.same-length-5 t) (RunList.returns-5 t) (RunList.passed-requires t) (RunList.loop-less-2 t) (RunList.loop-again-2 t))
     (λ t. run-rounds-lts.spec (run-rounds-calls t) (run-rounds-at t) run-rounds.Post
-    (RunRounds.wide-requires t) (RunRounds.repeats-of-requires t) (RunRounds.enum-told t) (RunRounds.cast-t23 t) (RunRounds.enum-told-2 t) (RunRounds.enum-known-start t) (RunRounds.inner-requires t) (RunRounds.run-list-requires t) (RunRounds.returns t) (RunRounds.returns-2 t) (RunRounds.same-length t) (RunRounds.returns-3 t))
+    (RunRounds.inmost-requires t) (RunRounds.add-past t) (RunRounds.sub-here t) (RunRounds.wide-requires t) (RunRounds.repeats-of-requires t) (RunRounds.enum-told t) (RunRounds.cast-t29 t) (RunRounds.enum-told-2 t) (RunRounds.enum-known-start t) (RunRounds.inner-requires t) (RunRounds.run-list-requires t) (RunRounds.returns t) (RunRounds.returns-2 t) (RunRounds.same-length t) (RunRounds.returns-3 t))
     (λ t. run-statement-lts.spec (run-statement-calls t) (run-statement-at t) run-statement.Post
     (RunStatement.sub-size t) (RunStatement.step-requires t) (RunStatement.enum-known-r t) (RunStatement.returns t) (RunStatement.act-requires t) (RunStatement.same-length t) (RunStatement.returns-2 t) (RunStatement.run-call-requires t) (RunStatement.same-length-2 t) (RunStatement.returns-3 t) (RunStatement.run-rounds-requires t) (RunStatement.same-length-3 t) (RunStatement.returns-4 t))

@@ -95,6 +95,8 @@ fn workloads() -> Vec<Workload> {
     let nested = programs::nested_loops();
     let mut deep = programs::deep_calls(254, 16);
     deep.extend(calls(253, 2_000));
+    let mut lists = programs::deep_lists(254, 16);
+    lists.extend(calls(253, 500));
     let mut forward = vec![programs::gate_list(9_000, false)];
     forward.extend(calls(0, 100));
     let mut backward = vec![programs::gate_list(9_000, true)];
@@ -112,6 +114,7 @@ fn workloads() -> Vec<Workload> {
         Workload::instance("adder reversed", &adder, (3, 7_999), gates),
         Workload::instance("nested loop", &nested, (0, 700), 2 * 700 * 700),
         Workload::run("deep calls", &deep, 2_000),
+        Workload::run("deep lists", &lists, 500 * (254 * 15 + 1)),
         Workload::run("long list", &forward, 100 * 9_000),
         Workload::run("long list reversed", &backward, 100 * 9_000),
         Workload::instance("short reversed bodies", &short, (0, 50_000), 6 * 50_000),

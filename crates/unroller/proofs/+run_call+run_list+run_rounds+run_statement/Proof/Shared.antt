@@ -29,6 +29,7 @@ use Rattle.field_walk.proofs.passed.Reads as passed-reads
 use Rattle.field_walk.proofs.seek.Reads as seek-reads
 use Rattle.field_walk.proofs.whole.Reads as whole-reads
 use Rattle.unroller.proofs.begin_round.Reads as begin-round-reads
+use Rattle.unroller.proofs.inmost.Reads as inmost-reads
 use Rattle.unroller.proofs.listed.Reads as listed-reads
 use Rattle.unroller.proofs.wider.Reads as wider-reads
 use Prim.Native.Nat.{_+_, _-_, _*_, _<_}
@@ -87,7 +88,7 @@ run-list-calls t = (whole-reads.Asked, whole-reads.Learnt, begin-round-reads.Ask
 
 -- what the calls of `run-rounds` ask and tell
 abbrev pub run-rounds-calls : ℕ → run-rounds-lts.Claims
-run-rounds-calls t = (wide-reads.Asked, wide-reads.Learnt, repeats-of-reads.Asked, repeats-of-reads.Learnt, inner-reads.Asked, inner-reads.Learnt, run-list-below t, run-list.Post)
+run-rounds-calls t = (inmost-reads.Asked, inmost-reads.Learnt, wide-reads.Asked, wide-reads.Learnt, repeats-of-reads.Asked, repeats-of-reads.Learnt, inner-reads.Asked, inner-reads.Learnt, run-list-below t, run-list.Post)
 
 -- what the calls of `run-statement` ask and tell
 abbrev pub run-statement-calls : ℕ → run-statement-lts.Claims
