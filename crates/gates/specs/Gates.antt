@@ -16,7 +16,7 @@ use Rattle.indexes.specs.declared.Value.{Value}
 use Rattle.indexes.specs.declared.Value.the-variants.{Is, Over as vOver, Stuck as vStuck}
 use Rattle.operands.specs.Meanings.{operandsOf, frameOf}
 use Rattle.operands.specs.declared.Scope.{Scope}
-use Rattle.records.specs.Outcomes.{conditionOf}
+use Rattle.records.specs.Outcomes.{conditionOf, OneStep, NoStep}
 use Rattle.records.specs.declared.State.{State}
 use Rattle.records.specs.declared.Answer.{Answer}
 use Rattle.records.specs.declared.Answer.the-variants.{Going, Ended, Stuck as aStuck}
@@ -131,16 +131,11 @@ pub record Enterable (mode : Mode) (tag size : ℕ) : Type 0 where
 
 pub record StepTaken (mode : Mode) (tag size : ℕ) (st s : State) : Type 0 where
   pub enterable : Enterable mode tag size
-  pub left : st .steps < mode .limit
-  pub same : s .written ≡ st .written
-  pub more : s .steps ≡ st .steps + 1
+  pub step : OneStep (mode .limit) st s
 
 pub record NoStepLeft (mode : Mode) (tag size : ℕ) (base : Place) (st : State) (n : ℕ) (p : Place) (s : State) : Type 0 where
   pub enterable : Enterable mode tag size
-  pub none : mode .limit ≤ st .steps
-  pub number : n ≡ 26
-  pub place : p ≡ base
-  pub same : s ≡ st
+  pub none : NoStep (mode .limit) base st n p s
 
 -- what entering a statement answers
 unfoldable pub Entered : Mode → (tag size : ℕ) → Place → State → Answer → Type 0

@@ -89,7 +89,7 @@ module _ (bytes : List ℕ) (base to : ℕ) (e : Nested) where
             visible = w .visible;
             variables = w .variables;
             leads = λ room program values scope regs l l' a x. w .leads room program values scope regs l l' a (λ s₀ u. does-as _ _ _ _ _ (outer-run room program values scope regs) (reverse-single room program values scope regs)
-                (step-taken (r .mode .limit) room l s₀ (r .st) (tagAt base r) _ _ _ (u .left) (u .same) (u .more) (rw z at (x (r .st) q))));
+                (step-taken (r .mode .limit) room l s₀ (r .st) (tagAt base r) _ _ _ (u .step .left) (u .step .same) (u .step .more) (rw z at (x (r .st) q))));
           }
 
 -- the answer of what stands inside, with the values in scope

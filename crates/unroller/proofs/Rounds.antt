@@ -13,7 +13,7 @@ use Rattle.language.specs.Form.{inRange}
 use Rattle.language.specs.Machine.{Run, Frame, done, noMeaning, step, rounds, inRound, after, _>>=_, _>>_}
 use Rattle.language.proofs.Runs.{then-done}
 use Rattle.operands.specs.declared.Scope.{Scope}
-use Rattle.records.specs.Outcomes.{Does}
+use Rattle.records.specs.Outcomes.{Does, OneStep, Stepped}
 use Rattle.records.specs.declared.State.{State}
 use Rattle.records.specs.declared.Answer.{Answer}
 use Rattle.records.specs.declared.Answer.the-variants.{Going, Ended, Stuck}
@@ -94,8 +94,8 @@ module _ (mode : Mode) (room base from to place : ℕ) (start : ℤ) (l program 
   round-stops false vars vars' st r w k out = absurd (not-first (rw (w .0) at k))
   round-stops true vars vars' st (Going t) w k out = absurd (not-first k)
   round-stops true vars vars' st (Ended n p t) w k out =
-      rw (w .number, w .here, w .same) (does-as _ _ _ _ _ (left-over true (total - i) i)
-      (rounds-more mode room base from to place start l program values scope regs (total - i) i (omega arith)) (step-full (mode .limit) room out st place _ (w .none)))
+      rw (w .none .number, w .none .here, w .none .same) (does-as _ _ _ _ _ (left-over true (total - i) i)
+      (rounds-more mode room base from to place start l program values scope regs (total - i) i (omega arith)) (step-full (mode .limit) room out st place _ (w .none .none)))
   round-stops true vars vars' st Stuck w k out = absurd w
 
   -- it goes on: the list in the round's frame, and then the rounds after it
@@ -117,7 +117,7 @@ module _ (mode : Mode) (room base from to place : ℕ) (start : ℤ) (l program 
       let k : take (mode .variables) vars' ≡ values ++ (turnOf (mode .reversed) start i ∷ []) = u .values ∙ ap (λ (a : List ℤ). a ++ (turnOf (mode .reversed) start i ∷ [])) v in
       let z : total - i - 1 ≡ total - (i + 1) = omega arith in
       let more = rounds-more mode room base from to place start l program values scope regs (total - i) i (omega arith) in
-      record { leads = λ x q d. does-as _ _ _ _ _ (left-over true (total - i) i) more (step-taken (mode .limit) room out st t place _ x q (u .left) (u .same) (u .more) (rw z (rw k at d))) }
+      record { leads = λ x q d. does-as _ _ _ _ _ (left-over true (total - i) i) more (step-taken (mode .limit) room out st t place _ x q (u .step .left) (u .step .same) (u .step .more) (rw z (rw k at d))) }
 
 -- the values that stay, stay
 pub round-kept : (looping : Bool) (mode : Mode) (place : ℕ) (start : ℤ) (i : ℕ) (vars vars' : List ℤ) (st : State) (r : Answer) → Turned looping mode place start i vars vars' st r
@@ -150,21 +150,21 @@ module _ (looping : Bool) (mode : Mode) (place : ℕ) (start : ℤ) (i : ℕ) (v
   turned-once e = rw e (refl, refl)
 
   module _ (e : looping ≡ true) where
-    pub turned-none : mode .limit ≤ st .steps → Turned looping mode place start i vars vars st (Ended 26 place st)
-    unfolding Turned RoundBegun
-    turned-none h = rw e (record { none = h; number = refl; here = refl; same = refl; kept = refl })
+    pub turned-none : (r : Answer) → Stepped (mode .limit) place st r → OneOf (1 ∷ 2 ∷ []) (tagOf the-type r) → Turned looping mode place start i vars vars st r
+    unfolding Turned RoundBegun Stepped
+    turned-none (Going t) h k = absurd (not-first k)
+    turned-none (Ended n p t) h k = rw e (record { none = h; kept = refl })
+    turned-none Stuck h k = absurd h
 
     pub turns-are : Turns looping mode start i → (1 ≤ mode .variables) × (inRange start ≡ true) × (inRange (turnOf (mode .reversed) start i) ≡ true)
     unfolding Turns
     turns-are w = rw e at w
 
-    pub turned-goes : Turns looping mode start i → mode .variables ≤ length vars → st .steps < mode .limit → (t : State) → t .written ≡ st .written → t .steps ≡ st .steps + 1
+    pub turned-goes : Turns looping mode start i → mode .variables ≤ length vars → (t : State) → OneStep (mode .limit) st t
         → (last : ℕ) → last ≡ mode .variables - 1 → (z : ℤ) → z ≡ turnOf (mode .reversed) start i → Turned looping mode place start i vars (set vars last z) st (Going t)
     unfolding Turned RoundBegun
-    turned-goes w h left t same more last l z v = rw (e, l, v) (record {
-      left = left;
-      same = same;
-      more = more;
+    turned-goes w h t one last l z v = rw (e, l, v) (record {
+      step = one;
       values = value-set (mode .variables) vars (turnOf (mode .reversed) start i) (turns-are w .0) h;
       kept = values-stay (mode .variables - 1) vars (turnOf (mode .reversed) start i);
     })

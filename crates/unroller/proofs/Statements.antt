@@ -148,7 +148,7 @@ module _ (mode : Mode) (room base tag : ℕ) (l program : List ℕ) (f : Frame) 
   one-stops o st (Going s) e h = absurd (not-first h)
   one-stops o st (Ended n p s) e h =
       let q = first (e .enterable) in
-      rw (e .number, e .place, e .same) (does-as o st o (Ended 26 base st) (step (mode .limit) room base >> q .after-it) (oneRun mode room base tag l program f) (q .is) (step-full (mode .limit) room o st base (q .after-it) (e .none)))
+      rw (e .none .number, e .none .here, e .none .same) (does-as o st o (Ended 26 base st) (step (mode .limit) room base >> q .after-it) (oneRun mode room base tag l program f) (q .is) (step-full (mode .limit) room o st base (q .after-it) (e .none .none)))
   one-stops o st aStuck e h = does-as o st o aStuck noMeaning (oneRun mode room base tag l program f) (one-refused e) (does-stuck o st o)
 
   -- a gate or a cx

@@ -3,49 +3,38 @@ ghost use mathlib.Core.Path.{_≡_};
 ghost use Prim.Native.Nat.{_+_, _-_, _<_, _≤_};
 ghost use lib.ListN.{length, getD, take};
 ghost use lib.Seq.{slice};
+ghost use Rattle.language.specs.Limits.{longestProgram, mostFamilies};
+ghost use Rattle.indexes.specs.Values.{mostValues};
 ghost use Rattle.records.specs.Outcomes.{Does};
 ghost use Rattle.gates.specs.Gates.{frameIn, Enterable};
 ghost use Rattle.calls.specs.Families.{Tabled};
 ghost use Rattle.unroller.specs.Runs.{Ready, Often, Turns, Turned, Completes, Nestable, Inside, oneRun, timesRun, keptIn};
+use calls::OPERAND_NUMBERS;
 use calls::Taken;
-use records::Answer;
-use records::State;
+use field_walk::Begun;
 use fields::Header;
 use gates::Mode;
 use gates::Repeats;
-use field_walk::Begun;
+use indexes::VALUES;
+use limits::MOST_FAMILIES;
+use operands::REGISTER_NUMBERS;
 use operands::Scope;
-
-fn wider(x: u8) -> u16
-    ensures { λ r. ⌜ r ≡ x ⌝ }
-{
-    x as u16
-}
-
-fn long(x: u16) -> usize
-    ensures { λ r. ⌜ r ≡ x ⌝ }
-{
-    x as usize
-}
+use records::Answer;
+use records::State;
 
 // A table tells how long it is.
-fn tell_table(table: [u16; 255])
-    ensures { λ _. ⌜ length table ≡ 255 ⌝ }
+fn tell_table(table: [u16; MOST_FAMILIES])
+    ensures { λ _. ⌜ length table ≡ mostFamilies ⌝ }
 {}
 
 // Where the table says that the family n is.
-fn listed(table: &[u16; 255], n: u8) -> usize
+fn listed(table: &[u16; MOST_FAMILIES], n: u8) -> usize
     requires { ⌜ n < length (now table) ⌝ }
     ensures { λ r. ⌜ r ≡ getD (now (table .entry)) n 0 ⌝ }
 {
     tell_table(*table);
-    long(table[fields::wide(n)])
+    fields::long(table[fields::wide(n)])
 }
-
-// An array tells how long it is.
-fn tell(vars: [i32; 20])
-    ensures { λ _. ⌜ length vars ≡ 20 ⌝ }
-{}
 
 // Begins the round i of a list: of a loop it takes a step and sets the loop's variable, the last of the values in scope.
 fn begin_round(
@@ -53,29 +42,25 @@ fn begin_round(
     start: i64,
     i: usize,
     looping: bool,
-    vars: &mut [i32; 20],
+    vars: &mut [i32; VALUES],
     mode: Mode,
     st: State,
 ) -> Answer
-    requires { ⌜ (place ≤ 65535) × (mode .variables ≤ 20) ⌝ }
+    requires { ⌜ (place ≤ longestProgram) × (mode .variables ≤ mostValues) ⌝ }
     requires { ⌜ Turns looping mode start i ⌝ }
     ensures { λ r. ⌜ Turned looping mode place start i (now (vars .entry)) (now (vars .exit)) st r ⌝ }
 {
     if !looping {
         return Answer::Going(st);
     }
-    let steps = st.steps;
-    if mode.limit <= steps {
-        return Answer::Ended(26, place as u16, st);
-    }
-    let taken = steps + 1;
+    let r = records::take_step(mode.limit, place, st);
+    let Answer::Going(t) = r else {
+        return r;
+    };
     let last = fields::wide(mode.variables) - 1;
-    tell(*vars);
+    indexes::tell_values(*vars);
     vars[last] = gates::turn(mode.reversed, start, i);
-    Answer::Going(State {
-        written: st.written,
-        steps: taken,
-    })
+    Answer::Going(t)
 }
 
 // A reverse or a for whose step is taken: where its content begins, its tag, what stays in it, and the state.
@@ -124,11 +109,11 @@ fn run_statement(
     to: usize,
     place: usize,
     tag: u8,
-    vars: &mut [i32; 20],
+    vars: &mut [i32; VALUES],
     scope: Scope,
-    regs: &[u16; 765],
+    regs: &[u16; REGISTER_NUMBERS],
     program: &[u8],
-    table: &[u16; 255],
+    table: &[u16; MOST_FAMILIES],
     mode: Mode,
     st: State,
     out: &mut [u8],
@@ -189,11 +174,11 @@ fn run_rounds(
     to: usize,
     place: usize,
     tag: u8,
-    vars: &mut [i32; 20],
+    vars: &mut [i32; VALUES],
     scope: Scope,
-    regs: &[u16; 765],
+    regs: &[u16; REGISTER_NUMBERS],
     program: &[u8],
-    table: &[u16; 255],
+    table: &[u16; MOST_FAMILIES],
     mode: Mode,
     st: State,
     out: &mut [u8],
@@ -247,11 +232,11 @@ pub fn run_list(
     start: i64,
     total: usize,
     looping: bool,
-    vars: &mut [i32; 20],
+    vars: &mut [i32; VALUES],
     scope: Scope,
-    regs: &[u16; 765],
+    regs: &[u16; REGISTER_NUMBERS],
     program: &[u8],
-    table: &[u16; 255],
+    table: &[u16; MOST_FAMILIES],
     mode: Mode,
     st: State,
     out: &mut [u8],
@@ -322,11 +307,11 @@ fn run_call(
     from: usize,
     to: usize,
     place: usize,
-    vars: &[i32; 20],
+    vars: &[i32; VALUES],
     scope: Scope,
-    regs: &[u16; 765],
+    regs: &[u16; REGISTER_NUMBERS],
     program: &[u8],
-    table: &[u16; 255],
+    table: &[u16; MOST_FAMILIES],
     mode: Mode,
     st: State,
     out: &mut [u8],
@@ -338,14 +323,14 @@ fn run_call(
     ensures { λ r. ⌜ Completes mode 36 (to - from) (now (out .entry)) st (now (out .exit)) r (oneRun mode (length (now (out .entry))) place 36 (slice from to (now (bytes .entry))) (now (program .entry)) (frameIn mode (take (mode .variables) (now (vars .entry))) scope (now (regs .entry)))) ⌝ }
 {
     let n = bytes[from];
-    let number = wider(n);
+    let number = fields::wider(n);
     if mode.families_visible <= number {
         return Answer::Stuck;
     }
     let at = listed(table, n);
     let many = fields::wide(mode.variables);
-    let mut sizes = [0i32; 20];
-    let mut given = [0u16; 24];
+    let mut sizes = [0i32; VALUES];
+    let mut given = [0u16; OPERAND_NUMBERS];
     let first = from + 1;
     match calls::arguments(
         bytes,

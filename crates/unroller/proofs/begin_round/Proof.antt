@@ -5,7 +5,9 @@ use Rattle.unroller.proofs.begin_round.Reads as reads
 use Rattle.unroller.proofs.begin_round.Lts as lts
 use Rattle.fields.proofs.wide.Reads as wide-reads
 use Rattle.gates.proofs.turn.Reads as turn-reads
-use Rattle.unroller.proofs.tell.Reads as tell-reads
+use Rattle.indexes.proofs.tell_values.Reads as tell-values-reads
+use Rattle.records.proofs.take_step.Reads as take-step-reads
+use borrow.Author.Needs.{needs}
 use mathlib.Core.Path.{_≡_, refl, _∙_}
 use native.Mathlib.Omega.{arith}
 use denote.Ref.{now}
@@ -13,31 +15,33 @@ use mir.Syntax.{w32}
 use mir.Val.{SFits}
 use mir.ValLaws.{toZ-ofZ}
 use Rattle.language.proofs.Integers.{range-back}
+use Rattle.records.proofs.Sequences.{stepped-goes}
 use Rattle.gates.specs.Gates.{turnOf}
 use Rattle.gates.proofs.RoundValues.{narrow}
 use Rattle.unroller.proofs.Rounds.{not-true, not-false, turned-once, turned-none, turns-are, turned-goes}
 
--- src/lib.rt:53:9
+
+-- src/lib.rt:54:9
 returns : tie.Need-returns
 returns c =
     let a = c .before .args in
     turned-once (a .looping) (a .mode) (a .place) (a .start) (a .i) (now (a .vars)) (a .st) (not-true (a .looping) (c .if1 .taken))
 
--- src/lib.rt:57:34
-cast-t12 : tie.Need-cast-t12
-cast-t12 c =
+-- src/lib.rt:56:9
+take-step-requires : tie.Need-take-step-requires
+take-step-requires c κs =
     search needs
 
--- src/lib.rt:57:9
+-- src/lib.rt:57:23
+enum-known-r : tie.Need-enum-known-r
+enum-known-r c =
+    search needs
+
+-- src/lib.rt:58:9
 returns-2 : tie.Need-returns-2
 returns-2 c =
     let a = c .before .before .before .args in
-    turned-none (a .looping) (a .mode) (a .place) (a .start) (a .i) (now (a .vars)) (a .st) (not-false (a .looping) (c .before .before .if1 .left)) (c .if2 .taken)
-
--- src/lib.rt:59:17
-add-taken : tie.Need-add-taken
-add-taken c =
-    search needs
+    turned-none (a .looping) (a .mode) (a .place) (a .start) (a .i) (now (a .vars)) (a .st) (not-false (a .looping) (c .before .before .if1 .left)) (c .before .take-step .result) (c .before .take-step .ensures) (c .match .keys2)
 
 -- src/lib.rt:60:16
 wide-requires : tie.Need-wide-requires
@@ -47,25 +51,25 @@ wide-requires c κs =
 -- src/lib.rt:60:16
 sub-last : tie.Need-sub-last
 sub-last c =
-    let a = c .before .before .before .before .args in
-    let w = turns-are (a .looping) (a .mode) (a .place) (a .start) (a .i) (now (a .vars)) (a .st) (not-false (a .looping) (c .before .before .before .if1 .left)) (c .before .before .before .before .pre .1) in
+    let a = c .before .before .before .before .before .before .args in
+    let w = turns-are (a .looping) (a .mode) (a .place) (a .start) (a .i) (now (a .vars)) (a .st) (not-false (a .looping) (c .before .before .before .before .before .if1 .left)) (c .before .before .before .before .before .before .pre .1) in
     omega (arith, w .0, c .wide .ensures)
 
 -- src/lib.rt:61:5
-tell-requires : tie.Need-tell-requires
-tell-requires c κs =
+tell-values-requires : tie.Need-tell-values-requires
+tell-values-requires c κs =
     search needs
 
 -- src/lib.rt:62:18
 turn-requires : tie.Need-turn-requires
 turn-requires c κs =
-    let a = c .before .before .before .before .before .before .args in
-    let w = turns-are (a .looping) (a .mode) (a .place) (a .start) (a .i) (now (a .vars)) (a .st) (not-false (a .looping) (c .before .before .before .before .before .if1 .left)) (c .before .before .before .before .before .before .pre .1) in
+    let a = c .before .before .before .before .before .before .before .before .args in
+    let w = turns-are (a .looping) (a .mode) (a .place) (a .start) (a .i) (now (a .vars)) (a .st) (not-false (a .looping) (c .before .before .before .before .before .before .before .if1 .left)) (c .before .before .before .before .before .before .before .before .pre .1) in
     rw (range-back {z = a .start} (w .1)) (w .1, w .2)
 
 -- src/lib.rt:62:5
-mul-t13 : tie.Need-mul-t13
-mul-t13 c =
+mul-t12 : tie.Need-mul-t12
+mul-t12 c =
     search needs
 
 -- src/lib.rt:62:5
@@ -73,29 +77,31 @@ element-set-from-vars : tie.Need-element-set-from-vars
 element-set-from-vars c =
     search needs
 
--- src/lib.rt:39:1
+-- src/lib.rt:40:1
 returns-3 : tie.Need-returns-3
 returns-3 c =
-    let a = c .before .before .before .before .before .before .before .args in
-    let on = not-false (a .looping) (c .before .before .before .before .before .before .if1 .left) in
-    let w = turns-are (a .looping) (a .mode) (a .place) (a .start) (a .i) (now (a .vars)) (a .st) on (c .before .before .before .before .before .before .before .pre .1) in
+    let a = c .before .before .before .before .before .before .before .before .before .args in
+    let on = not-false (a .looping) (c .before .before .before .before .before .before .before .before .if1 .left) in
+    let w = turns-are (a .looping) (a .mode) (a .place) (a .start) (a .i) (now (a .vars)) (a .st) on (c .before .before .before .before .before .before .before .before .before .pre .1) in
     let z = turnOf (a .mode .reversed) (a .start) (a .i) in
     let e : c .turn .result ≡ z = rw (range-back {z = a .start} (w .1)) at (c .turn .ensures) in
     let f : SFits w32 (c .turn .result) = rw e (narrow z (w .2)) in
-    turned-goes (a .looping) (a .mode) (a .place) (a .start) (a .i) (now (a .vars)) (a .st) on (c .before .before .before .before .before .before .before .pre .1) (omega (arith, c .before .tell .ensures, c .before .before .before .before .before .before .before .pre .0 .1)) (c .before .before .before .before .if2 .left) _ refl refl _ (omega (arith, c .before .before .before .wide .ensures)) _ (toZ-ofZ w32 (c .turn .result) f ∙ e)
+    let t = c .before .before .before .before .before .r .given .0 .0 in
+    let q = stepped-goes (a .mode .limit) (a .place) (a .st) t (c .before .before .before .before .before .before .before .take-step .result) (c .before .before .before .before .before .before .before .take-step .ensures) (c .before .before .before .before .before .r .given .1) in
+    turned-goes (a .looping) (a .mode) (a .place) (a .start) (a .i) (now (a .vars)) (a .st) on (c .before .before .before .before .before .before .before .before .before .pre .1) (omega (arith, c .before .tell-values .ensures, c .before .before .before .before .before .before .before .before .before .pre .0 .1)) t q _ (omega (arith, c .before .before .before .wide .ensures)) _ (toZ-ofZ w32 (c .turn .result) f ∙ e)
 
 pub begin-round-spec : {M : Type 1} → statement M
 begin-round-spec =
     tie.close
     (tie.spec
     returns
-    cast-t12
+    take-step-requires
+    enum-known-r
     returns-2
-    add-taken
     wide-requires
     sub-last
-    tell-requires
+    tell-values-requires
     turn-requires
-    mul-t13
+    mul-t12
     element-set-from-vars
     returns-3)

@@ -4,7 +4,7 @@ use Rattle.unroller.proofs.listed.Tie as tie
 use Rattle.unroller.proofs.listed.Reads as reads
 use Rattle.unroller.proofs.listed.Lts as lts
 use Rattle.fields.proofs.wide.Reads as wide-reads
-use Rattle.unroller.proofs.long.Reads as long-reads
+use Rattle.fields.proofs.long.Reads as long-reads
 use Rattle.unroller.proofs.tell_table.Reads as tell-table-reads
 use Prim.Native.Nat.{ℕ}
 use mathlib.Core.Path.{ap, _∙_}
@@ -39,7 +39,7 @@ long-requires c κs =
 -- src/lib.rt:37:1
 returns : tie.Need-returns
 returns c =
-    c .long .ensures ∙ ap (λ (i : ℕ). getD (now (c .before .before .before .before .before .args .table)) i 0) (c .before .before .wide .ensures .0)
+    c .long .ensures .0 ∙ ap (λ (i : ℕ). getD (now (c .before .before .before .before .before .args .table)) i 0) (c .before .before .wide .ensures .0)
 
 pub listed-spec : {M : Type 1} → statement M
 listed-spec =

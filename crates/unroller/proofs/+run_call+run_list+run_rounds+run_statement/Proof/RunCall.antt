@@ -60,7 +60,7 @@ module _ (t : ℕ) where
       let gap = nameless-not 36 (a .to - a .from) (en .named) refl in
       let low : a .from < a .to = omega (arith, gap) in
       let k = getD l (a .from) 0 in
-      (λ s q. does-as _ _ _ _ _ (oneRun (a .mode) room (a .place) 36 (slice (a .from) (a .to) l) g (frameIn (a .mode) vs (a .scope) (now (a .regs)))) (call-none (a .mode) room (a .from) (a .to) (a .place) l g vs (a .scope) (now (a .regs)) (en .deep) low (ready .within) (omega (arith, c .if1 .taken, c .before .before .wider .ensures))) (step-taken (a .mode .limit) room (now (a .out)) s (a .st) (a .place) _ _ _ (q .left) (q .same) (q .more) (does-stuck (now (a .out)) (a .st) _)))
+      (λ s q. does-as _ _ _ _ _ (oneRun (a .mode) room (a .place) 36 (slice (a .from) (a .to) l) g (frameIn (a .mode) vs (a .scope) (now (a .regs)))) (call-none (a .mode) room (a .from) (a .to) (a .place) l g vs (a .scope) (now (a .regs)) (en .deep) low (ready .within) (omega (arith, c .if1 .taken, c .before .before .wider .ensures))) (step-taken (a .mode .limit) room (now (a .out)) s (a .st) (a .place) _ _ _ (q .step .left) (q .step .same) (q .step .more) (does-stuck (now (a .out)) (a .st) _)))
 
   -- src/lib.rt:344:9
   pub listed-requires : lts.Need-listed-requires (calls t) (at t) Post
@@ -254,7 +254,7 @@ module _ (t : ℕ) where
       let at = c .before .before .before .before .before .before .listed .result in
       let e : Entry g k at = rw (c .before .before .before .before .before .before .listed .ensures) (tb .each k below) in
       let ar : Arguments (slice (a .from + 1) (a .to) l) g at vs (operandsOf (a .scope) (now (a .regs))) _ _ (c .before .before .arguments .result) = rw (c .before .before .before .before .before .wide .ensures .0) at (c .before .before .arguments .ensures) in
-      (λ s q. does-as _ _ _ _ _ (oneRun (a .mode) room (a .place) 36 (slice (a .from) (a .to) l) g (frameIn (a .mode) vs (a .scope) (now (a .regs)))) (call-over (a .mode) room (a .from) (a .to) (a .place) l g vs (a .scope) (now (a .regs)) (en .deep) low (ready .within) at below e _ _ (c .before .before .arguments .result) ar (c .enum-told .given .1)) (step-taken (a .mode .limit) room (now (a .out)) s (a .st) (a .place) _ _ _ (q .left) (q .same) (q .more) (does-end (now (a .out)) (a .st) 24 (a .place))))
+      (λ s q. does-as _ _ _ _ _ (oneRun (a .mode) room (a .place) 36 (slice (a .from) (a .to) l) g (frameIn (a .mode) vs (a .scope) (now (a .regs)))) (call-over (a .mode) room (a .from) (a .to) (a .place) l g vs (a .scope) (now (a .regs)) (en .deep) low (ready .within) at below e _ _ (c .before .before .arguments .result) ar (c .enum-told .given .1)) (step-taken (a .mode .limit) room (now (a .out)) s (a .st) (a .place) _ _ _ (q .step .left) (q .step .same) (q .step .more) (does-end (now (a .out)) (a .st) 24 (a .place))))
 
   -- src/lib.rt:318:1
   pub returns-3 : lts.Need-returns-3 (calls t) (at t) Post
@@ -274,7 +274,7 @@ module _ (t : ℕ) where
       let at = c .before .before .before .before .before .before .listed .result in
       let e : Entry g k at = rw (c .before .before .before .before .before .before .listed .ensures) (tb .each k below) in
       let ar : Arguments (slice (a .from + 1) (a .to) l) g at vs (operandsOf (a .scope) (now (a .regs))) _ _ (c .before .before .arguments .result) = rw (c .before .before .before .before .before .wide .ensures .0) at (c .before .before .arguments .ensures) in
-      (λ s q. does-as _ _ _ _ _ (oneRun (a .mode) room (a .place) 36 (slice (a .from) (a .to) l) g (frameIn (a .mode) vs (a .scope) (now (a .regs)))) (call-stuck (a .mode) room (a .from) (a .to) (a .place) l g vs (a .scope) (now (a .regs)) (en .deep) low (ready .within) at below e _ _ (c .before .before .arguments .result) ar (c .enum-told2 .given .1)) (step-taken (a .mode .limit) room (now (a .out)) s (a .st) (a .place) _ _ _ (q .left) (q .same) (q .more) (does-stuck (now (a .out)) (a .st) _)))
+      (λ s q. does-as _ _ _ _ _ (oneRun (a .mode) room (a .place) 36 (slice (a .from) (a .to) l) g (frameIn (a .mode) vs (a .scope) (now (a .regs)))) (call-stuck (a .mode) room (a .from) (a .to) (a .place) l g vs (a .scope) (now (a .regs)) (en .deep) low (ready .within) at below e _ _ (c .before .before .arguments .result) ar (c .enum-told2 .given .1)) (step-taken (a .mode .limit) room (now (a .out)) s (a .st) (a .place) _ _ _ (q .step .left) (q .step .same) (q .step .more) (does-stuck (now (a .out)) (a .st) _)))
 
   -- src/lib.rt:318:1
   pub same-length : lts.Need-same-length (calls t) (at t) Post
@@ -305,4 +305,4 @@ module _ (t : ℕ) where
       let part-is : now (c .before .before .before .before .before .before .before .before .before .body-of .result) ≡ slice start (pastOf g at) g = c .before .before .before .before .before .before .before .before .before .body-of .ensures in
       let long : length (now (c .before .before .before .before .before .before .before .before .before .body-of .result)) ≡ pastOf g at - start = ap (λ (x : List ℕ). length x) part-is ∙ length-slice start (pastOf g at) g (e .within) in
       let d = rw (c .before .before .before .before .before .before .before .entered .ensures, c .before .before .before .before .before .before .before .before .before .before .before .before .before .before .before .before .before .before .before .before .wider .ensures) at (c .before .before .run-list .ensures) in
-      (λ s q. does-as _ _ _ _ _ (oneRun (a .mode) room (a .place) 36 (slice (a .from) (a .to) l) g (frameIn (a .mode) vs (a .scope) (now (a .regs)))) (call-all (a .mode) room (a .from) (a .to) (a .place) l g vs (a .scope) (now (a .regs)) (en .deep) low (ready .within) at below e _ _ (c .before .before .before .before .before .before .before .before .before .before .before .before .before .arguments .result) ar n start (c .before .before .before .before .before .before .before .before .before .before .before .count .given .1) (c .before .before .before .before .scope-of .result) (c .before .before .before .before .scope-of .ensures) (now (c .before .before .before .before .before .before .before .before .before .body-of .result)) part-is) (step-taken (a .mode .limit) room (now (a .out)) s (a .st) (a .place) _ _ _ (q .left) (q .same) (q .more) (d .0)))
+      (λ s q. does-as _ _ _ _ _ (oneRun (a .mode) room (a .place) 36 (slice (a .from) (a .to) l) g (frameIn (a .mode) vs (a .scope) (now (a .regs)))) (call-all (a .mode) room (a .from) (a .to) (a .place) l g vs (a .scope) (now (a .regs)) (en .deep) low (ready .within) at below e _ _ (c .before .before .before .before .before .before .before .before .before .before .before .before .before .arguments .result) ar n start (c .before .before .before .before .before .before .before .before .before .before .before .count .given .1) (c .before .before .before .before .scope-of .result) (c .before .before .before .before .scope-of .ensures) (now (c .before .before .before .before .before .before .before .before .before .body-of .result)) part-is) (step-taken (a .mode .limit) room (now (a .out)) s (a .st) (a .place) _ _ _ (q .step .left) (q .step .same) (q .step .more) (d .0)))

@@ -73,7 +73,7 @@ module _ (t : ℕ) where
       let q : StepTaken (a .mode) (a .tag) (a .to - a .from) (a .st) s = one-steps (a .mode) (a .tag) (a .to - a .from) (a .place) (a .st) s (c .before .before .before .before .before .before .before .before .before .step .result) (c .before .before .before .before .before .before .before .before .before .step .ensures) (c .before .before .before .before .before .before .before .r .given .1) in
       let w = q .enterable in (
         does-as _ _ _ _ _ (oneRun (a .mode) room (a .place) (a .tag) l g f) (one-acts (a .mode) room (a .place) (a .tag) l g f (w .deep) (w .low) (c .before .before .before .before .before .if1 .taken))
-            (step-taken (a .mode .limit) room (now (a .out)) (a .st) s (a .place) _ _ _ (q .left) (q .same) (q .more) (c .before .before .act .ensures)),
+            (step-taken (a .mode .limit) room (now (a .out)) (a .st) s (a .place) _ _ _ (q .step .left) (q .step .same) (q .step .more) (c .before .before .act .ensures)),
         refl,
       )
 

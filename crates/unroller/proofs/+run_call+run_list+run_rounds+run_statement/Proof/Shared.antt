@@ -31,7 +31,7 @@ use Rattle.field_walk.proofs.whole.Reads as whole-reads
 use Rattle.unroller.proofs.begin_round.Reads as begin-round-reads
 use Rattle.unroller.proofs.inmost.Reads as inmost-reads
 use Rattle.unroller.proofs.listed.Reads as listed-reads
-use Rattle.unroller.proofs.wider.Reads as wider-reads
+use Rattle.fields.proofs.wider.Reads as wider-reads
 use Prim.Native.Nat.{_+_, _-_, _*_, _<_}
 
 abbrev pub μ-run-call : Measures 6 run-call-kinds.ps ℕ
