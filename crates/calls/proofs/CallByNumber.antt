@@ -29,12 +29,12 @@ declared-at l k at e =
 
 module _ (program : List ℕ) (k at seen : ℕ) (e : Entry program k at) (h : k < seen) where
   -- a call of the family, by its number, of which l are the arguments
-  pub call-is : (l : List ℕ) (values : List ℤ) (ms : List Meaning) (sizes : List ℤ) (hand : List ℕ) (r : Taken) → Arguments l program at values ms sizes hand r
+  pub call-is : (l : List ℕ) (values : List ℤ) (ms : List Meaning) (sizes : List ℤ) (numbers : List ℕ) (r : Taken) → Arguments l program at values ms sizes numbers r
       → (limit out : ℕ) (q t : Place) (d : Direction) (c : Condition)
       → runStatement limit out (call q k (argumentsIn t l)) (take seen (allDeclared limit out (read program) [])) (frameOf d c values ms)
       ≡ (step limit out q >> given q r (λ n. runStatements limit out (declaredAt program at .body) (take k (allDeclared limit out (read program) []))
-      (frameOf d c (take (getD program (at + 3) 0) sizes) (gatheredOperands (take (3 * n) hand)))))
+      (frameOf d c (take (getD program (at + 3) 0) sizes) (gatheredOperands (take (3 * n) numbers)))))
   unfolding callFamily
-  call-is l values ms sizes hand r a limit out q t d c =
+  call-is l values ms sizes numbers r a limit out q t d c =
       call-falls limit out (read program) seen k q (argumentsIn t l) (frameOf d c values ms) (declaredAt program at) h (declared-at program k at e)
       ∙ ap (λ (run : Run (Unit {0})). step limit out q >> run) (a .same q t d c limit out (take k (allDeclared limit out (read program) [])))

@@ -21,11 +21,11 @@ use Rattle.kinds.specs.Numbers.{numberOf, kindWith, kind-back}
 use Rattle.operands.specs.declared.OperandMeaning.{OperandMeaning}
 use Rattle.operands.specs.declared.OperandMeaning.the-variants.{AWire, ABit, Wires, Bits, Over, Stuck}
 use Rattle.operands.specs.Meanings.{frameOf, meaningTold, FieldMeans}
-use Rattle.operands.proofs.OperandMeaning.{the-type as stands-type}
+use Rattle.operands.proofs.OperandMeaning.{the-type as meaning-type}
 use Rattle.fields.specs.declared.Header.the-variants.{Whole, End, Cut}
 use Rattle.fields.proofs.Between.{lookIn, in-whole}
 use Rattle.calls.specs.declared.Gathered.the-variants.{Are, Over as gOver, Stuck as gStuck}
-use Rattle.calls.specs.Arguments.{operandNumbers, operandArguments, gatheredOperand, gatheredOperands, Unfit, OperandsKept, KeepsMore, OperandsGathered, hands, ends, sticks}
+use Rattle.calls.specs.Arguments.{operandNumbers, operandArguments, gatheredOperand, gatheredOperands, Unfit, OperandsKept, GathersMore, OperandsGathered, operands-are, operands-over, operands-stuck}
 use Rattle.calls.proofs.ArgumentLists.{Lister, Sofar, ListLeads, Skipped, led, sofar-start, sofar-end, sofar-cut, sofar-skip, sofar-more, sofar-over, sofar-stuck}
 
 -- ---- operands that no family takes
@@ -78,68 +78,68 @@ unfit-long ms m h types e = all-take-long types (ms ++ (m ∷ [])) (λ f. omega 
 abbrev tooMany : ℕ
 tooMany = mostParameters + 1
 
-handed-more : (k f s n : ℕ) (l : List ℕ) → 3 * n + 2 < length l
+gathered-more : (k f s n : ℕ) (l : List ℕ) → 3 * n + 2 < length l
     → gatheredOperands (take (3 * (n + 1)) (set (set (set l (3 * n) k) (3 * n + 1) f) (3 * n + 2) s)) ≡ gatheredOperands (take (3 * n) l) ++ (gatheredOperand (kindWith k) f s ∷ [])
 unfolding gatheredOperands
-handed-more k f s n [] h = absurd (omega arith)
-handed-more k f s n (a ∷ []) h = absurd (omega arith)
-handed-more k f s n (a ∷ b ∷ []) h = absurd (omega arith)
-handed-more k f s zero (a ∷ b ∷ c ∷ l) h = refl
-handed-more k f s (suc n) (a ∷ b ∷ c ∷ l) h =
+gathered-more k f s n [] h = absurd (omega arith)
+gathered-more k f s n (a ∷ []) h = absurd (omega arith)
+gathered-more k f s n (a ∷ b ∷ []) h = absurd (omega arith)
+gathered-more k f s zero (a ∷ b ∷ c ∷ l) h = refl
+gathered-more k f s (suc n) (a ∷ b ∷ c ∷ l) h =
     let e : 3 * suc n ≡ suc (suc (suc (3 * n))) = omega arith in
     let d : 3 * (suc n + 1) ≡ suc (suc (suc (3 * (n + 1)))) = omega arith in
     let i : suc (suc (suc (3 * n))) + 1 ≡ suc (suc (suc (3 * n + 1))) = omega arith in
     let j : suc (suc (suc (3 * n))) + 2 ≡ suc (suc (suc (3 * n + 2))) = omega arith in
-    rw (d, e, i, j) (ap (λ (ms : List Meaning). gatheredOperand (kindWith a) b c ∷ ms) (handed-more k f s n l (omega arith)))
+    rw (d, e, i, j) (ap (λ (ms : List Meaning). gatheredOperand (kindWith a) b c ∷ ms) (gathered-more k f s n l (omega arith)))
 
 -- of a kind, by its number
-pub handed-kind : (k : Kind) (x f s n : ℕ) (l : List ℕ) → x ≡ numberOf k → 3 * n + 2 < length l
+pub gathered-kind : (k : Kind) (x f s n : ℕ) (l : List ℕ) → x ≡ numberOf k → 3 * n + 2 < length l
     → gatheredOperands (take (3 * (n + 1)) (set (set (set l (3 * n) x) (3 * n + 1) f) (3 * n + 2) s)) ≡ gatheredOperands (take (3 * n) l) ++ (gatheredOperand k f s ∷ [])
-handed-kind k x f s n l e h = handed-more x f s n l h ∙ ap (λ (j : Kind). gatheredOperands (take (3 * n) l) ++ (gatheredOperand j f s ∷ [])) (ap kindWith e ∙ kind-back k)
+gathered-kind k x f s n l e h = gathered-more x f s n l h ∙ ap (λ (j : Kind). gatheredOperands (take (3 * n) l) ++ (gatheredOperand j f s ∷ [])) (ap kindWith e ∙ kind-back k)
 
-pub handed-length : (n : ℕ) (l : List ℕ) → 3 * n ≤ length l → length (gatheredOperands (take (3 * n) l)) ≡ n
+pub gathered-length : (n : ℕ) (l : List ℕ) → 3 * n ≤ length l → length (gatheredOperands (take (3 * n) l)) ≡ n
 unfolding gatheredOperands
-handed-length zero l h = refl
-handed-length (suc n) [] h = absurd (omega arith)
-handed-length (suc n) (a ∷ []) h = absurd (omega arith)
-handed-length (suc n) (a ∷ b ∷ []) h = absurd (omega arith)
-handed-length (suc n) (a ∷ b ∷ c ∷ l) h = let e : 3 * suc n ≡ suc (suc (suc (3 * n))) = omega arith in rw e (ap suc (handed-length n l (omega arith)))
+gathered-length zero l h = refl
+gathered-length (suc n) [] h = absurd (omega arith)
+gathered-length (suc n) (a ∷ []) h = absurd (omega arith)
+gathered-length (suc n) (a ∷ b ∷ []) h = absurd (omega arith)
+gathered-length (suc n) (a ∷ b ∷ c ∷ l) h = let e : 3 * suc n ≡ suc (suc (suc (3 * n))) = omega arith in rw e (ap suc (gathered-length n l (omega arith)))
 
 give-same : {m n : Meaning} → give m ≡ give n → m ≡ n
 give-same {m} {n} e = let d : _≡_ {A = Outcome Meaning} (going m begin) (going n begin) = ap (λ (r : Run Meaning). r begin) e in cc
 
 module _ (given : List ℕ) (n : ℕ) (s : OperandMeaning) where
   -- one operand more than any family takes
-  pub keeps-long : length given ≡ operandNumbers → mostParameters ≤ n → KeepsMore given n s given tooMany
-  keeps-long z h p ms m e k = record { same = λ i. absurd (omega arith); unfit = λ i. go (leb n mostParameters) (leb-true n mostParameters) (leb-false n mostParameters) }
+  pub gathers-long : length given ≡ operandNumbers → mostParameters ≤ n → GathersMore given n s given tooMany
+  gathers-long z h p ms m e k = record { same = λ i. absurd (omega arith); unfit = λ i. go (leb n mostParameters) (leb-true n mostParameters) (leb-false n mostParameters) }
     where
       go : (b : Bool) → (b ≡ true → n ≤ mostParameters) → (b ≡ false → mostParameters < n) → Unfit (ms ++ (m ∷ []))
-      go true f g = let i = f refl in unfit-long ms m (rw (k .same i) (omega (arith, handed-length n given (omega arith))))
+      go true f g = let i = f refl in unfit-long ms m (rw (k .same i) (omega (arith, gathered-length n given (omega arith))))
       go false f g = unfit-more ms m (k .unfit (g refl))
 
   module _ (h : n < mostParameters) where
-    pub keeps-quantum : (kind : Kind) (first size : ℕ) (after : List ℕ) → ((p : Place) → meaningTold p s ≡ give (gatheredOperand kind first size))
-        → gatheredOperands (take (3 * (n + 1)) after) ≡ gatheredOperands (take (3 * n) given) ++ (gatheredOperand kind first size ∷ []) → KeepsMore given n s after (n + 1)
-    keeps-quantum kind first size after f g p ms m e k = record {
+    pub gathers-quantum : (kind : Kind) (first size : ℕ) (after : List ℕ) → ((p : Place) → meaningTold p s ≡ give (gatheredOperand kind first size))
+        → gatheredOperands (take (3 * (n + 1)) after) ≡ gatheredOperands (take (3 * n) given) ++ (gatheredOperand kind first size ∷ []) → GathersMore given n s after (n + 1)
+    gathers-quantum kind first size after f g p ms m e k = record {
       same = λ i. rw (give-same (sym e ∙ f p)) (ap (λ (x : List Meaning). x ++ (gatheredOperand kind first size ∷ [])) (k .same (omega arith)) ∙ sym g);
       unfit = λ i. absurd (omega arith);
     }
 
-    pub keeps-classical : (c : Meaning) → ((p : Place) → meaningTold p s ≡ give c) → isWire c ≡ false → isQuantum c ≡ false → KeepsMore given n s given tooMany
-    keeps-classical c f x y p ms m e k = record { same = λ i. absurd (omega arith); unfit = λ i. rw (give-same (sym e ∙ f p)) (λ types j. all-take-classical types ms c x y) }
+    pub gathers-classical : (c : Meaning) → ((p : Place) → meaningTold p s ≡ give c) → isWire c ≡ false → isQuantum c ≡ false → GathersMore given n s given tooMany
+    gathers-classical c f x y p ms m e k = record { same = λ i. absurd (omega arith); unfit = λ i. rw (give-same (sym e ∙ f p)) (λ types j. all-take-classical types ms c x y) }
 
-    pub keeps-over : s ≡ Over → KeepsMore given n s given tooMany
+    pub gathers-over : s ≡ Over → GathersMore given n s given tooMany
     unfolding meaningTold
-    keeps-over f p ms m e k = absurd (let d : _≡_ {A = Outcome Meaning} (meaningTold p Over begin) (going m begin) = ap (λ (r : Run Meaning). r begin) (ap (meaningTold p) (sym f) ∙ e) in let z : _≡_ {A = ℕ} 0 1 = cc in omega arith)
+    gathers-over f p ms m e k = absurd (let d : _≡_ {A = Outcome Meaning} (meaningTold p Over begin) (going m begin) = ap (λ (r : Run Meaning). r begin) (ap (meaningTold p) (sym f) ∙ e) in let z : _≡_ {A = ℕ} 0 1 = cc in omega arith)
 
-    pub keeps-stuck : s ≡ Stuck → KeepsMore given n s given tooMany
+    pub gathers-stuck : s ≡ Stuck → GathersMore given n s given tooMany
     unfolding meaningTold
-    keeps-stuck f p ms m e k = absurd (let d : _≡_ {A = Outcome Meaning} (meaningTold p Stuck begin) (going m begin) = ap (λ (r : Run Meaning). r begin) (ap (meaningTold p) (sym f) ∙ e) in let z : _≡_ {A = ℕ} 0 1 = cc in omega arith)
+    gathers-stuck f p ms m e k = absurd (let d : _≡_ {A = Outcome Meaning} (meaningTold p Stuck begin) (going m begin) = ap (λ (r : Run Meaning). r begin) (ap (meaningTold p) (sym f) ∙ e) in let z : _≡_ {A = ℕ} 0 1 = cc in omega arith)
 
 -- before the first operand
-pub keeps-nothing : (given : List ℕ) → OperandsKept [] given 0
+pub gathers-nothing : (given : List ℕ) → OperandsKept [] given 0
 unfolding gatheredOperands
-keeps-nothing given = record { same = λ i. refl; unfit = λ i. absurd (omega arith) }
+gathers-nothing given = record { same = λ i. refl; unfit = λ i. absurd (omega arith) }
 
 -- ---- the walk
 
@@ -148,7 +148,7 @@ abbrev meaningsBy : List ℤ → List Meaning → Lister Meaning
 meaningsBy values ms q d c args = meaningsOf q (frameOf d c values ms) args
 
 -- what the walk knows at a position: the operands so far, and how they are kept
-pub record Handing (l : List ℕ) (from to : ℕ) (values : List ℤ) (ms : List Meaning) (given : List ℕ) (at n : ℕ) : Type 0 where
+pub record OperandsSoFar (l : List ℕ) (from to : ℕ) (values : List ℤ) (ms : List Meaning) (given : List ℕ) (at n : ℕ) : Type 0 where
   pub operands : List Meaning
   pub low : from ≤ at
   pub sofar : Sofar (meaningsBy values ms) l from to at operands
@@ -174,41 +174,41 @@ module _ (values : List ℤ) (ms : List Meaning) (tag : ℕ) (content : List ℕ
       go true e = refl
       go false e = rw (no-operand e q t d c)
 
-pub not-over : (x : OperandMeaning) → OneOf (0 ∷ 1 ∷ 2 ∷ 3 ∷ 5 ∷ []) (tagOf stands-type x) → x ≡ Over → ⊥
+pub not-over : (x : OperandMeaning) → OneOf (0 ∷ 1 ∷ 2 ∷ 3 ∷ 5 ∷ []) (tagOf meaning-type x) → x ≡ Over → ⊥
 not-over x h e = not-four (rw e at h)
   where
     not-four : OneOf (0 ∷ 1 ∷ 2 ∷ 3 ∷ 5 ∷ []) 4 → ⊥
     not-four k = ⊎-elim (λ z. omega arith) (⊎-elim (λ z. omega arith) (⊎-elim (λ z. omega arith) (⊎-elim (λ z. omega arith) (λ z. omega arith)))) k
 
 -- what an operand stands for, if for anything
-stands-for : (x : OperandMeaning) → (x ≡ Over → ⊥) → (x ≡ Stuck → ⊥) → (m : Meaning) × ((q : Place) → meaningTold q x ≡ give m)
+some-meaning : (x : OperandMeaning) → (x ≡ Over → ⊥) → (x ≡ Stuck → ⊥) → (m : Meaning) × ((q : Place) → meaningTold q x ≡ give m)
 unfolding meaningTold
-stands-for (AWire w) a b = (_, λ q. refl)
-stands-for (ABit w) a b = (_, λ q. refl)
-stands-for (Wires w n) a b = (_, λ q. refl)
-stands-for (Bits w n) a b = (_, λ q. refl)
-stands-for Over a b = absurd (a refl)
-stands-for Stuck a b = absurd (b refl)
+some-meaning (AWire w) a b = (_, λ q. refl)
+some-meaning (ABit w) a b = (_, λ q. refl)
+some-meaning (Wires w n) a b = (_, λ q. refl)
+some-meaning (Bits w n) a b = (_, λ q. refl)
+some-meaning Over a b = absurd (a refl)
+some-meaning Stuck a b = absurd (b refl)
 
 module _ (l : List ℕ) (from to : ℕ) (values : List ℤ) (ms : List Meaning) where
-  pub handing-start : (given : List ℕ) → Handing l from to values ms given from 0
-  handing-start given = record { operands = []; low = omega arith; sofar = sofar-start (meaningsBy values ms) l from to; kept = keeps-nothing given }
+  pub operands-start : (given : List ℕ) → OperandsSoFar l from to values ms given from 0
+  operands-start given = record { operands = []; low = omega arith; sofar = sofar-start (meaningsBy values ms) l from to; kept = gathers-nothing given }
 
-  module _ (given : List ℕ) (at n : ℕ) (s : Handing l from to values ms given at n) where
-    pub handed-end : lookIn l at to ≡ End → OperandsGathered (operandArguments (slice from to l) values ms) given (Are n)
+  module _ (given : List ℕ) (at n : ℕ) (s : OperandsSoFar l from to values ms given at n) where
+    pub gathered-end : lookIn l at to ≡ End → OperandsGathered (operandArguments (slice from to l) values ms) given (Are n)
     unfolding meaningsOf
-    handed-end e = hands (s .operands) (sofar-end (meaningsBy values ms) l from to at (s .low) (s .operands) (s .sofar) e (λ q d c. refl)) (s .kept)
+    gathered-end e = operands-are (s .operands) (sofar-end (meaningsBy values ms) l from to at (s .low) (s .operands) (s .sofar) e (λ q d c. refl)) (s .kept)
 
-    pub handed-cut : lookIn l at to ≡ Cut → OperandsGathered (operandArguments (slice from to l) values ms) given gStuck
+    pub gathered-cut : lookIn l at to ≡ Cut → OperandsGathered (operandArguments (slice from to l) values ms) given gStuck
     unfolding meaningsOf
-    handed-cut e = sticks (sofar-cut (meaningsBy values ms) l from to at (s .low) (s .operands) (s .sofar) e (λ q t d c. refl))
+    gathered-cut e = operands-stuck (sofar-cut (meaningsBy values ms) l from to at (s .low) (s .operands) (s .sofar) e (λ q t d c. refl))
 
     module _ (tag next : ℕ) (e : lookIn l at to ≡ Whole tag next) where
       further : from ≤ next
       further = omega (arith, in-whole l at to tag next e .low, s .low)
 
-      pub handed-skip : isIndexTag tag ≡ true → Handing l from to values ms given next n
-      handed-skip h = record {
+      pub gathered-skip : isIndexTag tag ≡ true → OperandsSoFar l from to values ms given next n
+      gathered-skip h = record {
         operands = s .operands;
         low = further;
         sofar = sofar-skip (meaningsBy values ms) l from to at (s .low) (s .operands) (s .sofar) tag next e (index-skipped values ms tag (slice (at + 3) next l) h);
@@ -219,17 +219,17 @@ module _ (l : List ℕ) (from to : ℕ) (values : List ℤ) (ms : List Meaning) 
         leads : ListLeads (meaningsBy values ms) tag (slice (at + 3) next l) (λ q. meaningTold q x)
         leads = operand-leads values ms tag (slice (at + 3) next l) h x w
 
-        pub handed-over : x ≡ Over → OperandsGathered (operandArguments (slice from to l) values ms) given gOver
+        pub gathered-over : x ≡ Over → OperandsGathered (operandArguments (slice from to l) values ms) given gOver
         unfolding meaningTold
-        handed-over f = ends (sofar-over (meaningsBy values ms) l from to at (s .low) (s .operands) (s .sofar) tag next e (λ q. meaningTold q x) leads (λ q. ap (meaningTold q) f))
+        gathered-over f = operands-over (sofar-over (meaningsBy values ms) l from to at (s .low) (s .operands) (s .sofar) tag next e (λ q. meaningTold q x) leads (λ q. ap (meaningTold q) f))
 
-        pub handed-stuck : x ≡ Stuck → OperandsGathered (operandArguments (slice from to l) values ms) given gStuck
+        pub gathered-stuck : x ≡ Stuck → OperandsGathered (operandArguments (slice from to l) values ms) given gStuck
         unfolding meaningTold
-        handed-stuck f = sticks (sofar-stuck (meaningsBy values ms) l from to at (s .low) (s .operands) (s .sofar) tag next e (λ q. meaningTold q x) leads (λ q. ap (meaningTold q) f))
+        gathered-stuck f = operands-stuck (sofar-stuck (meaningsBy values ms) l from to at (s .low) (s .operands) (s .sofar) tag next e (λ q. meaningTold q x) leads (λ q. ap (meaningTold q) f))
 
-        pub handed-one : (x ≡ Over → ⊥) → (x ≡ Stuck → ⊥) → (after : List ℕ) (r : ℕ) → KeepsMore given n x after r → Handing l from to values ms after next r
-        handed-one a b after r k =
-            let m = stands-for x a b in
+        pub gathered-one : (x ≡ Over → ⊥) → (x ≡ Stuck → ⊥) → (after : List ℕ) (r : ℕ) → GathersMore given n x after r → OperandsSoFar l from to values ms after next r
+        gathered-one a b after r k =
+            let m = some-meaning x a b in
             record {
               operands = s .operands ++ (m .0 ∷ []);
               low = further;

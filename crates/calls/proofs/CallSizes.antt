@@ -38,7 +38,7 @@ abbrev sizesBy : List ℤ → List Meaning → Lister ℤ
 sizesBy values ms q d c args = sizesOf q (frameOf d c values ms) args
 
 -- what the walk knows at a position: the sizes so far, how many, and that the first are stored
-pub record Sizing (l : List ℕ) (from to : ℕ) (values stored : List ℤ) (ms : List Meaning) (at k : ℕ) : Type 0 where
+pub record SizesSoFar (l : List ℕ) (from to : ℕ) (values stored : List ℤ) (ms : List Meaning) (at k : ℕ) : Type 0 where
   pub sizes : List ℤ
   pub low : from ≤ at
   pub sofar : Sofar (sizesBy values ms) l from to at sizes
@@ -76,10 +76,10 @@ module _ (values : List ℤ) (ms : List Meaning) (tag : ℕ) (content : List ℕ
       go false e = rw (h, no-index e q t)
 
 module _ (l : List ℕ) (from to : ℕ) (values : List ℤ) (ms : List Meaning) where
-  pub sizing-start : (stored : List ℤ) → Sizing l from to values stored ms from 0
-  sizing-start stored = record { sizes = []; low = omega arith; sofar = sofar-start (sizesBy values ms) l from to; many = refl; kept = λ h. refl }
+  pub sizes-start : (stored : List ℤ) → SizesSoFar l from to values stored ms from 0
+  sizes-start stored = record { sizes = []; low = omega arith; sofar = sofar-start (sizesBy values ms) l from to; many = refl; kept = λ h. refl }
 
-  module _ (stored : List ℤ) (at k : ℕ) (s : Sizing l from to values stored ms at k) where
+  module _ (stored : List ℤ) (at k : ℕ) (s : SizesSoFar l from to values stored ms at k) where
     pub sizes-end : lookIn l at to ≡ End → SizesGathered (sizeArguments (slice from to l) values ms) stored (Are k)
     unfolding sizesOf
     sizes-end e = are (s .sizes) (sofar-end (sizesBy values ms) l from to at (s .low) (s .sizes) (s .sofar) e (λ q d c. refl)) (s .many) (s .kept)
@@ -92,7 +92,7 @@ module _ (l : List ℕ) (from to : ℕ) (values : List ℤ) (ms : List Meaning) 
       further : from ≤ next
       further = omega (arith, in-whole l at to tag next e .low, s .low)
 
-      pub sizes-skip : isOperandTag tag ≡ true → Sizing l from to values stored ms next k
+      pub sizes-skip : isOperandTag tag ≡ true → SizesSoFar l from to values stored ms next k
       sizes-skip h = record {
         sizes = s .sizes;
         low = further;
@@ -113,7 +113,7 @@ module _ (l : List ℕ) (from to : ℕ) (values : List ℤ) (ms : List Meaning) 
         unfolding valueTold
         sizes-stuck f = stuck (sofar-stuck (sizesBy values ms) l from to at (s .low) (s .sizes) (s .sofar) tag next e (λ q. valueTold q v) leads (λ q. ap (valueTold q) f))
 
-        pub sizes-more : (z : ℤ) (after : List ℤ) → v ≡ Is z → (k < mostVariables → after ≡ set stored k z) → length stored ≡ mostValues → Sizing l from to values after ms next (k + 1)
+        pub sizes-more : (z : ℤ) (after : List ℤ) → v ≡ Is z → (k < mostVariables → after ≡ set stored k z) → length stored ≡ mostValues → SizesSoFar l from to values after ms next (k + 1)
         unfolding valueTold
         sizes-more z after f g n = record {
           sizes = s .sizes ++ (z ∷ []);

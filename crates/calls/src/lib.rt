@@ -13,7 +13,7 @@ ghost use Rattle.indexes.specs.Values.{mostValues};
 ghost use Rattle.kinds.specs.Numbers.{kindWith};
 ghost use Rattle.operands.specs.Meanings.{operandsOf, ofParameter};
 ghost use Rattle.calls.specs.Families.{FamilyHead, PastFields, BodyFrom};
-ghost use Rattle.calls.specs.Arguments.{operandNumbers, gatheredOperand, gatheredOperands, operandArguments, SizesAre, KeepsMore, OperandsGathered, Takes, Fits, Fitting, Scopes, Arguments};
+ghost use Rattle.calls.specs.Arguments.{operandNumbers, gatheredOperand, gatheredOperands, operandArguments, SizesAre, GathersMore, OperandsGathered, Takes, TypesTake, FamilyTakes, Scopes, Arguments};
 use fields::Header;
 use indexes::VALUES;
 use indexes::Value;
@@ -43,7 +43,7 @@ pub fn past(program: &[u8], at: usize) -> usize
 }
 
 // The position past the first k fields from `from` on, or the end where there are fewer.
-fn passed(bytes: &[u8], from: usize, to: usize, k: usize) -> usize
+fn past_fields(bytes: &[u8], from: usize, to: usize, k: usize) -> usize
     requires { ⌜ (from ≤ to) × (to ≤ length (now bytes)) ⌝ }
     ensures { λ r. ⌜ PastFields k (now (bytes .entry)) from to r ⌝ }
 {
@@ -67,7 +67,7 @@ pub fn body_start(program: &[u8], at: usize) -> usize
     let to = past(program, at);
     let from = at + 5;
     let many = fields::wide(program[at + 4]);
-    passed(program, from, to, many)
+    past_fields(program, from, to, many)
 }
 
 // The body of the family whose field is at `at`: the rest of its field from `start` on, after the types.
@@ -102,7 +102,7 @@ fn is_operand(tag: u8) -> bool
 }
 
 // Stores a size if it is one of the first that a family can have.
-fn store(sizes: &mut [i32; VALUES], k: usize, z: i64)
+fn store_size(sizes: &mut [i32; VALUES], k: usize, z: i64)
     requires { ⌜ inRange z ≡ true ⌝ }
     ensures { λ _. ⌜ (k < mostVariables → now (sizes .exit) ≡ set (now (sizes .entry)) k z) × (length (now (sizes .entry)) ≡ mostValues) ⌝ }
 {
@@ -141,7 +141,7 @@ fn sizes_of(
                     Value::Over => return Gathered::Over,
                     Value::Stuck => return Gathered::Stuck,
                     Value::Is(z) => {
-                        store(sizes, k, z);
+                        store_size(sizes, k, z);
                         k += 1;
                         at = next;
                     }
@@ -172,8 +172,8 @@ fn put(given: &mut [u16; OPERAND_NUMBERS], n: usize, kind: Kind, first: u16, siz
 
 // One operand more than the n that are gathered. No family takes a classical one, or so many: then the answer is
 // TOO_MANY.
-fn keep(given: &mut [u16; OPERAND_NUMBERS], n: usize, s: OperandMeaning) -> usize
-    ensures { λ r. ⌜ KeepsMore (now (given .entry)) n s (now (given .exit)) r ⌝ }
+fn gather(given: &mut [u16; OPERAND_NUMBERS], n: usize, s: OperandMeaning) -> usize
+    ensures { λ r. ⌜ GathersMore (now (given .entry)) n s (now (given .exit)) r ⌝ }
 {
     tell_given(*given);
     if MOST_PARAMETERS <= n {
@@ -238,7 +238,7 @@ fn operands_of(
                 if let OperandMeaning::Stuck = s {
                     return Gathered::Stuck;
                 }
-                n = keep(given, n, s);
+                n = gather(given, n, s);
                 at = next;
             }
         }
@@ -262,10 +262,10 @@ pub enum Fit {
 }
 
 // Whether the first n operands are of the kinds that the n type fields from `from` on say.
-fn fits(bytes: &[u8], from: usize, to: usize, n: usize, given: &[u16; OPERAND_NUMBERS]) -> Fit
+fn types_take(bytes: &[u8], from: usize, to: usize, n: usize, given: &[u16; OPERAND_NUMBERS]) -> Fit
     requires { ⌜ (from ≤ to) × (to ≤ length (now bytes)) ⌝ }
     requires { ⌜ n ≤ mostParameters ⌝ }
-    ensures { λ r. ⌜ Fits (now (bytes .entry)) from to n (now (given .entry)) r ⌝ }
+    ensures { λ r. ⌜ TypesTake (now (bytes .entry)) from to n (now (given .entry)) r ⌝ }
 {
     tell_given(*given);
     let mut at = from;
@@ -286,9 +286,15 @@ fn fits(bytes: &[u8], from: usize, to: usize, n: usize, given: &[u16; OPERAND_NU
 }
 
 // Whether the family whose field is at `at` takes k sizes and the first n operands gathered, and if so where its body begins.
-fn fitting(program: &[u8], at: usize, k: usize, n: usize, given: &[u16; OPERAND_NUMBERS]) -> Fit
+fn family_takes(
+    program: &[u8],
+    at: usize,
+    k: usize,
+    n: usize,
+    given: &[u16; OPERAND_NUMBERS],
+) -> Fit
     requires { ⌜ FamilyHead (now program) at ⌝ }
-    ensures { λ r. ⌜ Fitting (now (program .entry)) at k n (now (given .entry)) r ⌝ }
+    ensures { λ r. ⌜ FamilyTakes (now (program .entry)) at k n (now (given .entry)) r ⌝ }
 {
     tell_given(*given);
     if k != fields::wide(program[at + 3]) {
@@ -299,7 +305,7 @@ fn fitting(program: &[u8], at: usize, k: usize, n: usize, given: &[u16; OPERAND_
     }
     let to = past(program, at);
     let from = at + 5;
-    fits(program, from, to, n, given)
+    types_take(program, from, to, n, given)
 }
 
 // The parameter whose three numbers begin at i.
@@ -384,7 +390,7 @@ pub fn arguments(
     let Gathered::Are(n) = o else {
         return Taken::Stuck;
     };
-    let Fit::From(start) = fitting(program, at, k, n, given) else {
+    let Fit::From(start) = family_takes(program, at, k, n, given) else {
         return Taken::Stuck;
     };
     let count = n as u8;

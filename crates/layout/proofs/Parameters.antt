@@ -15,7 +15,7 @@ use lib.Seq.{slice, take-suc-set}
 use lib.Signed.{ltZ}
 use Rattle.language.proofs.Integers.{integers, range-true}
 use Rattle.language.specs.Form.{inRange}
-use Rattle.language.specs.Limits.{mostParameters, mostWires}
+use Rattle.language.specs.Limits.{mostParameters, mostWires, furthest}
 use Rattle.language.specs.Tree.{Place, ParameterType}
 use Rattle.language.specs.Read.{field, fields, readType, typesOf, due, choose, readQbit, qbitsOf}
 use Rattle.language.specs.Machine.{Meaning, wires, Run, Outcome, going, ended, stuck, give, endAt, noMeaning, laidOut, sizeOf, layout, after, _>>=_, _>>_}
@@ -43,7 +43,7 @@ pub natural : (z : ℤ) → ltZ z (pos 0) ≡ false → z ≡ pos (natAbs z)
 natural (pos n) h = refl
 natural (negsuc n) h = absurd (omega integers)
 
-pub natural-small : (z : ℤ) → inRange z ≡ true → natAbs z ≤ 2000000000
+pub natural-small : (z : ℤ) → inRange z ≡ true → natAbs z ≤ furthest
 natural-small (pos n) h = omega (integers, range-true)
 natural-small (negsuc n) h = omega (integers, range-true)
 

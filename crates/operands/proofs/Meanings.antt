@@ -90,30 +90,30 @@ parameter-none zero (suc k) (x ∷ l) h = absurd (omega arith)
 parameter-none (suc n) (suc k) (x ∷ l) h = parameter-none n k l (omega arith)
 
 -- the code's answer for what a parameter holds
-abbrev standsFor : Operand → OperandMeaning
-standsFor (Single w) = AWire w
-standsFor (Register f n) = Wires f n
+abbrev parameterAnswer : Operand → OperandMeaning
+parameterAnswer (Single w) = AWire w
+parameterAnswer (Register f n) = Wires f n
 
-pub stands-for : (p : Place) (o : Operand) → meaningTold p (standsFor o) ≡ give (parameterOf o)
+pub parameter-answer : (p : Place) (o : Operand) → meaningTold p (parameterAnswer o) ≡ give (parameterOf o)
 unfolding meaningTold parameterOf
-stands-for p (Single w) = refl
-stands-for p (Register f n) = refl
+parameter-answer p (Single w) = refl
+parameter-answer p (Register f n) = refl
 
 pub nothing : (p : Place) {A : Option Meaning} → A ≡ none → meaningTold p Stuck ≡ found A
 unfolding meaningTold found
 nothing p e = rw e
 
-pub spot-past : (first size i : ℕ) → size ≤ i → Nowhere ≡ locationIn first size i
+pub location-past : (first size i : ℕ) → size ≤ i → Nowhere ≡ locationIn first size i
 unfolding locationIn
-spot-past first size i h = simp (le-ltb i (clipped first size) (omega arith))
+location-past first size i h = simp (le-ltb i (clipped first size) (omega arith))
 
-pub spot-high : (first size i : ℕ) → locations ≤ first + i → first < locations → Nowhere ≡ locationIn first size i
+pub location-high : (first size i : ℕ) → locations ≤ first + i → first < locations → Nowhere ≡ locationIn first size i
 unfolding locationIn
-spot-high first size i h k = simp (le-ltb i (clipped first size) (omega arith))
+location-high first size i h k = simp (le-ltb i (clipped first size) (omega arith))
 
-pub spot-at : (first size i : ℕ) → i < size → first + i < locations → At (first + i) ≡ locationIn first size i
+pub location-at : (first size i : ℕ) → i < size → first + i < locations → At (first + i) ≡ locationIn first size i
 unfolding locationIn
-spot-at first size i h k = simp (lt-ltb i (clipped first size) (omega arith))
+location-at first size i h k = simp (lt-ltb i (clipped first size) (omega arith))
 
 -- ---- elements
 

@@ -22,7 +22,7 @@ use Rattle.indexes.specs.declared.Value.the-variants.{Is, Over, Stuck}
 use Rattle.fields.specs.declared.Header.the-variants.{Whole, End, Cut}
 use Rattle.indexes.specs.Values.{valueTold, IndexAt}
 use Rattle.fields.proofs.Header.{the-type}
-use Rattle.operands.proofs.OperandMeaning.{the-type as stands-type}
+use Rattle.operands.proofs.OperandMeaning.{the-type as meaning-type}
 use Rattle.fields.proofs.Parts.{not-first}
 use Rattle.fields.proofs.Between.{lookIn, in-whole, in-none, in-bad}
 use Rattle.fields.specs.declared.Header.{Header}
@@ -114,7 +114,7 @@ module _ (tag : ℕ) (l : List ℕ) (values : List ℤ) (ms : List Meaning) wher
       unfolding valueTold elements _>>=_ after
       element-at z r k y p q d c = y p ∙ sym (element-is p q d c ∙ (λ j. elements (sym (w p) j) ((index-is p q ∙ ap (valueTold p) k) j)))
 
-pub not-stuck : (x : OperandMeaning) → OneOf (0 ∷ 1 ∷ 2 ∷ 3 ∷ 4 ∷ []) (tagOf stands-type x) → x ≡ s.Stuck → ⊥
+pub not-stuck : (x : OperandMeaning) → OneOf (0 ∷ 1 ∷ 2 ∷ 3 ∷ 4 ∷ []) (tagOf meaning-type x) → x ≡ s.Stuck → ⊥
 not-stuck x h e = not-five (rw e at h)
   where
     not-five : OneOf (0 ∷ 1 ∷ 2 ∷ 3 ∷ 4 ∷ []) 5 → ⊥

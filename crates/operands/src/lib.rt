@@ -112,7 +112,7 @@ pub fn no_parameter() -> Parameter {
 }
 
 // What the parameter n stands for.
-fn bound(scope: Scope, n: usize) -> OperandMeaning
+fn parameter_meaning(scope: Scope, n: usize) -> OperandMeaning
     ensures { λ r. ⌜ OperandIs (map ofParameter (take (scope .count) (scope .params))) n r ⌝ }
 {
     let ps = scope.params;
@@ -132,13 +132,13 @@ fn bound(scope: Scope, n: usize) -> OperandMeaning
 }
 
 // What the operand number n stands for.
-fn named(scope: Scope, regs: &[u16; REGISTER_NUMBERS], n: usize) -> OperandMeaning
+fn operand_meaning(scope: Scope, regs: &[u16; REGISTER_NUMBERS], n: usize) -> OperandMeaning
     ensures { λ r. ⌜ OperandIs (operandsOf scope (now (regs .entry))) n r ⌝ }
 {
     if scope.top {
         return register(regs, scope.count, n);
     }
-    bound(scope, n)
+    parameter_meaning(scope, n)
 }
 
 // The location i of a register.
@@ -209,7 +209,7 @@ pub fn meaning(
     if from == to {
         return OperandMeaning::Stuck;
     }
-    let s = named(scope, regs, fields::wide(bytes[from]));
+    let s = operand_meaning(scope, regs, fields::wide(bytes[from]));
     if tag == fields::WHOLE {
         return s;
     }
@@ -269,7 +269,7 @@ pub fn wire_at(
     let from = at + 3;
     // a whole operand is read in place, and the scope is not copied
     if tag == fields::WHOLE && from < end {
-        return as_wire(named(scope, regs, fields::wide(bytes[from])));
+        return as_wire(operand_meaning(scope, regs, fields::wide(bytes[from])));
     }
     as_wire(meaning(bytes, from, end, tag, vars, many, scope, regs))
 }
