@@ -67,7 +67,7 @@ returns-2 c =
     let lent = now (a .output) in
     let e = sym (ap (λ (r : Result). r .number) (c .before .before .before .before .before .before .before .before .checked .ensures)) ∙ c .before .before .before .before .before .before .if1 .left in
     let out = c .before .before .before .instance .last .1 .1 .1 .1 .0 in
-    let t = instance-answers l (a .family) (now (a .sizes)) (a .limit) lent e out (c .before .before .before .instance .result) (answered (c .answerTold .result)) (rw (c .before .before .before .before .before .wide .ensures) at (c .before .before .before .instance .ensures)) (c .answerTold .ensures out) in
+    let t = instance-answers l (a .family) (now (a .sizes)) (a .limit) lent e out (c .before .before .before .instance .result) (answered (c .result-of-answer .result)) (rw (c .before .before .before .before .before .wide .ensures) at (c .before .before .before .instance .ensures)) (c .result-of-answer .ensures out) in
     (t .0, (t .1, (t .2, t .3)))
 
 pub metaqasm-instance-spec : {M : Type 1} → statement M

@@ -61,7 +61,7 @@ returns-2 c =
     let lent = now (a .output) in
     let e = sym (ap (λ (r : Result). r .number) (c .before .before .before .before .before .before .before .checked .ensures)) ∙ c .before .before .before .before .before .if1 .left in
     let out = c .before .before .before .run .last .1 .1 .0 in
-    let t = run-answers l (a .limit) lent e out (c .before .before .before .run .result) (answered (c .answerTold .result)) (c .before .before .before .run .ensures) (c .answerTold .ensures out) in
+    let t = run-answers l (a .limit) lent e out (c .before .before .before .run .result) (answered (c .result-of-answer .result)) (c .before .before .before .run .ensures) (c .result-of-answer .ensures out) in
     (t .0, (t .1, (t .2, t .3)))
 
 pub metaqasm-run-spec : {M : Type 1} → statement M
