@@ -170,8 +170,8 @@ fn put(given: &mut [u16; OPERAND_NUMBERS], n: usize, kind: Kind, first: u16, siz
     given[third] = size;
 }
 
-// One operand more than the n that are gathered. No family takes a classical one, or so many: then the answer is
-// TOO_MANY.
+// Gathers one operand behind n, and says how many there are. No family takes a classical one, or more than it can have
+// parameters: then the answer is TOO_MANY.
 fn gather(given: &mut [u16; OPERAND_NUMBERS], n: usize, s: OperandMeaning) -> usize
     ensures { λ r. ⌜ GathersMore (now (given .entry)) n s (now (given .exit)) r ⌝ }
 {
@@ -245,7 +245,7 @@ fn operands_of(
     }
 }
 
-// Whether a parameter of the type with this tag takes an operand of a kind.
+// Whether a parameter of the type with this tag takes an operand of a kind. None that is gathered is classical.
 fn takes(tag: u8, kind: Kind) -> bool
     ensures { λ r. ⌜ Takes tag kind r ⌝ }
 {

@@ -56,7 +56,7 @@ parameterOf (Register first size) = wires (theWire (first .0)) (clipped (first .
 abbrev pub ofParameter : Parameter → Meaning
 ofParameter q = parameterOf (q .operand)
 
--- the register of a kind, with its first location and its size; one that is not classical is quantum
+-- the register of a kind, with its first location and its size; none that is declared is a single qubit
 unfoldable pub registerOf : Kind → (first size : ℕ) → Meaning
 registerOf Qubit first size = wires (theWire first) (clipped first size)
 registerOf Quantum first size = wires (theWire first) (clipped first size)
