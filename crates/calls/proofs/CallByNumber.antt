@@ -15,7 +15,7 @@ use Rattle.fields.specs.Table.{pastOf}
 use Rattle.operands.specs.Meanings.{frameOf}
 use Rattle.calls.specs.declared.Taken.{Taken}
 use Rattle.calls.specs.Families.{FamilyHead, Entry, declaredAt}
-use Rattle.calls.specs.Arguments.{argumentsIn, gatheredOperands, given, Arguments}
+use Rattle.calls.specs.Arguments.{argumentsIn, gatheredOperands, argumentsTold, Arguments}
 use Rattle.calls.proofs.FamilyTable.{content-is}
 
 pub head-of : {l : List ℕ} {k at : ℕ} → Entry l k at → FamilyHead l at
@@ -32,7 +32,7 @@ module _ (program : List ℕ) (k at seen : ℕ) (e : Entry program k at) (h : k 
   pub call-is : (l : List ℕ) (values : List ℤ) (ms : List Meaning) (sizes : List ℤ) (numbers : List ℕ) (r : Taken) → Arguments l program at values ms sizes numbers r
       → (limit out : ℕ) (q t : Place) (d : Direction) (c : Condition)
       → runStatement limit out (call q k (argumentsIn t l)) (take seen (allDeclared limit out (read program) [])) (frameOf d c values ms)
-      ≡ (step limit out q >> given q r (λ n. runStatements limit out (declaredAt program at .body) (take k (allDeclared limit out (read program) []))
+      ≡ (step limit out q >> argumentsTold q r (λ n. runStatements limit out (declaredAt program at .body) (take k (allDeclared limit out (read program) []))
       (frameOf d c (take (getD program (at + 3) 0) sizes) (gatheredOperands (take (3 * n) numbers)))))
   unfolding callFamily
   call-is l values ms sizes numbers r a limit out q t d c =

@@ -28,7 +28,7 @@ use Rattle.calls.specs.declared.Taken.the-variants.{All, Over, Stuck}
 use Rattle.calls.proofs.Gathered.{the-type as gathered-type}
 use Rattle.calls.specs.Families.{FamilyHead, declaredAt, BodyFrom}
 use Rattle.kinds.specs.Numbers.{kindWith}
-use Rattle.calls.specs.Arguments.{argumentsIn, sizeArguments, operandArguments, operandNumbers, gatheredOperand, gatheredOperands, Gives, SizesGathered, are, over, stuck, OperandsKept, OperandsGathered, operands-are, operands-over, operands-stuck, taking, FamilyTakes, Scopes, given, BodyBegins, Arguments}
+use Rattle.calls.specs.Arguments.{argumentsIn, sizeArguments, operandArguments, operandNumbers, gatheredOperand, gatheredOperands, Gives, SizesGathered, are, over, stuck, OperandsKept, OperandsGathered, operands-are, operands-over, operands-stuck, taking, FamilyTakes, Scopes, argumentsTold, BodyBegins, Arguments}
 use Rattle.fields.proofs.Parts.{not-first}
 
 -- a family takes these sizes and operands, or does not
@@ -60,11 +60,11 @@ module _ (q : Place) (f : Frame) (args : List Argument) (called : Family) where
 module _ (l program : List ℕ) (at : ℕ) (values : List ℤ) (ms : List Meaning) (stored : List ℤ) (numbers : List ℕ) where
   -- a call that ends with a refusal, and one without meaning
   ends-call : ((q t : Place) (d : Direction) (c : Condition) (called : Family) → callFamily q (frameOf d c values ms) (argumentsIn t l) called ≡ endAt 24 q) → Arguments l program at values ms stored numbers Over
-  unfolding given BodyBegins
+  unfolding argumentsTold BodyBegins
   ends-call h = record { same = λ q t d c limit out fs. h q t d c (meaning limit out fs (declaredAt program at)); begins = tt }
 
   sticks-call : ((q t : Place) (d : Direction) (c : Condition) (called : Family) → callFamily q (frameOf d c values ms) (argumentsIn t l) called ≡ noMeaning) → Arguments l program at values ms stored numbers Stuck
-  unfolding given BodyBegins
+  unfolding argumentsTold BodyBegins
   sticks-call h = record { same = λ q t d c limit out fs. h q t d c (meaning limit out fs (declaredAt program at)); begins = tt }
 
   module _ (s : Gathered) (z : SizesGathered (sizeArguments l values ms) stored s) where
@@ -139,11 +139,11 @@ module _ (l program : List ℕ) (at : ℕ) (values : List ℤ) (ms : List Meanin
         ∙ ap (λ (x : Bool). entered x (runStatements limit out (declaredAt program at .body) fs (frameOf d c (z .sizes) (kept .0)))) e
 
     pub not-taken : (f : Fit) → FamilyTakes program at k n numbers f → f ≡ Not → Arguments l program at values ms stored numbers Stuck
-    unfolding entered given FamilyTakes BodyBegins
+    unfolding entered argumentsTold FamilyTakes BodyBegins
     not-taken f v i = record { same = λ q t d c limit out fs. is-entered false ((rw i at v) (kept .0) (kept .2)) q t d c limit out fs; begins = tt }
 
     pub all-taken : (f : Fit) (start : ℕ) → FamilyHead program at → FamilyTakes program at k n numbers f → f ≡ From start → Arguments l program at values ms stored numbers (All n start)
-    unfolding entered given FamilyTakes BodyBegins
+    unfolding entered argumentsTold FamilyTakes BodyBegins
     all-taken f start h v i =
         let u : (taking program at k (gatheredOperands (take (3 * n) numbers)) ≡ true) × BodyFrom program at start × (n ≤ mostParameters) = rw i at v in
         let j : kept .0 ≡ gatheredOperands (take (3 * n) numbers) = kept .2 .same (u .2) in

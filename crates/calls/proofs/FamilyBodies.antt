@@ -15,7 +15,7 @@ use Rattle.fields.specs.declared.Header.the-variants.{Whole, End, Cut}
 use Rattle.fields.specs.Table.{pastOf}
 use Rattle.fields.proofs.Header.{the-type}
 use Rattle.fields.proofs.Parts.{not-first}
-use Rattle.fields.proofs.Reading.{part-slice}
+use Rattle.fields.proofs.Headers.{part-slice}
 use Rattle.fields.proofs.Between.{lookIn, in-whole, in-none, in-bad}
 use Rattle.calls.specs.Families.{PastFields}
 

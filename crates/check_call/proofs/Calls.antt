@@ -18,7 +18,7 @@ use Rattle.language.specs.Form.{Form}
 use Rattle.language.specs.Check.{Checked, good, refused, _>>=_, _>>_, Kind, Signature, checkOperand, callForms, callOperands, taken, inScope, checkCall, checkStatement}
 use Rattle.language.proofs.Integers.{clash}
 use Rattle.fields.specs.Header.{fieldsAt}
-use Rattle.fields.proofs.Reading.{View, ends, cuts, goes, view, fields-end}
+use Rattle.fields.proofs.Headers.{View, ends, cuts, goes, view, fields-end}
 use Rattle.forms.specs.Rows.{formsOf}
 use Rattle.check_index.proofs.Read.{the-type}
 use Rattle.check_operand.specs.Tables.{tabulated}

@@ -17,7 +17,7 @@ use Rattle.language.specs.Form.{Form, built}
 use Rattle.language.specs.Check.{Checked, good, refused, _>>=_, _>>_, formOf, mustShow, callForms}
 use Rattle.language.proofs.Integers.{clash}
 use Rattle.fields.specs.Header.{fieldsAt}
-use Rattle.fields.proofs.Reading.{View, ends, cuts, goes, view}
+use Rattle.fields.proofs.Headers.{View, ends, cuts, goes, view}
 use Rattle.forms.proofs.Laws.{zeros-kept}
 use Rattle.forms.specs.Flat.{asForm}
 use Rattle.forms.specs.Rows.{Rows, formsOf}

@@ -13,7 +13,7 @@ use Rattle.language.specs.Tree.{badIndex, badType}
 use Rattle.language.specs.Form.{Form, built}
 use Rattle.language.specs.Read.{Field, field, choose, due, ending, qbitsOf, outerIndex, readType, readQbit, badHeader, typesOf}
 use Rattle.language.specs.Check.{Checked, good, refused, _>>=_, _>>_, Kind, qubit, quantum, Signature, formOf, mustShow, kindOf, noLeftover, kindsOf}
-use Rattle.fields.proofs.Reading.{Wholly, one-byte, slice-none}
+use Rattle.fields.proofs.Headers.{Wholly, one-byte, slice-none}
 use Rattle.fields.specs.Header.{fieldsAt}
 use Rattle.forms.specs.Flat.{Kept, asForm, Short, widened}
 use Rattle.check_index.proofs.Read.{the-type}

@@ -13,7 +13,7 @@ use Rattle.language.specs.Read.{Field, ending}
 use Rattle.language.specs.Form.{Form}
 use Rattle.language.specs.Check.{Checked, good, refused, _>>=_, _>>_, noLeftover}
 use Rattle.fields.specs.Header.{fieldsAt}
-use Rattle.fields.proofs.Reading.{Wholly, View, ends, cuts, goes, view, fields-end}
+use Rattle.fields.proofs.Headers.{Wholly, View, ends, cuts, goes, view, fields-end}
 use Rattle.forms.specs.Flat.{Kept, asForm}
 use Rattle.check_index.proofs.Read.{the-type}
 use Rattle.check_index.specs.Answers.{checkedForm, FormEndsAt, FormPasses, PastField, checkedPart, EndsAt, Passes, Beyond, PassesCount}

@@ -17,7 +17,7 @@ use Rattle.language.specs.Read.{Field, field, badHeader, ending, due, readLiter
 use Rattle.language.specs.Form.{Form, Built, constantForm, variableForm}
 use Rattle.language.specs.Check.{Checked, good, refused, _>>=_, _>>_, require, noLeftover, inForm, combined, formOf}
 use Rattle.fields.specs.Header.{fieldsAt}
-use Rattle.fields.proofs.Reading.{Wholly}
+use Rattle.fields.proofs.Headers.{Wholly}
 use Rattle.forms.specs.Flat.{asForm, builtOf}
 use Rattle.check_index.proofs.Read.{the-type}
 use Rattle.check_index.specs.Indexes.{indexReader, IndexSays, scopeOf, treeOperation}

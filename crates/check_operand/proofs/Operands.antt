@@ -15,7 +15,7 @@ use Rattle.language.specs.Read.{Field, field, badHeader, choose, ending, due, o
 use Rattle.language.specs.Form.{Form, Built, built, outOfRange, constantForm, differenceOf, _thenBuild_}
 use Rattle.language.specs.Check.{Checked, refused, _>>=_, _>>_, noLeftover, inScope, formOf, Kind, mustShow, wholeFits, elementSize, roomAfter, checkWithin, checkOperand}
 use Rattle.fields.specs.Header.{fieldsAt}
-use Rattle.fields.proofs.Reading.{Wholly}
+use Rattle.fields.proofs.Headers.{Wholly}
 use Rattle.forms.specs.Flat.{asForm}
 use Rattle.check_index.proofs.Read.{the-type}
 use Rattle.check_index.specs.Answers.{checkedForm, PastField, checkedPart}

@@ -15,7 +15,7 @@ use Rattle.language.specs.Tree.{qreg, creg}
 use Rattle.language.specs.Result.{verdict, checkProgram, checkResult}
 use Rattle.language.specs.Form.{inRange, allInRange}
 use Rattle.fields.specs.Header.{fieldsAt}
-use Rattle.fields.proofs.Reading.{Wholly}
+use Rattle.fields.proofs.Headers.{Wholly}
 use Rattle.check_operand.specs.Tables.{tabulated}
 use Rattle.check_statement.specs.Statements.{checkedDeclared}
 use Rattle.check_index.specs.declared.Read.{Read}

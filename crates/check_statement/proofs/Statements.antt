@@ -10,7 +10,7 @@ use Rattle.language.specs.Tree.{Statement, badStatement}
 use Rattle.language.specs.Read.{Field, field, badHeader, isStatementTag, readStatement, statementBy, statementsBy, deepStatement}
 use Rattle.language.specs.Check.{Checked, good, refused, _>>_, checkStatement, checkStatements}
 use Rattle.fields.specs.Header.{fieldsAt}
-use Rattle.fields.proofs.Reading.{Wholly}
+use Rattle.fields.proofs.Headers.{Wholly}
 use Rattle.check_statement.specs.Statements.{statementReader, StatementSays}
 use Rattle.check_statement.specs.declared.StatementTag.{StatementTag}
 use Rattle.language.specs.Check as C

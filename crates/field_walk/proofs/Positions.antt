@@ -23,8 +23,8 @@ use Rattle.fields.specs.Count.{Counted, Many, Broken, more, counted, span}
 use Rattle.fields.proofs.Header.{the-type}
 use Rattle.fields.proofs.Parts as P
 use Rattle.fields.proofs.Parts.{look, Part, when-part, when-bad, part-is, not-first, stands}
-use Rattle.fields.proofs.Counting.{plus, plus-none, skips, span-all, skips-shorter}
-use Rattle.fields.proofs.Reading.{slice-none}
+use Rattle.fields.proofs.Counts.{plus, plus-none, skips, span-all, skips-shorter}
+use Rattle.fields.proofs.Headers.{slice-none}
 use Rattle.field_walk.specs.declared.Begun.the-variants as B
 use Rattle.field_walk.specs.Walks.{mostKept, isBroken, brokenIn, Unbroken, FieldBegins, FieldEnds, PositionsKept, Linked, Lasts, Walking, Starting, wholeOf}
 
@@ -112,7 +112,7 @@ when-in bytes at to tag next e =
 pub cut-in : (bytes : List ℕ) (at to : ℕ) → at < to → to ≤ length bytes → OneOf (1 ∷ 2 ∷ []) (tagOf the-type (headerOf at (fieldsAt bytes at to))) → (t : ℕ) → fields t (slice at to bytes) ≡ (badHeader t ∷ [])
 cut-in bytes at to h w k = go (look (take to bytes) at) (rw (sym (header-in bytes at to)) at k) (stands (take to bytes) at)
   where
-    go : (x : Header) → OneOf (1 ∷ 2 ∷ []) (tagOf the-type x) → P.Stands (take to bytes) at x → (t : ℕ) → fields t (slice at to bytes) ≡ (badHeader t ∷ [])
+    go : (x : Header) → OneOf (1 ∷ 2 ∷ []) (tagOf the-type x) → P.HeaderIs (take to bytes) at x → (t : ℕ) → fields t (slice at to bytes) ≡ (badHeader t ∷ [])
     go x k (P.ends g i) = absurd (omega (arith, length-take to bytes))
     go x k (P.cuts g) = g
     go x k (P.goes w) = absurd (not-first k)

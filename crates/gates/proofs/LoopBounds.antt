@@ -10,7 +10,7 @@ use types.Run.{OneOf}
 use denote.Enum.Declared.{tagOf}
 use Rattle.language.specs.Tree.{Place, badIndex}
 use Rattle.language.specs.Read.{Field, fields, due, readIndex}
-use Rattle.language.specs.Machine.{Run, evaluate, after, _>>=_}
+use Rattle.language.specs.Machine.{runBounds, Run, evaluate, after, _>>=_}
 use Rattle.fields.specs.declared.Header.the-variants.{Whole}
 use Rattle.indexes.specs.declared.Value.{Value}
 use Rattle.indexes.specs.declared.Value.the-variants.{Is, Over as vOver, Stuck as vStuck}
@@ -29,13 +29,13 @@ pairOf a b k = a >>= (λ x. b >>= (λ y. k x y))
 
 module _ (l : List ℕ) (from to : ℕ) (values : List ℤ) where
   pub bounds-low : (v : Value) → IndexAt (slice from to l) 0 values v → OneOf (1 ∷ 2 ∷ []) (tagOf value-type v) → Bounded l from to values (boundOf v)
-  unfolding boundOf Bodied bounding _>>=_ after valueTold
+  unfolding boundOf Bodied bounding runBounds _>>=_ after valueTold
   bounds-low (Is x) w h = absurd (not-first h)
   bounds-low vOver w h = record { body = tt; same = λ p q t k. ap (λ (a : Run ℤ). a >>= (λ x. evaluate p values (due (readIndex 16) (badIndex 4 q) (drop 1 (fields t (slice from to l)))) >>= (λ y. k x y))) (w .same p q t) }
   bounds-low vStuck w h = record { body = tt; same = λ p q t k. ap (λ (a : Run ℤ). a >>= (λ x. evaluate p values (due (readIndex 16) (badIndex 4 q) (drop 1 (fields t (slice from to l)))) >>= (λ y. k x y))) (w .same p q t) }
 
   pub bounds-none : OneOf (1 ∷ 2 ∷ []) (tagOf the-type (lookIn l from to)) → Bounded l from to values Stuck
-  unfolding Bodied bounding _>>=_ after
+  unfolding Bodied bounding runBounds _>>=_ after
   bounds-none h = record { body = tt; same = λ p q t k. sym (ap (λ (a : Run ℤ). a >>= (λ x. evaluate p values (due (readIndex 16) (badIndex 4 q) (drop 1 (fields t (slice from to l)))) >>= (λ y. k x y))) (part-none 16 l from to values p q t h)) }
 
   module _ (x : ℤ) (w : IndexAt (slice from to l) 0 values (Is x)) (u mid : ℕ) (e : lookIn l from to ≡ Whole u mid) where
@@ -52,17 +52,17 @@ module _ (l : List ℕ) (from to : ℕ) (values : List ℤ) where
         ∙ ap (λ (fs : List Field). evaluate p values (due (readIndex 16) (badIndex 4 q) fs) >>= (λ y. k x y)) (next-at t)
 
     pub bounds-high : (v : Value) → IndexAt (slice mid to l) 0 values v → OneOf (1 ∷ 2 ∷ []) (tagOf value-type v) → Bounded l from to values (boundOf v)
-    unfolding boundOf Bodied bounding _>>=_ after valueTold
+    unfolding boundOf Bodied bounding runBounds _>>=_ after valueTold
     bounds-high (Is y) w₂ h = absurd (not-first h)
     bounds-high vOver w₂ h = record { body = tt; same = λ p q t k. ap (λ (a : Run ℤ). a >>= (λ y. k x y)) (w₂ .same p q (t + (mid - from))) ∙ sym (second p q t k) }
     bounds-high vStuck w₂ h = record { body = tt; same = λ p q t k. ap (λ (a : Run ℤ). a >>= (λ y. k x y)) (w₂ .same p q (t + (mid - from))) ∙ sym (second p q t k) }
 
     pub bounds-cut : OneOf (1 ∷ 2 ∷ []) (tagOf the-type (lookIn l mid to)) → Bounded l from to values Stuck
-    unfolding Bodied bounding _>>=_ after
+    unfolding Bodied bounding runBounds _>>=_ after
     bounds-cut h = record { body = tt; same = λ p q t k. sym (second p q t k ∙ ap (λ (a : Run ℤ). a >>= (λ y. k x y)) (part-none 16 l mid to values p q (t + (mid - from)) h)) }
 
     pub bounds-are : (y : ℤ) (v at : ℕ) → IndexAt (slice mid to l) 0 values (Is y) → lookIn l mid to ≡ Whole v at → Bounded l from to values (Are x y at)
-    unfolding Bodied bounding _>>=_ after valueTold
+    unfolding Bodied bounding runBounds _>>=_ after valueTold
     bounds-are y v at w₂ f =
         let a = in-whole l from to u mid e in
         let b = in-whole l mid to v at f in

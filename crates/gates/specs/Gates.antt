@@ -11,7 +11,7 @@ use Rattle.language.specs.Limits.{deepest, furthest}
 use Rattle.language.specs.Tree.{Place, Gate, gateH, gateT, gateTdg, badIndex}
 use Rattle.language.specs.Form.{inRange}
 use Rattle.language.specs.Read.{fields, due, operandDue, outerIndex}
-use Rattle.language.specs.Machine.{Run, Frame, Direction, forward, backward, endAt, noMeaning, evaluate, startOf, roundsOf, runGate, runCx, _>>=_}
+use Rattle.language.specs.Machine.{Run, Frame, Direction, forward, backward, endAt, noMeaning, startOf, roundsOf, runGate, runCx, runBounds}
 use Rattle.indexes.specs.declared.Value.{Value}
 use Rattle.indexes.specs.declared.Value.the-variants.{Is, Over as vOver, Stuck as vStuck}
 use Rattle.operands.specs.Meanings.{operandsOf, frameOf}
@@ -75,8 +75,7 @@ Bodied l from to Stuck = Unit {0}
 pub record Bounded (l : List ℕ) (from to : ℕ) (values : List ℤ) (r : Bounds) : Type 0 where
   pub body : Bodied l from to r
   pub same : (p q t : Place) (k : ℤ → ℤ → Run (Unit {0})) → bounding p r k ≡
-      (evaluate p values (due outerIndex (badIndex 4 q) (fields t (slice from to l))) >>= (λ x.
-      evaluate p values (due outerIndex (badIndex 4 q) (drop 1 (fields t (slice from to l)))) >>= (λ y. k x y)))
+      runBounds p values (due outerIndex (badIndex 4 q) (fields t (slice from to l))) (due outerIndex (badIndex 4 q) (drop 1 (fields t (slice from to l)))) k
 
 -- the most rounds that a loop has
 abbrev pub mostRounds : ℕ

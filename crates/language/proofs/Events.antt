@@ -191,7 +191,7 @@ through-size (pos n) = through-give n
 through-size (negsuc n) = through-nothing
 
 through-layout : (values : List ℤ) (next : ℕ) (types : List ParameterType) → Passes (λ l r. M.layout values next types)
-unfolding M.layout
+unfolding M.layout M.layWire M.layRegister M.laidThen
 through-layout values next [] = through-give []
 through-layout values next (qbit p e ∷ types) = through-then (through-laid p _) (through-bind (through-layout values _ types) λ ms. through-give _)
 through-layout values next (qbits p i e ∷ types) =
@@ -229,7 +229,7 @@ through-order forward h k = through-then h k
 through-order backward h k = through-then k h
 
 mutual
-  unfolding M.runStatement M.runGate M.runCx M.runCall M.callFamily M.runReverse M.runFor M.enter M.inCall
+  unfolding M.runStatement M.runGate M.runCx M.runCall M.callFamily M.runReverse M.runFor M.runBounds M.enter M.inCall
 
   through-statement : (x : Statement) (xs : List Everywhere) (f : Frame) → Passes (λ l r. M.runStatement l r x (map (familyAt l r) xs) f)
   through-statement (gate p g o e) xs f = through-then (through-step p) (through-bind (through-wire p f o) λ w. through-write p f _)

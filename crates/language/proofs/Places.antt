@@ -132,7 +132,7 @@ module _ (size : ℕ) where
   ends-size (negsuc n) = ends-nothing
 
   ends-layout : (values : List ℤ) (next : ℕ) (types : List ParameterType) → AllOf (FairType size) types → EndsWithin (M.layout values next types)
-  unfolding M.layout
+  unfolding M.layout M.layWire M.layRegister M.laidThen
   ends-layout values next [] h = ends-give []
   ends-layout values next (qbit p e ∷ types) h = ends-then (ends-laid p _ (h .0)) (ends-bind (ends-layout values _ types (h .1)) λ ms. ends-give _)
   ends-layout values next (qbits p i e ∷ types) h =
@@ -184,7 +184,7 @@ module _ (size : ℕ) where
     ends-enter (some x) f k = record { ends = λ s. k x refl .ends s }
 
     mutual
-      unfolding M.runStatement M.runGate M.runCx M.runCall M.callFamily M.runReverse M.runFor FairStatement M.enter M.inCall
+      unfolding M.runStatement M.runGate M.runCx M.runCall M.callFamily M.runReverse M.runFor M.runBounds FairStatement M.enter M.inCall
 
       pub ends-statement : (x : Statement) (fs : List Family) (f : Frame) → FairStatement size x → AllOf FamilyWithin fs → EndsWithin (M.runStatement limit room x fs f)
       ends-statement (gate p g o e) fs f h k = ends-then (ends-step p (h .0)) (ends-bind (ends-wire p f o (h .0)) λ w. ends-write p f _ (h .0))

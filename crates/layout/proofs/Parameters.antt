@@ -18,7 +18,7 @@ use Rattle.language.specs.Form.{inRange}
 use Rattle.language.specs.Limits.{mostParameters, mostWires, furthest}
 use Rattle.language.specs.Tree.{Place, ParameterType}
 use Rattle.language.specs.Read.{field, fields, readType, typesOf, due, choose, readQbit, qbitsOf}
-use Rattle.language.specs.Machine.{Meaning, wires, Run, Outcome, going, ended, stuck, give, endAt, noMeaning, laidOut, sizeOf, layout, after, _>>=_, _>>_}
+use Rattle.language.specs.Machine.{Meaning, wires, Run, Outcome, going, ended, stuck, give, endAt, noMeaning, laidOut, sizeOf, laidThen, layWire, layRegister, layout, after, _>>=_, _>>_}
 use Rattle.operands.specs.Meanings.{theWire, parameterOf, ofParameter, clipped}
 use Rattle.operands.specs.declared.Wire.{Wire}
 use Rattle.operands.specs.declared.Operand.{Operand}
@@ -36,7 +36,7 @@ use Rattle.layout.specs.declared.Placed.{Placed}
 use Rattle.layout.specs.declared.Placed.the-variants.{Fits, Past, Over, Stuck}
 use Rattle.layout.specs.declared.Layout.{Layout}
 use Rattle.layout.specs.declared.Layout.the-variants as a
-use Rattle.layout.specs.Layout.{withRest, placed, WithinWires, WireFrom, RegisterFrom, TypeFrom, cameOut, laidWith, laid, LaysOut}
+use Rattle.layout.specs.Layout.{placed, WithinWires, WireFrom, RegisterFrom, TypeFrom, cameOut, laidWith, laid, LaysOut}
 
 -- a value that is not below 0
 pub natural : (z : ℤ) → ltZ z (pos 0) ≡ false → z ≡ pos (natAbs z)
@@ -59,36 +59,32 @@ laid-on p n then h = rw (le-leb n mostWires h)
 
 module _ (next : ℕ) where
   pub wire-past : mostWires < next + 1 → WireFrom next Past
-  unfolding placed WithinWires
+  unfolding placed layWire WithinWires
   wire-past h = record { same = λ p rest. laid-past p (next + 1) _ h; within = tt }
 
   pub wire-fits : (w : Wire) → w .0 ≡ next → next + 1 ≤ mostWires → WireFrom next (Fits (Single w) (next + 1))
-  unfolding placed WithinWires parameterOf
+  unfolding placed layWire WithinWires parameterOf
   wire-fits w e h = record { same = λ p rest. rw e (laid-on p (next + 1) _ h); within = h }
 
   pub register-negative : (z : ℤ) → ltZ z (pos 0) ≡ true → RegisterFrom z next Stuck
-  unfolding placed WithinWires sizeOf _>>=_ after
+  unfolding placed layRegister WithinWires sizeOf _>>=_ after
   register-negative (pos n) h = absurd (omega integers)
   register-negative (negsuc n) h = record { same = λ p rest. refl; within = tt }
 
   module _ (z : ℤ) (n : ℕ) (natural : z ≡ pos n) where
     pub register-past : mostWires < next + n → RegisterFrom z next Past
-    unfolding placed WithinWires sizeOf _>>=_ after
+    unfolding placed layRegister WithinWires sizeOf _>>=_ after
     register-past h = record { same = λ p rest. rw natural (laid-past p (next + n) _ h); within = tt }
 
     pub register-fits : (w : Wire) → w .0 ≡ next → next + n ≤ mostWires → RegisterFrom z next (Fits (Register w n) (next + n))
-    unfolding placed WithinWires sizeOf _>>=_ after parameterOf
+    unfolding placed layRegister WithinWires sizeOf _>>=_ after parameterOf
     register-fits w e h =
         let whole : clipped next n ≡ n = omega arith in
         record { same = λ p rest. rw (natural, e, whole) (laid-on p (next + n) _ h); within = h }
 
--- a register of the size that an index has, and the types after it
-sized : List ℤ → ℕ → List ParameterType → Place → ℤ → Run (List Meaning)
-sized values next types p z = sizeOf z >>= (λ n. laidOut p (next + n) >> withRest (wires (theWire next) n) (next + n) (λ n. layout values n types))
-
 module _ (tag : ℕ) (l : List ℕ) (values : List ℤ) (next : ℕ) where
   pub type-wire : (r : Placed) → tag ≡ 16 → WireFrom next r → TypeFrom tag l values next r
-  unfolding readType choose readQbit layout withRest
+  unfolding readType choose readQbit layout
   type-wire r t w = record { same = λ p types. w .same p (λ n. layout values n types) ∙ rw t; within = w .within }
 
   pub type-other : (tag ≡ 16 → ⊥) → (tag ≡ 17 → ⊥) → TypeFrom tag l values next Stuck
@@ -96,9 +92,9 @@ module _ (tag : ℕ) (l : List ℕ) (values : List ℤ) (next : ℕ) where
   type-other a b = record { same = λ p types. rw (ne-eqb tag 16 a, ne-eqb tag 17 b); within = tt }
 
   module _ (t : tag ≡ 17) (x : Value) (u : IndexAt l 0 values x) where
-    sized-is : (p : Place) (types : List ParameterType) → layout values next (readType (field p tag l) ∷ types) ≡ (valueTold p x >>= sized values next types p)
-    unfolding readType choose qbitsOf layout withRest sized
-    sized-is p types = rw t (ap (λ (r : Run ℤ). r >>= sized values next types p) (sym (u .same p p (p + 3))))
+    sized-is : (p : Place) (types : List ParameterType) → layout values next (readType (field p tag l) ∷ types) ≡ (valueTold p x >>= (λ z. layRegister p z next (λ n. layout values n types)))
+    unfolding readType choose qbitsOf layout
+    sized-is p types = rw t (ap (λ (r : Run ℤ). r >>= (λ z. layRegister p z next (λ n. layout values n types))) (sym (u .same p p (p + 3))))
 
     pub type-stuck : x ≡ v.Stuck → TypeFrom tag l values next Stuck
     unfolding valueTold placed WithinWires _>>=_ after
@@ -109,7 +105,7 @@ module _ (tag : ℕ) (l : List ℕ) (values : List ℤ) (next : ℕ) where
     type-over e = record { same = λ p types. sym (sized-is p types ∙ rw e); within = tt }
 
     pub type-sized : (z : ℤ) (r : Placed) → x ≡ v.Is z → RegisterFrom z next r → TypeFrom tag l values next r
-    unfolding valueTold _>>=_ after sized
+    unfolding valueTold _>>=_ after
     type-sized z r e w = record { same = λ p types. w .same p (λ n. layout values n types) ∙ sym (sized-is p types ∙ rw e); within = w .within }
 
 -- ---- the parameters, one after the other
@@ -215,7 +211,7 @@ module _ (l : List ℕ) (from to count : ℕ) (values : List ℤ) where
         laying-stuck e = answers a.Stuck λ place. rw (here-is place, e) at (so-far .same place)
 
         pub laying-next : (o : Operand) (wire : ℕ) → x ≡ Fits o wire → count ≤ mostParameters → Laying l from to count values (set params i (record { operand = o })) end wire (i + 1)
-        unfolding placed withRest WithinWires
+        unfolding placed laidThen WithinWires
         laying-next o wire e fits =
             let k = so-far .length-is in
             let q : Parameter = record { operand = o } in

@@ -18,7 +18,7 @@ use Rattle.language.proofs.Families.{families-before}
 use Rattle.fields.specs.Header.{fieldsAt, headerOf}
 use Rattle.fields.specs.declared.Header.the-variants.{Whole}
 use Rattle.fields.proofs.Parts.{look, rest-is}
-use Rattle.fields.proofs.Reading.{when-whole}
+use Rattle.fields.proofs.Headers.{when-whole}
 use Rattle.runs.specs.declared.Totals.{Totals}
 use Rattle.runs.specs.Whole.{topsAt}
 

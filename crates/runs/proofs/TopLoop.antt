@@ -23,7 +23,7 @@ use Rattle.language.proofs.Families.{family-at}
 use Rattle.fields.specs.Table.{Listed}
 use Rattle.fields.specs.declared.Header.the-variants.{Whole, End, Cut}
 use Rattle.fields.proofs.Parts.{look, rest-is}
-use Rattle.fields.proofs.Reading.{when-end, when-cut}
+use Rattle.fields.proofs.Headers.{when-end, when-cut}
 use Rattle.operands.specs.Meanings.{registersOf}
 use Rattle.records.specs.declared.State.{State}
 use Rattle.records.specs.declared.Answer.{Answer}

@@ -20,7 +20,7 @@ use Rattle.gates.specs.Gates.{directionOf, frameIn, enteredOf}
 use Rattle.calls.specs.declared.Taken.{Taken}
 use Rattle.calls.specs.declared.Taken.the-variants.{All, Over, Stuck}
 use Rattle.calls.specs.Families.{declaredAt, Entry, BodyFrom}
-use Rattle.calls.specs.Arguments.{argumentsIn, gatheredOperands, given, BodyBegins, Scopes, Arguments}
+use Rattle.calls.specs.Arguments.{argumentsIn, gatheredOperands, argumentsTold, BodyBegins, Scopes, Arguments}
 use Rattle.calls.proofs.CallByNumber.{call-is}
 use Rattle.unroller.specs.Runs.{familiesIn, oneRun, restRun}
 use Rattle.unroller.proofs.Statements.{one-call}
@@ -47,17 +47,17 @@ module _ (mode : Mode) (room from to place : ℕ) (bytes program : List ℕ) (va
     bodied n = runStatements (mode .limit) room (declaredAt program at .body) (take (getD bytes from 0) (allDeclared (mode .limit) room (read program) []))
         (frameOf (directionOf (mode .reversed)) (conditionOf (mode .condition)) (take (getD program (at + 3) 0) sizes) (gatheredOperands (take (3 * n) hand)))
 
-    called : whole ≡ (step (mode .limit) room place >> given place r bodied)
+    called : whole ≡ (step (mode .limit) room place >> argumentsTold place r bodied)
     called = call-read ∙ call-is program (getD bytes from 0) at (mode .«families_visible») e h (slice (from + 1) to bytes) values (operandsOf scope regs) sizes hand r w
         (mode .limit) room place (place + 4) (directionOf (mode .reversed)) (conditionOf (mode .condition))
 
     pub call-over : r ≡ Over → whole ≡ (step (mode .limit) room place >> endAt 24 place)
-    unfolding given
-    call-over q = called ∙ ap (λ (x : Taken). step (mode .limit) room place >> given place x bodied) q
+    unfolding argumentsTold
+    call-over q = called ∙ ap (λ (x : Taken). step (mode .limit) room place >> argumentsTold place x bodied) q
 
     pub call-stuck : r ≡ Stuck → whole ≡ (step (mode .limit) room place >> noMeaning)
-    unfolding given
-    call-stuck q = called ∙ ap (λ (x : Taken). step (mode .limit) room place >> given place x bodied) q
+    unfolding argumentsTold
+    call-stuck q = called ∙ ap (λ (x : Taken). step (mode .limit) room place >> argumentsTold place x bodied) q
 
     pub call-begins : (n start : ℕ) → r ≡ All n start → BodyFrom program at start
     unfolding BodyBegins
@@ -67,13 +67,13 @@ module _ (mode : Mode) (room from to place : ℕ) (bytes program : List ℕ) (va
     pub call-all : (n start : ℕ) → r ≡ All n start → (inner : Scope) → Scopes hand n inner → (b : List ℕ) → b ≡ slice start (pastOf program at) program
         → whole ≡ (step (mode .limit) room place >> restRun (enteredOf mode (getD bytes from 0) (getD program (at + 3) 0)) room start 0 (length b) b program
         (frameIn (enteredOf mode (getD bytes from 0) (getD program (at + 3) 0)) (take (getD program (at + 3) 0) sizes) inner regs))
-    unfolding given
+    unfolding argumentsTold
     call-all n start q inner s b c =
         let o = call-begins n start q in
         let i : at + 5 + (start - (at + 5)) ≡ start + 0 = omega (arith, o .low) in
         let body : statementsBy outerStatement (fields (start + 0) (slice 0 (length b) b)) ≡ declaredAt program at .body =
         ap (λ (x : List ℕ). statementsBy outerStatement (fields (start + 0) x)) (take-length b ∙ c) ∙ ap (λ (k : ℕ). statementsBy outerStatement (fields k (slice start (pastOf program at) program))) (sym i)
         ∙ ap (statementsBy outerStatement) (o .rest (at + 5)) in
-        called ∙ ap (λ (x : Taken). step (mode .limit) room place >> given place x bodied) q
+        called ∙ ap (λ (x : Taken). step (mode .limit) room place >> argumentsTold place x bodied) q
         ∙ (λ j. step (mode .limit) room place >> runStatements (mode .limit) room (sym body j) (take (getD bytes from 0) (allDeclared (mode .limit) room (read program) []))
         (frameOf (directionOf (mode .reversed)) (conditionOf (mode .condition)) (take (getD program (at + 3) 0) sizes) (sym (s .same regs) j)))

@@ -11,7 +11,7 @@ use lib.Dec.{eqb}
 use lib.IntN.{ℤ, pos, _-ℤ_}
 use Rattle.language.specs.Form.{inRange}
 use Rattle.language.specs.Read.{fields, readStatement, statementsBy}
-use Rattle.language.specs.Machine.{Run, noMeaning, endAt, step, rounds, roundsOf, startOf, inRound, inDirection, runStatements, _>>_}
+use Rattle.language.specs.Machine.{runFor, Run, noMeaning, endAt, step, rounds, roundsOf, startOf, inRound, inDirection, runStatements, _>>_}
 use Rattle.operands.specs.declared.Scope.{Scope}
 use Rattle.operands.specs.Meanings.{operandsOf, frameOf}
 use Rattle.records.specs.Outcomes.{conditionOf}
@@ -78,6 +78,7 @@ module _ (mode : Mode) (room base from to place tag : ℕ) (bytes program : List
     for-is : (b : Bounds) → Bounded bytes from to (take (mode .variables) vars) b → whole ≡ (step (mode .limit) room place >> bounding place b (λ x y.
         rounds (mode .limit) room place (directionOf (mode .reversed)) (roundsOf (y -ℤ x)) (startOf (directionOf (mode .reversed)) x y)
         (λ z. runStatements (mode .limit) room (statementsBy (readStatement (mode .levels - 1)) (drop 2 (fields (place + 3) (slice from to bytes)))) (familiesIn mode room program) (inRound (frameIn mode (take (mode .variables) vars) scope regs) z))))
+    unfolding runFor
     for-is b w = one-for mode room place tag (slice from to bytes) program (frameIn mode (take (mode .variables) vars) scope regs) (e .deep) t
         ∙ ap (λ (x : Run (Unit {0})). step (mode .limit) room place >> x) (sym (w .same place place (place + 3) _))
 

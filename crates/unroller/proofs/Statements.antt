@@ -85,10 +85,9 @@ module _ (mode : Mode) (room base tag : ℕ) (l program : List ℕ) (f : Frame) 
     one-reverse e = ap runs (level (mode .levels) (field base tag l) h) ∙ rw e
 
     pub one-for : tag ≡ 38 → oneRun mode room base tag l program f ≡ (step (mode .limit) room base >>
-        (evaluate base (f .variables) (due (outerIndex) (badIndex 4 base) (fields (base + 3) l)) >>= (λ x.
-        evaluate base (f .variables) (due (outerIndex) (badIndex 4 base) (drop 1 (fields (base + 3) l))) >>= (λ y.
-        rounds (mode .limit) room base (f .direction) (roundsOf (y -ℤ x)) (startOf (f .direction) x y) (λ z. runStatements (mode .limit) room (statementsBy (readStatement (mode .levels - 1)) (drop 2 (fields (base + 3) l))) (familiesIn mode room program) (inRound f z))))))
-    unfolding statementBy choose runStatement runFor runs forOf
+        runFor (mode .limit) room base (due (outerIndex) (badIndex 4 base) (fields (base + 3) l)) (due (outerIndex) (badIndex 4 base) (drop 1 (fields (base + 3) l)))
+        (λ g. runStatements (mode .limit) room (statementsBy (readStatement (mode .levels - 1)) (drop 2 (fields (base + 3) l))) (familiesIn mode room program) g) f)
+    unfolding statementBy choose runStatement runs forOf
     one-for e = ap runs (level (mode .levels) (field base tag l) h) ∙ rw e
 
 pub turned : (b : Bool) → flipped (directionOf b) ≡ directionOf (not b)

@@ -17,10 +17,10 @@ use Rattle.fields.specs.declared.Header.the-variants.{Whole}
 use Rattle.fields.specs.Header.{fieldsAt, headerOf}
 use Rattle.fields.specs.Count.{Counted, Many, Broken, counted}
 use Rattle.fields.proofs.Header.{the-type}
-use Rattle.fields.proofs.Reading.{slice-none}
+use Rattle.fields.proofs.Headers.{slice-none}
 use Rattle.fields.proofs.Parts.{not-first}
 use Rattle.fields.proofs.Between.{FieldIn, in-whole}
-use Rattle.fields.proofs.Counting.{Broke, lastly, before, broken-fields}
+use Rattle.fields.proofs.Counts.{Broke, lastly, before, broken-fields}
 use Rattle.field_walk.specs.declared.Walk.{Walk}
 use Rattle.field_walk.specs.declared.Begun.{Begun}
 use Rattle.field_walk.specs.declared.Begun.the-variants as B

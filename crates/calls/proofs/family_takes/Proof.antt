@@ -1,82 +1,63 @@
+-- `calls::family_takes` meets its contract. Assumes nothing.
 use borrow.Author.Needs.{needs}
 use Rattle.calls.proofs.family_takes.Statement.{statement}
 use Rattle.calls.proofs.family_takes.Tie as tie
-use Rattle.calls.proofs.family_takes.Reads as reads
-use Rattle.calls.proofs.family_takes.Lts as lts
-use Rattle.calls.proofs.past.Reads as past-reads
-use Rattle.calls.proofs.tell_given.Reads as tell-given-reads
-use Rattle.calls.proofs.types_take.Reads as types-take-reads
-use Rattle.fields.proofs.wide.Reads as wide-reads
-use borrow.Author.Needs.{needs}
 use Prim.Native.Nat.{_+_}
 use mathlib.Core.Path.{_≡_, refl, _∙_, ap, sym}
 use native.Mathlib.Omega.{arith}
 use denote.Ref.{now}
 use Rattle.calls.proofs.Types.{family-sizes, family-count, family-types}
 
--- src/lib.rt:293:5
 tell-given-requires : tie.Need-tell-given-requires
 tell-given-requires c κs =
     search needs
 
--- src/lib.rt:294:34
 add-wide : tie.Need-add-wide
 add-wide c =
     search needs
 
--- src/lib.rt:294:26
 shared-slice-read-wide : tie.Need-shared-slice-read-wide
 shared-slice-read-wide c =
     search needs
 
--- src/lib.rt:294:13
 wide-requires : tie.Need-wide-requires
 wide-requires c κs =
     search needs
 
--- src/lib.rt:295:9
 returns : tie.Need-returns
 returns c =
     let a = c .before .before .before .before .before .before .args in
     family-sizes (now (a .program)) (a .at) (a .k) (a .n) (now (a .given)) (λ e. c .if1 .taken (e ∙ sym (c .before .wide .ensures .0)))
 
--- src/lib.rt:297:34
 add-wide-2 : tie.Need-add-wide-2
 add-wide-2 c =
     search needs
 
--- src/lib.rt:297:26
 shared-slice-read-wide-2 : tie.Need-shared-slice-read-wide-2
 shared-slice-read-wide-2 c =
     search needs
 
--- src/lib.rt:297:13
 wide-requires-2 : tie.Need-wide-requires-2
 wide-requires-2 c κs =
     search needs
 
--- src/lib.rt:298:9
 returns-2 : tie.Need-returns-2
 returns-2 c =
     let a = c .before .before .before .before .before .before .before .before .before .args in
     family-count (now (a .program)) (a .at) (a .k) (a .n) (now (a .given)) (c .before .before .before .before .before .before .before .before .before .pre) (c .before .before .before .before .before .before .tell-given .ensures) (λ e. c .if2 .taken (e ∙ sym (c .before .wide2 .ensures .0)))
 
--- src/lib.rt:300:9
 past-requires : tie.Need-past-requires
 past-requires c κs =
     search needs
 
--- src/lib.rt:301:16
 add-from : tie.Need-add-from
 add-from c =
     search needs
 
--- src/lib.rt:302:5
 types-take-requires : tie.Need-types-take-requires
 types-take-requires c κs =
     search needs
 
--- src/lib.rt:289:1
 returns-3 : tie.Need-returns-3
 returns-3 c =
     let a = c .before .before .before .before .before .before .before .before .before .before .before .args in

@@ -15,7 +15,7 @@ use mathlib.Core.Option.{some}
 use denote.Ref.{now}
 use lib.ListN.{getD}
 use lib.Seq.{slice}
-use Rattle.fields.proofs.Reading.{one-byte, slice-none}
+use Rattle.fields.proofs.Headers.{one-byte, slice-none}
 use Rattle.check_index.specs.Answers.{checkedPart}
 use Rattle.check_operand.specs.Tables.{tabulated, kindsAt}
 use Rattle.check_call.specs.Calls.{scopeFull, signatureAt}

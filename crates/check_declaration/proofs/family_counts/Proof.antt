@@ -10,7 +10,7 @@ use Prim.Native.Nat.{ℕ, _+_}
 use native.Mathlib.Omega.{arith}
 use denote.Ref.{now}
 use lib.Seq.{slice}
-use Rattle.fields.proofs.Reading.{one-byte, slice-none}
+use Rattle.fields.proofs.Headers.{one-byte, slice-none}
 use Rattle.check_declaration.specs.Families.{checkedCounts}
 use Rattle.check_declaration.proofs.Families.{counts-many, counts-none, counts-over, counts-one, counts-zero, counts-above, counts-good}
 

@@ -9,7 +9,7 @@ use mathlib.Core.Path.{sym, _∙_}
 use mathlib.Core.List.{[]}
 use native.Mathlib.Omega.{arith}
 use denote.Ref.{now}
-use Rattle.fields.proofs.Reading.{when-whole, when-end, when-cut}
+use Rattle.fields.proofs.Headers.{when-whole, when-end, when-cut}
 use Rattle.check_operand.specs.Tables.{scopeWith}
 use Rattle.check_declaration.specs.Types.{checkedType}
 use Rattle.check_index.proofs.Answers.{passed}

@@ -13,7 +13,7 @@ use lib.ListN.{getD}
 use lib.Seq.{slice, length-slice}
 use Rattle.language.specs.Read.{twoBytes}
 use Rattle.language.specs.Check.{good}
-use Rattle.fields.proofs.Reading.{one-byte, slice-none}
+use Rattle.fields.proofs.Headers.{one-byte, slice-none}
 use Rattle.check_declaration.specs.Registers.{checkedRegister}
 use Rattle.check_declaration.proofs.Registers.{size-many-registers, size-short, size-past, size-left, size-good}
 

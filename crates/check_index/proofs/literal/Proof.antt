@@ -14,7 +14,7 @@ use lib.ListN.{getD}
 use lib.Seq.{slice, length-slice}
 use Rattle.language.specs.Form.{constantForm}
 use Rattle.language.specs.Check.{good}
-use Rattle.fields.proofs.Reading.{two-bytes}
+use Rattle.fields.proofs.Headers.{two-bytes}
 use Rattle.check_index.specs.Answers.{checkedForm}
 use Rattle.check_index.proofs.Forms.{literal-bad, literal-good}
 use Rattle.language.proofs.Integers.{small, small-range}

@@ -13,7 +13,7 @@ use lib.ListN.{getD}
 use lib.Seq.{slice, length-slice}
 use Rattle.language.specs.Form.{variableForm}
 use Rattle.language.specs.Check.{good}
-use Rattle.fields.proofs.Reading.{one-byte, slice-none}
+use Rattle.fields.proofs.Headers.{one-byte, slice-none}
 use Rattle.check_index.specs.Answers.{checkedForm}
 use Rattle.check_index.proofs.Forms.{variable-none, variable-beyond, variable-long, variable-good}
 

@@ -22,7 +22,7 @@ use Rattle.language.specs.Check.{Signature, elementSize, checkWithin, checkOper
 use Rattle.kinds.specs.Numbers.{kindWith}
 use Rattle.kinds.specs.declared.Kind.{Kind}
 use Rattle.fields.specs.Header.{fieldsAt}
-use Rattle.fields.proofs.Reading.{one-byte, slice-none}
+use Rattle.fields.proofs.Headers.{one-byte, slice-none}
 use Rattle.forms.specs.Flat.{widened, asForm}
 use Rattle.forms.specs.Rows.{loopsOf}
 use Rattle.forms.proofs.Laws.{fewer}

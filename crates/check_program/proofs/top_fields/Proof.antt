@@ -13,7 +13,7 @@ use lib.ListN.{length}
 use Rattle.language.specs.Read.{read}
 use Rattle.language.specs.Check.{check}
 use Rattle.language.specs.Result.{verdict}
-use Rattle.fields.proofs.Reading.{when-whole, when-end, when-cut}
+use Rattle.fields.proofs.Headers.{when-whole, when-end, when-cut}
 use Rattle.check_program.specs.Declarations.{declaredIn, DeclaredRight}
 use Rattle.check_program.proofs.TopFields.{topsAt, tops-end, tops-cut, tops-stop, tops-go, tops-all, step-holds}
 

@@ -17,7 +17,7 @@ use Rattle.language.specs.Read.{Field, due, readOperand, readStatement, stateme
 use Rattle.language.specs.Check.{Checked, good, _>>_, checkOperand, checkStatements, topScope}
 use Rattle.language.specs.Check as C
 use Rattle.fields.specs.Header.{fieldsAt}
-use Rattle.fields.proofs.Reading.{one-byte, slice-none}
+use Rattle.fields.proofs.Headers.{one-byte, slice-none}
 use Rattle.check_operand.specs.Tables.{tabulated}
 use Rattle.check_operand.specs.Operands.{wantedOf}
 use Rattle.check_call.specs.Calls.{signatureAt}

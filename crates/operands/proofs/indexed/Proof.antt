@@ -1,10 +1,7 @@
+-- `operands::indexed` meets its contract. Assumes nothing.
 use borrow.Author.Needs.{needs}
 use Rattle.operands.proofs.indexed.Statement.{statement}
 use Rattle.operands.proofs.indexed.Tie as tie
-use Rattle.operands.proofs.indexed.Reads as reads
-use Rattle.operands.proofs.indexed.Lts as lts
-use Rattle.operands.proofs.locate.Reads as locate-reads
-use borrow.Author.Needs.{needs}
 use native.Mathlib.Omega.{arith}
 use mathlib.Core.Path.{_≡_, refl, _∙_, ap, sym}
 use mathlib.Core.Bool.{true, false}
@@ -14,26 +11,22 @@ use mir.ValLaws.{toZ-ofZ}
 use Rattle.language.proofs.Integers.{range-back}
 use Rattle.operands.proofs.Meanings.{indexed-negative, indexed-natural, natural-fits}
 
--- src/lib.rt:164:9
 returns : tie.Need-returns
 returns c =
     let a = c .before .args in
     let h : ltZ (a .z) (pos 0) ≡ true = rw (range-back {z = a .z} (c .before .pre)) at (c .if1 .taken) in
     indexed-negative (a .first) (a .size) (a .z) h
 
--- src/lib.rt:166:25
 cast-locate : tie.Need-cast-locate
 cast-locate c =
     let a = c .before .args in
     let h : ltZ (a .z) (pos 0) ≡ false = rw (range-back {z = a .z} (c .before .pre)) at (c .if1 .left) in
     rw (range-back {z = a .z} (c .before .pre)) (natural-fits (a .z) (c .before .pre) h)
 
--- src/lib.rt:166:5
 locate-requires : tie.Need-locate-requires
 locate-requires c κs =
     search needs
 
--- src/lib.rt:159:1
 returns-2 : tie.Need-returns-2
 returns-2 c =
     let a = c .before .before .args in

@@ -1,14 +1,7 @@
+-- `operands::wire_at` meets its contract. Assumes nothing.
 use borrow.Author.Needs.{needs}
 use Rattle.operands.proofs.wire_at.Statement.{statement}
 use Rattle.operands.proofs.wire_at.Tie as tie
-use Rattle.operands.proofs.wire_at.Reads as reads
-use Rattle.operands.proofs.wire_at.Lts as lts
-use Rattle.fields.proofs.header_at.Reads as header-at-reads
-use Rattle.fields.proofs.wide.Reads as wide-reads
-use Rattle.operands.proofs.as_wire.Reads as as-wire-reads
-use Rattle.operands.proofs.meaning.Reads as meaning-reads
-use Rattle.operands.proofs.operand_meaning.Reads as operand-meaning-reads
-use borrow.Author.Needs.{needs}
 use Prim.Native.Nat.{_+_, _-_, _<_, _≤_}
 use borrow.Author.Tests.{ltb-true}
 use native.Mathlib.Omega.{arith}
@@ -20,30 +13,25 @@ use Rattle.fields.proofs.Between.{in-whole, not-empty, first-byte}
 use Rattle.operands.specs.Meanings.{operandsOf, FieldMeans}
 use Rattle.operands.proofs.OperandFields.{wire-none, wire-some, whole-operand}
 
--- src/lib.rt:266:35
 header-at-requires : tie.Need-header-at-requires
 header-at-requires c κs =
     search needs
 
--- src/lib.rt:266:23
 enum-known-tag : tie.Need-enum-known-tag
 enum-known-tag c =
     search needs
 
--- src/lib.rt:267:9
 returns : tie.Need-returns
 returns c =
     let a = c .before .before .before .args in
     wire-none (now (a .bytes)) (a .at) (a .to) (take (a .many) (now (a .vars))) (operandsOf (a .scope) (now (a .regs))) (rw (c .before .header-at .ensures) at (c .match .keys2))
 
--- src/lib.rt:269:16
 add-from : tie.Need-add-from
 add-from c =
     let a = c .before .before .before .before .before .args in
     let f = in-whole (now (a .bytes)) (a .at) (a .to) _ _ (sym (c .before .before .before .header-at .ensures) ∙ c .before .tag .given .1) in
     omega (arith, f .low, f .high)
 
--- src/lib.rt:272:66
 shared-slice-read-wide : tie.Need-shared-slice-read-wide
 shared-slice-read-wide c =
     let a = c .before .before .before .before .before .before .before .before .args in
@@ -52,22 +40,18 @@ shared-slice-read-wide c =
     let low = ltb-true (a .at + 3) end (c .before .if2 .taken) in
     omega (arith, f .low, f .high)
 
--- src/lib.rt:272:53
 wide-requires : tie.Need-wide-requires
 wide-requires c κs =
     search needs
 
--- src/lib.rt:272:24
 operand-meaning-requires : tie.Need-operand-meaning-requires
 operand-meaning-requires c κs =
     search needs
 
--- src/lib.rt:272:9
 as-wire-requires : tie.Need-as-wire-requires
 as-wire-requires c κs =
     search needs
 
--- src/lib.rt:272:9
 returns-2 : tie.Need-returns-2
 returns-2 c =
     let a = c .before .before .before .before .before .before .before .before .before .before .before .args in
@@ -83,19 +67,16 @@ returns-2 c =
     let o = whole-operand _ (slice (a .at + 3) end l) v ms (c .before .before .wide .result) (c .before .operand-meaning .result) (not-empty l (a .at + 3) end low high) (c .before .before .before .before .before .if1 .taken) n (c .before .operand-meaning .ensures) in
     wire-some l (a .at) (a .to) v ms _ _ (c .before .operand-meaning .result) (c .as-wire .result) e o (c .as-wire .ensures)
 
--- src/lib.rt:274:13
 meaning-requires : tie.Need-meaning-requires
 meaning-requires c κs =
     let a = c .before .before .before .before .before .before .args in
     let f = in-whole (now (a .bytes)) (a .at) (a .to) _ _ (sym (c .before .before .before .before .header-at .ensures) ∙ c .before .before .tag .given .1) in
     search needs
 
--- src/lib.rt:274:5
 as-wire-requires-2 : tie.Need-as-wire-requires-2
 as-wire-requires-2 c κs =
     search needs
 
--- src/lib.rt:253:1
 returns-3 : tie.Need-returns-3
 returns-3 c =
     let a = c .before .before .before .before .before .before .before .before .args in

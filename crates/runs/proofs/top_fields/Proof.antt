@@ -13,7 +13,7 @@ use native.Mathlib.Omega.{arith}
 use borrow.Author.Needs.{needs}
 use denote.Ref.{now}
 use lib.ListN.{length}
-use Rattle.fields.proofs.Reading.{when-whole, part-slice}
+use Rattle.fields.proofs.Headers.{when-whole, part-slice}
 use Rattle.runs.specs.Whole.{DeclareReady}
 use Rattle.runs.proofs.TopFields.{field-alone, field-within, At, at-start, ends-here, cut-here, declare-ready, declared-on, acts-ready, acted-on, acted-last, tabled-here, few-families}
 

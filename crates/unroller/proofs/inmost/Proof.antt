@@ -15,7 +15,7 @@ use Rattle.fields.specs.Header.{fieldsAt, headerOf}
 use Rattle.gates.specs.Gates.{innerOf, Entered, StepTaken}
 use Rattle.unroller.specs.Runs.{Inside}
 use Rattle.unroller.proofs.Statements.{one-steps}
-use Rattle.unroller.proofs.Nesting.{inside-self, content, inside-more}
+use Rattle.unroller.proofs.InnerReverses.{inside-self, content, inside-more}
 
 abbrev Inv-loop : tie.InvT-loop
 Inv-loop p base to r₀ r =

@@ -10,7 +10,7 @@ use borrow.Author.Needs.{needs}
 use denote.Ref.{now}
 use lib.Seq.{slice}
 use Rattle.language.specs.Check.{formOf}
-use Rattle.fields.proofs.Reading.{when-whole, when-end, when-cut}
+use Rattle.fields.proofs.Headers.{when-whole, when-end, when-cut}
 use Rattle.check_index.specs.Answers.{checkedForm}
 use Rattle.check_index.specs.declared.IndexTag.the-variants.{Literal, Variable, Both, Other}
 use Rattle.check_index.proofs.Forms.{index-end, index-cut, index-deep, index-acts, both-left, both-right, both-leftover, both-good}

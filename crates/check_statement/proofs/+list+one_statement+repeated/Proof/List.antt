@@ -10,7 +10,7 @@ use denote.Ref.{now}
 use Rattle.language.specs.Read.{readStatement, statementsBy}
 use Rattle.language.specs.Check.{checkStatements}
 use Rattle.fields.specs.Header.{fieldsAt}
-use Rattle.fields.proofs.Reading.{when-whole, when-end, when-cut}
+use Rattle.fields.proofs.Headers.{when-whole, when-end, when-cut}
 use Rattle.check_index.specs.Answers.{checkedPart}
 use Rattle.check_operand.specs.Tables.{tabulated}
 use Rattle.check_call.specs.Calls.{scopeFull, signatureAt}

@@ -17,7 +17,7 @@ use Rattle.gates.proofs.GateRuns.{does-as}
 use Rattle.calls.proofs.FamilyTable.{tabled-fewer}
 use Rattle.unroller.specs.Runs.{oneRun}
 use Rattle.unroller.proofs.Loops.{inner-seen, inner-few, inner-stays, loop-over, loop-stuck, loop-opens}
-use Rattle.unroller.proofs.Nesting.{inside-does, inside-stays}
+use Rattle.unroller.proofs.InnerReverses.{inside-does, inside-stays}
 
 module _ (t : ℕ) where
   -- src/lib.rt:206:9
