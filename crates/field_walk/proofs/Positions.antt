@@ -1,4 +1,4 @@
--- Positions in a list, and the search for its last field. Assumes nothing.
+-- Positions in a list. Assumes nothing.
 use mathlib.Core.Path.{_≡_, refl, sym, ap, _∙_, subst}
 use mathlib.Core.List.{List, [], _∷_, _++_}
 use mathlib.Core.Bool.{Bool, true, false}
@@ -247,43 +247,6 @@ module _ (bytes : List ℕ) where
   unfolding Linked
   linked-top cuts sure zero to h k = absurd (omega arith)
   linked-top cuts sure (suc d) to h k = let e : suc d - 1 ≡ d = omega arith in record { ends = rw e (k .0 (omega arith)); linked = rw e (k .1) }
-
--- ---- the answers of the search
-
-module _ (bytes : List ℕ) (from : ℕ) where
-  pub lasts-none : (cuts : List ℕ) (to : ℕ) → isBroken (counted (fields 0 (slice from to bytes))) ≡ true → Lasts bytes from to cuts 0 0
-  unfolding Lasts
-  lasts-none cuts to h = h
-
-  pub lasts-some : (cuts : List ℕ) (d sure at to tag next : ℕ) → 1 ≤ d → d ≤ mostKept → sure < d → FieldBegins bytes from at → headerOf at (fieldsAt bytes at to) ≡ Whole tag next → next ≡ to → to ≤ length bytes
-      → PositionsKept bytes from cuts d to → Linked bytes cuts sure d to → Lasts bytes from to cuts d sure
-  unfolding Lasts
-  lasts-some cuts zero sure at to tag next s f u b i n w k l = absurd (omega arith)
-  lasts-some cuts (suc d) sure at to tag next s f u b i n w k l =
-      let y : FieldBegins bytes from to = rw n at (begins-next bytes from at to tag next b (when-in bytes at to tag next i) w) in
-      (f, y .1, omega arith, k, l)
-
-  -- where only the last one is sure
-  pub lasts-one : (cuts : List ℕ) (d sure at to tag next : ℕ) → d ≡ sure + 1 → d ≤ mostKept → getD cuts sure 0 ≡ at → FieldBegins bytes from at → headerOf at (fieldsAt bytes at to) ≡ Whole tag next → next ≡ to → to ≤ length bytes
-      → PositionsKept bytes from cuts d to → Lasts bytes from to cuts d sure
-  lasts-one cuts d sure at to tag next s f e b i n w k =
-      let z : d - 1 ≡ sure = omega arith in
-      lasts-some cuts d sure at to tag next (omega arith) f (omega arith) b i n w k
-      (linked-more bytes cuts sure d at to (omega arith) (rw z e) (rw n at (ends-there bytes at to tag next i)) (rw z (linked-none bytes cuts sure sure at (omega arith))))
-
-  -- where all are, from the one on where the search began
-  pub lasts-all : (cuts : List ℕ) (d depth at to tag next : ℕ) → 1 ≤ depth → depth ≤ d → d ≤ mostKept → (getD cuts (d - 1) 0 ≡ at) × Linked bytes cuts (depth - 1) (d - 1) at → FieldBegins bytes from at
-      → headerOf at (fieldsAt bytes at to) ≡ Whole tag next → next ≡ to → to ≤ length bytes → PositionsKept bytes from cuts d to → Lasts bytes from to cuts d (depth - 1)
-  lasts-all cuts d depth at to tag next s m f l b i n w k =
-      lasts-some cuts d (depth - 1) at to tag next (omega arith) f (omega arith) b i n w k
-      (linked-more bytes cuts (depth - 1) d at to (omega arith) (l .0) (rw n at (ends-there bytes at to tag next i)) (l .1))
-
-  -- the next one of all
-  pub linked-push : (cuts : List ℕ) (sure d at to tag next : ℕ) → 1 ≤ d → d < length cuts → headerOf at (fieldsAt bytes at to) ≡ Whole tag next → (getD cuts (d - 1) 0 ≡ at) × Linked bytes cuts sure (d - 1) at
-      → (getD (set cuts d next) (d + 1 - 1) 0 ≡ next) × Linked bytes (set cuts d next) sure (d + 1 - 1) next
-  linked-push cuts sure d at to tag next s h i l =
-      let z : d + 1 - 1 ≡ d = omega arith in
-      rw z (getD-set-same cuts d next 0 h, linked-set bytes cuts sure d d next next (omega arith) (linked-more bytes cuts sure d at next s (l .0) (ends-there bytes at to tag next i) (l .1)))
 
 -- ---- a walk
 

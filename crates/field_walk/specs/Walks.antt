@@ -2,7 +2,7 @@
 use mathlib.Core.Path.{_≡_}
 use mathlib.Core.List.{List, []}
 use mathlib.Core.Bool.{Bool, true, false, _&&_}
-use Prim.Native.Nat.{ℕ, zero, suc, _≤_, _<_}
+use Prim.Native.Nat.{ℕ, zero, suc, _-_, _≤_, _<_}
 use lib.ListN.{length, getD}
 use lib.Seq.{slice}
 use Rattle.language.specs.Read.{fields}
@@ -53,6 +53,19 @@ Linked bytes cuts sure (suc d) to = (sure ≤ d → FieldEnds bytes (getD cuts d
 unfoldable pub Lasts : List ℕ → (from to : ℕ) → (cuts : List ℕ) → (depth sure : ℕ) → Type 0
 Lasts bytes from to cuts zero sure = isBroken (counted (fields 0 (slice from to bytes))) ≡ true
 Lasts bytes from to cuts (suc d) sure = (suc d ≤ mostKept) × Unbroken (slice from to bytes) × (sure ≤ d) × PositionsKept bytes from cuts (suc d) to × Linked bytes cuts sure (suc d) to
+
+-- a search is at the field at `at`, with d positions kept; where `all`, they are all fields' from the one numbered `first` on
+pub record Searching (bytes : List ℕ) (from : ℕ) (cuts : List ℕ) (at d first : ℕ) (all : Bool) : Type 0 where
+  pub begins : FieldBegins bytes from at
+  pub kept : PositionsKept bytes from cuts d (suc at)
+  pub some : first < d
+  pub top : all ≡ true → getD cuts (d - 1) 0 ≡ at
+  pub linked : all ≡ true → Linked bytes cuts first (d - 1) at
+
+-- where the field that a search is at is the last one, these positions are its answer
+abbrev pub KeepsLast : (before : List ℕ) → (at d first : ℕ) → (all : Bool) → (cuts : List ℕ) → (depth sure : ℕ) → Type 0
+KeepsLast before at d first all cuts depth sure =
+    (bytes : List ℕ) (from to : ℕ) → to ≤ length bytes → Searching bytes from before at d first all → FieldEnds bytes at to → Lasts bytes from to cuts depth sure
 
 -- what is left, walked forward, ends within the bytes
 pub record Forward (bytes : List ℕ) (w : Walk) : Type 0 where

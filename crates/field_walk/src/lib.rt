@@ -5,7 +5,7 @@ ghost use mathlib.Core.Bool.{true, false};
 ghost use Prim.Native.Nat.{ℕ, _<_, _≤_};
 ghost use lib.ListN.{length};
 ghost use Rattle.language.specs.Limits.{longestProgram};
-ghost use Rattle.field_walk.specs.Walks.{mostKept, PositionsKept, Lasts, Walking, Sought, Starting, passedOf, wholeOf};
+ghost use Rattle.field_walk.specs.Walks.{mostKept, PositionsKept, Lasts, KeepsLast, Walking, Sought, Starting, passedOf, wholeOf};
 use fields::Header;
 
 // How many positions are kept at most.
@@ -72,6 +72,40 @@ fn skipped(all: bool, at: usize, due: usize) -> bool
     at < due
 }
 
+// Keeps the last field's position unless it is kept already: above the others, or without room in place of the last of them.
+fn keep_last(cuts: &mut [u16; KEPT], at: usize, d: usize, first: usize, all: bool) -> Held
+    requires { ⌜ (1 ≤ d) × (d ≤ mostKept) × (at ≤ longestProgram) ⌝ }
+    ensures { λ r. ⌜ KeepsLast (now (cuts .entry)) at d first all (now (cuts .exit)) (r .depth) (r .sure) ⌝ }
+{
+    if all {
+        return Held {
+            depth: d,
+            sure: first,
+        };
+    }
+    tell(*cuts);
+    let top = d - 1;
+    if fields::long(cuts[top]) == at {
+        return Held {
+            depth: d,
+            sure: top,
+        };
+    }
+    if d < KEPT {
+        cuts[d] = at as u16;
+        let more = d + 1;
+        return Held {
+            depth: more,
+            sure: d,
+        };
+    }
+    cuts[top] = at as u16;
+    Held {
+        depth: d,
+        sure: top,
+    }
+}
+
 // Finds the last field from the last kept position on. It is kept, and so are some on the way to it, or all. At a bad header
 // none is.
 fn last(bytes: &[u8], from: usize, to: usize, cuts: &mut [u16; KEPT], depth: usize) -> Held
@@ -88,33 +122,8 @@ fn last(bytes: &[u8], from: usize, to: usize, cuts: &mut [u16; KEPT], depth: usi
         let Header::Whole(_, next) = fields::header_at(bytes, at, to) else {
             return Held { depth: 0, sure: 0 };
         };
-        let top = d - 1;
         if next == to {
-            if all {
-                return Held {
-                    depth: d,
-                    sure: first,
-                };
-            }
-            if fields::long(cuts[top]) == at {
-                return Held {
-                    depth: d,
-                    sure: top,
-                };
-            }
-            if d < KEPT {
-                cuts[d] = at as u16;
-                let more = d + 1;
-                return Held {
-                    depth: more,
-                    sure: d,
-                };
-            }
-            cuts[top] = at as u16;
-            return Held {
-                depth: d,
-                sure: top,
-            };
+            return keep_last(cuts, at, d, first, all);
         }
         at = next;
         if skipped(all, next, due) {
