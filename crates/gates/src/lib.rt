@@ -11,15 +11,15 @@ ghost use Rattle.language.specs.Form.{inRange};
 ghost use Rattle.indexes.specs.Values.{mostValues};
 ghost use Rattle.records.specs.Outcomes.{Does};
 ghost use Rattle.gates.specs.Gates.{codeOf, frameIn, directionOf, boundOf, Bounded, mostRounds, Repeated, turnOf, namelessOf, Entered, actAt, deeperOf, innerOf, enteredOf};
-use records::Answer;
-use records::Condition;
-use records::State;
 use fields::Header;
 use indexes::VALUES;
 use indexes::Value;
 use limits::DEEPEST;
 use operands::Scope;
 use operands::WireMeaning;
+use records::Answer;
+use records::Condition;
+use records::State;
 
 // Levels of nested statements in a body.
 pub const LEVELS: u8 = DEEPEST as u8;
@@ -55,7 +55,7 @@ fn code(tag: u8, reversed: bool) -> u8
 }
 
 // Writes the gate or the cx with this tag, whose content is from `from` to `to` and whose step is taken.
-pub fn act(
+pub fn write_gate(
     bytes: &[u8],
     from: usize,
     to: usize,
@@ -217,7 +217,7 @@ fn nameless(tag: u8, size: usize) -> bool
 }
 
 // Enters the statement with this tag and so many bytes of content: takes its step, unless it has no meaning or none is left.
-pub fn step(tag: u8, size: usize, place: usize, mode: Mode, st: State) -> Answer
+pub fn enter(tag: u8, size: usize, place: usize, mode: Mode, st: State) -> Answer
     requires { ⌜ place ≤ longestProgram ⌝ }
     ensures { λ r. ⌜ Entered mode tag size place st r ⌝ }
 {

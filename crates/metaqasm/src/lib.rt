@@ -63,7 +63,14 @@ fn result_of_answer(a: Answer) -> MetaqasmResult
         Answer::Going(s) => result(0, 0, s),
         Answer::Ended(n, p, s) => result(n as u32, p as u32, s),
         // Not reached: what is required rules it out, and the theorem gives that. Its number is none that a call answers.
-        Answer::Stuck => result(4294967295, 0, State { written: 0, steps: 0 }),
+        Answer::Stuck => result(
+            4294967295,
+            0,
+            State {
+                written: 0,
+                steps: 0,
+            },
+        ),
     }
 }
 

@@ -8,14 +8,14 @@ ghost use Rattle.indexes.specs.Values.{mostValues};
 ghost use Rattle.records.specs.Outcomes.{Does};
 ghost use Rattle.gates.specs.Gates.{frameIn};
 ghost use Rattle.reset_measure.specs.Tops.{resetAt, measureAt};
-use records::Answer;
-use records::State;
 use fields::Header;
 use gates::Mode;
 use indexes::VALUES;
 use operands::BitMeaning;
 use operands::Scope;
 use operands::WireMeaning;
+use records::Answer;
+use records::State;
 
 // Writes the reset whose content is from `from` to `to` and whose step is taken.
 pub fn reset(

@@ -199,14 +199,25 @@ fn conditional(
         BitMeaning::Stuck => Answer::Stuck,
         BitMeaning::Is(b) => {
             let mode = under_mode(limit, seen, condition(program[from], b));
-            once(program, mid, to, &mut vars, scope, regs, table, mode, st, out)
+            once(
+                program,
+                mid,
+                to,
+                &mut vars,
+                scope,
+                regs,
+                table,
+                mode,
+                st,
+                out,
+            )
         }
     }
 }
 
 // Runs the top field with this tag from `at` to `next`, which declares nothing, after so much is declared. A statement is a list
 // of one field, so that the cycle has one way in.
-fn act(
+fn act_top(
     program: &[u8],
     at: usize,
     next: usize,
@@ -229,7 +240,18 @@ fn act(
     let scope = top_scope(t.registers);
     let mode = top_mode(limit, seen, 0);
     if tag == 0 || 6 < tag {
-        return once(program, at, next, &mut vars, scope, regs, table, mode, st, out);
+        return once(
+            program,
+            at,
+            next,
+            &mut vars,
+            scope,
+            regs,
+            table,
+            mode,
+            st,
+            out,
+        );
     }
     let r = records::take_step(limit, at, st);
     let Answer::Going(s) = r else {
@@ -310,7 +332,10 @@ fn top_fields(
         qubits: 0,
         bits: 0,
     };
-    let mut s = State { written: 0, steps: 0 };
+    let mut s = State {
+        written: 0,
+        steps: 0,
+    };
     loop {
         match fields::header_at(program, at, to) {
             Header::End => return Answer::Going(s),
@@ -323,7 +348,7 @@ fn top_fields(
                     at = next;
                     continue;
                 }
-                let r = act(program, at, next, tag, t, regs, table, limit, s, out);
+                let r = act_top(program, at, next, tag, t, regs, table, limit, s, out);
                 let Answer::Going(u) = r else {
                     return r;
                 };
@@ -361,7 +386,10 @@ fn placed(
     requires { ⌜ many ≤ mostVariables ⌝ }
     ensures { λ r. ⌜ Does (now (out .entry)) started (now (out .exit)) r (instanceRun (familyWith limit (length (now (out .entry))) (now (program .entry)) k at) (take many (now (values .entry)))) ⌝ }
 {
-    let st = State { written: 0, steps: 0 };
+    let st = State {
+        written: 0,
+        steps: 0,
+    };
     let to = calls::past(program, at);
     let from = at + 5;
     let count = fields::wide(program[at + 4]);
@@ -382,7 +410,18 @@ fn placed(
             let mode = top_mode(limit, k, many);
             let none = [0u16; REGISTER_NUMBERS];
             let scope = laid.scope;
-            once(program, body, to, values, scope, &none, table, mode, st, out)
+            once(
+                program,
+                body,
+                to,
+                values,
+                scope,
+                &none,
+                table,
+                mode,
+                st,
+                out,
+            )
         }
     }
 }
@@ -401,7 +440,10 @@ fn sized(
     requires { ⌜ Tabled (now program) (now table) k ⌝ }
     ensures { λ r. ⌜ concluded (now (out .exit)) r ≡ instanceOf (some (familyWith limit (length (now (out .entry))) (now (program .entry)) k at)) (now (sizes .entry)) (now (out .entry)) ⌝ }
 {
-    let none = State { written: 0, steps: 0 };
+    let none = State {
+        written: 0,
+        steps: 0,
+    };
     let many = program[at + 3];
     let mode = fields::wide(many);
     let mut values = [0i32; VALUES];
@@ -420,7 +462,14 @@ pub fn instance(program: &[u8], family: usize, sizes: &[u8], limit: u64, out: &m
     let mut table = [0u16; MOST_FAMILIES];
     let n = fields::families(program, &mut table);
     if n <= family {
-        return Answer::Ended(20, 0, State { written: 0, steps: 0 });
+        return Answer::Ended(
+            20,
+            0,
+            State {
+                written: 0,
+                steps: 0,
+            },
+        );
     }
     let at = fields::long(table[family]);
     sized(program, at, narrow(family), &table, sizes, limit, out)

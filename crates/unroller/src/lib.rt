@@ -93,10 +93,15 @@ fn inmost(bytes: &[u8], base: usize, to: usize, e: Nested) -> Nested
         let place = base + at;
         let size = to - from;
         let mode = gates::inner(r.mode, 37);
-        let Answer::Going(st) = gates::step(tag, size, place, mode, r.st) else {
+        let Answer::Going(st) = gates::enter(tag, size, place, mode, r.st) else {
             return r;
         };
-        r = Nested { from, tag, mode, st };
+        r = Nested {
+            from,
+            tag,
+            mode,
+            st,
+        };
     }
     r
 }
@@ -124,12 +129,12 @@ fn run_statement(
     ensures { λ r. ⌜ Does (now (out .entry)) st (now (out .exit)) r (oneRun mode (length (now (out .entry))) place tag (slice from to (now (bytes .entry))) (now (program .entry)) (frameIn mode (take (mode .variables) (now (vars .entry))) scope (now (regs .entry)))) × (take (mode .variables) (now (vars .exit)) ≡ take (mode .variables) (now (vars .entry))) ⌝ }
 {
     let size = to - from;
-    let r = gates::step(tag, size, place, mode, st);
+    let r = gates::enter(tag, size, place, mode, st);
     let Answer::Going(s) = r else {
         return r;
     };
     if tag < 36 {
-        return gates::act(bytes, from, to, tag, place, vars, scope, regs, mode, s, out);
+        return gates::write_gate(bytes, from, to, tag, place, vars, scope, regs, mode, s, out);
     }
     if tag == 36 {
         return run_call(
@@ -189,7 +194,17 @@ fn run_rounds(
     requires { ⌜ Enterable mode tag (to - from) × (36 < tag) ⌝ }
     ensures { λ r. ⌜ Completes mode tag (to - from) (now (out .entry)) st (now (out .exit)) r (oneRun mode (length (now (out .entry))) place tag (slice from to (now (bytes .entry))) (now (program .entry)) (frameIn mode (take (mode .variables) (now (vars .entry))) scope (now (regs .entry)))) × (take (mode .variables) (now (vars .exit)) ≡ take (mode .variables) (now (vars .entry))) ⌝ }
 {
-    let e = inmost(bytes, base, to, Nested { from, tag, mode, st });
+    let e = inmost(
+        bytes,
+        base,
+        to,
+        Nested {
+            from,
+            tag,
+            mode,
+            st,
+        },
+    );
     let own = e.mode;
     let s = e.st;
     let past = base + e.from;
@@ -260,7 +275,8 @@ pub fn run_list(
             let Answer::Going(t) = r else {
                 return r;
             };
-            let Begun::With(depth, sure) = field_walk::begin(bytes, from, to, reversed, &mut cuts) else {
+            let Begun::With(depth, sure) = field_walk::begin(bytes, from, to, reversed, &mut cuts)
+            else {
                 return Answer::Stuck;
             };
             s = t;

@@ -3,7 +3,7 @@ use Rattle.runs.proofs.top_fields.Tie as tie
 use Rattle.runs.proofs.top_fields.Reads as reads
 use Rattle.runs.proofs.top_fields.Lts as lts
 use Rattle.fields.proofs.header_at.Reads as header-at-reads
-use Rattle.runs.proofs.act.Reads as act-reads
+use Rattle.runs.proofs.act_top.Reads as act-top-reads
 use Rattle.runs.proofs.declare.Reads as declare-reads
 use Rattle.runs.proofs.is_declaring.Reads as is-declaring-reads
 use Prim.Native.Nat.{ℕ, _+_, _-_}
@@ -170,8 +170,8 @@ loop-again c =
     declared-on (a .limit) l (now (a .out)) (i .regs) (i .out) (i .at) (i .t) (i .s) (i .inv) tag next e _ _ (c .before .before .before .is-declaring .ensures .yes (c .before .before .if1 .taken)) (rw k at (c .declare .ensures))
 
 -- src/lib.rt:338:21
-act-requires : tie.Need-act-requires Inv-loop μ-loop
-act-requires c κs =
+act-top-requires : tie.Need-act-top-requires Inv-loop μ-loop
+act-top-requires c κs =
     let a = c .before .before .before .before .before .before .before .before .before .before .before .before .args in
     let l = now (a .program) in
     let i = c .before .before .before .before .before .before .before .before .before .loop in
@@ -199,7 +199,7 @@ returns-3 c =
     let e = sym (c .before .before .before .before .before .before .before .before .before .before .before .before .header-at .ensures) ∙ c .before .before .before .before .before .before .before .before .before .before .tag .given .1 in
     let tag = c .before .before .before .before .before .before .before .before .before .before .tag .given .0 .0 in
     let next = c .before .before .before .before .before .before .before .before .before .before .tag .given .0 .1 .0 in
-    acted-last (a .limit) l (now (a .out)) (i .regs) (i .out) (i .at) (i .t) (i .s) (i .inv) tag next e (c .before .before .before .before .before .before .before .is-declaring .ensures .no (c .before .before .before .before .before .before .if1 .left)) _ (c .before .before .before .act .result) (c .before .before .before .act .ensures) (c .match2 .keys2)
+    acted-last (a .limit) l (now (a .out)) (i .regs) (i .out) (i .at) (i .t) (i .s) (i .inv) tag next e (c .before .before .before .before .before .before .before .is-declaring .ensures .no (c .before .before .before .before .before .before .if1 .left)) _ (c .before .before .before .act-top .result) (c .before .before .before .act-top .ensures) (c .match2 .keys2)
 
 -- src/lib.rt:326:5
 loop-less-2 : tie.Need-loop-less-2 Inv-loop μ-loop
@@ -222,7 +222,7 @@ loop-again-2 c =
     let e = sym (c .before .before .before .before .before .before .before .before .before .before .before .before .before .before .header-at .ensures) ∙ c .before .before .before .before .before .before .before .before .before .before .before .before .tag .given .1 in
     let tag = c .before .before .before .before .before .before .before .before .before .before .before .before .tag .given .0 .0 in
     let next = c .before .before .before .before .before .before .before .before .before .before .before .before .tag .given .0 .1 .0 in
-    acted-on (a .limit) l (now (a .out)) (i .regs) (i .out) (i .at) (i .t) (i .s) (i .inv) tag next e (c .before .before .before .before .before .before .before .before .before .is-declaring .ensures .no (c .before .before .before .before .before .before .before .before .if1 .left)) _ (c .before .before .before .before .before .act .result) (c .before .before .before .before .before .act .ensures) (c .before .r .given .0 .0) (c .before .r .given .1) (omega arith)
+    acted-on (a .limit) l (now (a .out)) (i .regs) (i .out) (i .at) (i .t) (i .s) (i .inv) tag next e (c .before .before .before .before .before .before .before .before .before .is-declaring .ensures .no (c .before .before .before .before .before .before .before .before .if1 .left)) _ (c .before .before .before .before .before .act-top .result) (c .before .before .before .before .before .act-top .ensures) (c .before .r .given .0 .0) (c .before .r .given .1) (omega arith)
 
 pub top-fields-spec : {M : Type 1} → statement M
 top-fields-spec =
@@ -247,7 +247,7 @@ top-fields-spec =
     declare-requires
     loop-less
     loop-again
-    act-requires
+    act-top-requires
     enum-known-r
     same-length-3
     returns-3

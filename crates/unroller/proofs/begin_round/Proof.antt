@@ -20,7 +20,6 @@ use Rattle.gates.specs.Gates.{turnOf}
 use Rattle.gates.proofs.RoundValues.{narrow}
 use Rattle.unroller.proofs.Rounds.{not-true, not-false, turned-once, turned-none, turns-are, turned-goes}
 
-
 -- src/lib.rt:54:9
 returns : tie.Need-returns
 returns c =

@@ -4,7 +4,7 @@ use Rattle.unroller.proofs.inmost.Reads as reads
 use Rattle.unroller.proofs.inmost.Lts as lts
 use Rattle.fields.proofs.header_at.Reads as header-at-reads
 use Rattle.gates.proofs.inner.Reads as inner-reads
-use Rattle.gates.proofs.step.Reads as step-reads
+use Rattle.gates.proofs.enter.Reads as enter-reads
 use Prim.Native.Nat.{_+_, _-_, _≤_}
 use mathlib.Core.Path.{_≡_, sym, _∙_}
 use native.Mathlib.Omega.{arith}
@@ -93,8 +93,8 @@ inner-requires c κs =
     omega (arith, w .low, w .near, w .few, w .deep)
 
 -- src/lib.rt:110:33
-step-requires : tie.Need-step-requires Inv-loop μ-loop
-step-requires c κs =
+enter-requires : tie.Need-enter-requires Inv-loop μ-loop
+enter-requires c κs =
     let a = c .before .before .before .before .before .before .before .before .before .before .before .args in
     let i = c .before .before .before .before .before .before .before .before .before .loop in
     let is : headerOf (i .r .from) (fieldsAt (now (a .bytes)) (i .r .from) (a .to)) ≡ Whole (c .before .before .before .before .tag .given .0 .0) (c .before .before .before .before .tag .given .0 .1 .0) = sym (c .before .before .before .before .before .before .header-at .ensures) ∙ c .before .before .before .before .tag .given .1 in
@@ -128,7 +128,7 @@ loop-again c =
     let is : headerOf (i .r .from) (fieldsAt (now (a .bytes)) (i .r .from) (a .to)) ≡ Whole (c .before .before .before .before .before .before .before .before .tag .given .0 .0) (c .before .before .before .before .before .before .before .before .tag .given .0 .1 .0) = sym (c .before .before .before .before .before .before .before .before .before .before .header-at .ensures) ∙ c .before .before .before .before .before .before .before .before .tag .given .1 in
     let s = c .before .st .given .0 .0 in
     let n = innerOf (i .r .mode) 37 in
-    let q : StepTaken n (c .before .before .before .before .before .before .before .before .tag .given .0 .0) (a .to - (i .r .from + 3)) (i .r .st) s = one-steps n (c .before .before .before .before .before .before .before .before .tag .given .0 .0) (a .to - (i .r .from + 3)) _ (i .r .st) s (c .before .before .before .step .result) (rw (c .before .before .before .before .inner .ensures) at (c .before .before .before .step .ensures)) (c .before .st .given .1) in
+    let q : StepTaken n (c .before .before .before .before .before .before .before .before .tag .given .0 .0) (a .to - (i .r .from + 3)) (i .r .st) s = one-steps n (c .before .before .before .before .before .before .before .before .tag .given .0 .0) (a .to - (i .r .from + 3)) _ (i .r .st) s (c .before .before .before .enter .result) (rw (c .before .before .before .before .inner .ensures) at (c .before .before .before .enter .ensures)) (c .before .st .given .1) in
     rw (c .before .before .before .before .inner .ensures) (inside-more (now (a .bytes)) (a .base) (a .to) (a .e) (i .r) (i .inv) (c .before .before .before .before .before .before .before .before .before .before .before .if1 .taken) _ _ is (c .before .before .before .before .before .before .if2 .left) (c .before .before .before .before .before .if3 .left) s q)
 
 -- src/lib.rt:90:1
@@ -152,7 +152,7 @@ inmost-spec =
     add-place
     sub-size
     inner-requires
-    step-requires
+    enter-requires
     enum-known-st
     returns-4
     loop-less

@@ -23,8 +23,8 @@ module _ (t : ℕ) where
       omega (arith, c .before .before .before .pre .1 .0 .order)
 
   -- src/lib.rt:141:9
-  pub step-requires : lts.Need-step-requires (calls t) (at t) Post
-  step-requires c κs =
+  pub enter-requires : lts.Need-enter-requires (calls t) (at t) Post
+  enter-requires c κs =
       c .before .before .before .pre .1 .0 .here
 
   -- src/lib.rt:142:23
@@ -41,12 +41,12 @@ module _ (t : ℕ) where
       let f = frameIn (a .mode) (take (a .mode .variables) (now (a .vars))) (a .scope) (now (a .regs)) in
       let room = length (now (a .out)) in
       let ready = c .before .before .before .before .before .pre .1 .0 in
-      let en : Entered (a .mode) (a .tag) (length l) (a .place) (a .st) (c .before .step .result) = subst (λ (n : ℕ). Entered (a .mode) (a .tag) n (a .place) (a .st) (c .before .step .result)) (sym (length-slice (a .from) (a .to) (now (a .bytes)) (ready .within))) (c .before .step .ensures) in
-      (one-stops (a .mode) room (a .place) (a .tag) l g f (now (a .out)) (a .st) (c .before .step .result) en (c .match .keys2), refl)
+      let en : Entered (a .mode) (a .tag) (length l) (a .place) (a .st) (c .before .enter .result) = subst (λ (n : ℕ). Entered (a .mode) (a .tag) n (a .place) (a .st) (c .before .enter .result)) (sym (length-slice (a .from) (a .to) (now (a .bytes)) (ready .within))) (c .before .enter .ensures) in
+      (one-stops (a .mode) room (a .place) (a .tag) l g f (now (a .out)) (a .st) (c .before .enter .result) en (c .match .keys2), refl)
 
   -- src/lib.rt:146:9
-  pub act-requires : lts.Need-act-requires (calls t) (at t) Post
-  act-requires c κs =
+  pub write-gate-requires : lts.Need-write-gate-requires (calls t) (at t) Post
+  write-gate-requires c κs =
       let a = c .before .before .before .before .before .before .before .before .before .before .args in
       let l = slice (a .from) (a .to) (now (a .bytes)) in
       let g = now (a .program) in
@@ -70,10 +70,10 @@ module _ (t : ℕ) where
       let room = length (now (a .out)) in
       let ready = c .before .before .before .before .before .before .before .before .before .before .before .before .before .pre .1 .0 in
       let s = c .before .before .before .before .before .before .before .r .given .0 .0 in
-      let q : StepTaken (a .mode) (a .tag) (a .to - a .from) (a .st) s = one-steps (a .mode) (a .tag) (a .to - a .from) (a .place) (a .st) s (c .before .before .before .before .before .before .before .before .before .step .result) (c .before .before .before .before .before .before .before .before .before .step .ensures) (c .before .before .before .before .before .before .before .r .given .1) in
+      let q : StepTaken (a .mode) (a .tag) (a .to - a .from) (a .st) s = one-steps (a .mode) (a .tag) (a .to - a .from) (a .place) (a .st) s (c .before .before .before .before .before .before .before .before .before .enter .result) (c .before .before .before .before .before .before .before .before .before .enter .ensures) (c .before .before .before .before .before .before .before .r .given .1) in
       let w = q .enterable in (
         does-as _ _ _ _ _ (oneRun (a .mode) room (a .place) (a .tag) l g f) (one-acts (a .mode) room (a .place) (a .tag) l g f (w .deep) (w .low) (c .before .before .before .before .before .if1 .taken))
-            (step-taken (a .mode .limit) room (now (a .out)) (a .st) s (a .place) _ _ _ (q .step .left) (q .step .same) (q .step .more) (c .before .before .act .ensures)),
+            (step-taken (a .mode .limit) room (now (a .out)) (a .st) s (a .place) _ _ _ (q .step .left) (q .step .same) (q .step .more) (c .before .before .write-gate .ensures)),
         refl,
       )
 
@@ -87,7 +87,7 @@ module _ (t : ℕ) where
       let room = length (now (a .out)) in
       let ready = c .before .before .before .before .before .before .before .before .before .before .before .pre .1 .0 in
       let s = c .before .before .before .before .before .r .given .0 .0 in
-      let q : StepTaken (a .mode) (a .tag) (a .to - a .from) (a .st) s = one-steps (a .mode) (a .tag) (a .to - a .from) (a .place) (a .st) s (c .before .before .before .before .before .before .before .step .result) (c .before .before .before .before .before .before .before .step .ensures) (c .before .before .before .before .before .r .given .1) in
+      let q : StepTaken (a .mode) (a .tag) (a .to - a .from) (a .st) s = one-steps (a .mode) (a .tag) (a .to - a .from) (a .place) (a .st) s (c .before .before .before .before .before .before .before .enter .result) (c .before .before .before .before .before .before .before .enter .ensures) (c .before .before .before .before .before .r .given .1) in
       let w = q .enterable in
       (omega (arith, c .before .before .before .before .before .before .before .before .before .before .before .pre .0), (ready, (c .before .before .before .before .before .before .before .before .before .before .before .pre .1 .1 .0, (c .before .before .before .before .before .before .before .before .before .before .before .pre .1 .1 .1, rw (c .before .before .if2 .taken) at w))))
 
@@ -106,7 +106,7 @@ module _ (t : ℕ) where
       let room = length (now (a .out)) in
       let ready = c .before .before .before .before .before .before .before .before .before .before .before .before .before .before .pre .1 .0 in
       let s = c .before .before .before .before .before .before .before .before .r .given .0 .0 in
-      let q : StepTaken (a .mode) (a .tag) (a .to - a .from) (a .st) s = one-steps (a .mode) (a .tag) (a .to - a .from) (a .place) (a .st) s (c .before .before .before .before .before .before .before .before .before .before .step .result) (c .before .before .before .before .before .before .before .before .before .before .step .ensures) (c .before .before .before .before .before .before .before .before .r .given .1) in
+      let q : StepTaken (a .mode) (a .tag) (a .to - a .from) (a .st) s = one-steps (a .mode) (a .tag) (a .to - a .from) (a .place) (a .st) s (c .before .before .before .before .before .before .before .before .before .before .enter .result) (c .before .before .before .before .before .before .before .before .before .before .enter .ensures) (c .before .before .before .before .before .before .before .before .r .given .1) in
       let w = q .enterable in
       (rw (c .before .before .before .before .before .if2 .taken) (c .before .before .run-call .ensures (a .st) (rw (c .before .before .before .before .before .if2 .taken) at q)), refl)
 
@@ -120,7 +120,7 @@ module _ (t : ℕ) where
       let room = length (now (a .out)) in
       let ready = c .before .before .before .before .before .before .before .before .before .before .before .pre .1 .0 in
       let s = c .before .before .before .before .before .r .given .0 .0 in
-      let q : StepTaken (a .mode) (a .tag) (a .to - a .from) (a .st) s = one-steps (a .mode) (a .tag) (a .to - a .from) (a .place) (a .st) s (c .before .before .before .before .before .before .before .step .result) (c .before .before .before .before .before .before .before .step .ensures) (c .before .before .before .before .before .r .given .1) in
+      let q : StepTaken (a .mode) (a .tag) (a .to - a .from) (a .st) s = one-steps (a .mode) (a .tag) (a .to - a .from) (a .place) (a .st) s (c .before .before .before .before .before .before .before .enter .result) (c .before .before .before .before .before .before .before .enter .ensures) (c .before .before .before .before .before .r .given .1) in
       let w = q .enterable in
       (omega (arith, c .before .before .before .before .before .before .before .before .before .before .before .pre .0), (ready, (c .before .before .before .before .before .before .before .before .before .before .before .pre .1 .1 .0, (c .before .before .before .before .before .before .before .before .before .before .before .pre .1 .1 .1, (w, omega (arith, c .before .before .before .if1 .left, c .before .before .if2 .left))))))
 
@@ -139,6 +139,6 @@ module _ (t : ℕ) where
       let room = length (now (a .out)) in
       let ready = c .before .before .before .before .before .before .before .before .before .before .before .before .before .before .pre .1 .0 in
       let s = c .before .before .before .before .before .before .before .before .r .given .0 .0 in
-      let q : StepTaken (a .mode) (a .tag) (a .to - a .from) (a .st) s = one-steps (a .mode) (a .tag) (a .to - a .from) (a .place) (a .st) s (c .before .before .before .before .before .before .before .before .before .before .step .result) (c .before .before .before .before .before .before .before .before .before .before .step .ensures) (c .before .before .before .before .before .before .before .before .r .given .1) in
+      let q : StepTaken (a .mode) (a .tag) (a .to - a .from) (a .st) s = one-steps (a .mode) (a .tag) (a .to - a .from) (a .place) (a .st) s (c .before .before .before .before .before .before .before .before .before .before .enter .result) (c .before .before .before .before .before .before .before .before .before .before .enter .ensures) (c .before .before .before .before .before .before .before .before .r .given .1) in
       let w = q .enterable in
       (c .before .before .run-rounds .ensures .0 (a .st) q, c .before .before .run-rounds .ensures .1)

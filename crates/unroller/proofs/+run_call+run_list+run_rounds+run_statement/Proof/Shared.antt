@@ -19,11 +19,11 @@ use Rattle.calls.proofs.body_of.Reads as body-of-reads
 use Rattle.calls.proofs.scope_of.Reads as scope-of-reads
 use Rattle.fields.proofs.header_at.Reads as header-at-reads
 use Rattle.fields.proofs.wide.Reads as wide-reads
-use Rattle.gates.proofs.act.Reads as act-reads
+use Rattle.gates.proofs.write_gate.Reads as write-gate-reads
 use Rattle.gates.proofs.entered.Reads as entered-reads
 use Rattle.gates.proofs.inner.Reads as inner-reads
 use Rattle.gates.proofs.repeats_of.Reads as repeats-of-reads
-use Rattle.gates.proofs.step.Reads as step-reads
+use Rattle.gates.proofs.enter.Reads as enter-reads
 use Rattle.field_walk.proofs.begin.Reads as begin-reads
 use Rattle.field_walk.proofs.passed.Reads as passed-reads
 use Rattle.field_walk.proofs.seek.Reads as seek-reads
@@ -92,4 +92,4 @@ run-rounds-calls t = (inmost-reads.Asked, inmost-reads.Learnt, wide-reads.Asked,
 
 -- what the calls of `run-statement` ask and tell
 abbrev pub run-statement-calls : ℕ → run-statement-lts.Claims
-run-statement-calls t = (step-reads.Asked, step-reads.Learnt, act-reads.Asked, act-reads.Learnt, run-call-below t, run-call.Post, run-rounds-below t, run-rounds.Post)
+run-statement-calls t = (enter-reads.Asked, enter-reads.Learnt, write-gate-reads.Asked, write-gate-reads.Learnt, run-call-below t, run-call.Post, run-rounds-below t, run-rounds.Post)

@@ -1,8 +1,8 @@
 use borrow.Author.Needs.{needs}
-use Rattle.runs.proofs.act.Statement.{statement}
-use Rattle.runs.proofs.act.Tie as tie
-use Rattle.runs.proofs.act.Reads as reads
-use Rattle.runs.proofs.act.Lts as lts
+use Rattle.runs.proofs.act_top.Statement.{statement}
+use Rattle.runs.proofs.act_top.Tie as tie
+use Rattle.runs.proofs.act_top.Reads as reads
+use Rattle.runs.proofs.act_top.Lts as lts
 use Rattle.records.proofs.take_step.Reads as take-step-reads
 use Rattle.reset_measure.proofs.measure.Reads as measure-reads
 use Rattle.reset_measure.proofs.reset.Reads as reset-reads
@@ -25,7 +25,6 @@ use Rattle.gates.proofs.GateRuns.{does-as}
 use Rattle.language.specs.Machine.{actTop}
 use Rattle.runs.specs.TopFields.{globalsIn}
 use Rattle.runs.proofs.TopTags.{list-acts, timed, measure-acts, reset-acts, if-acts}
-
 
 -- src/lib.rt:226:16
 cast-seen : tie.Need-cast-seen
@@ -170,8 +169,8 @@ returns-5 c =
     let e : _≡_ {A = ℕ} (a .tag) 6 = omega (arith, c .before .before .before .before .before .before .before .before .before .before .before .if1 .left, ltb-false 6 (a .tag) (c .before .before .before .before .before .before .before .before .before .before .if2 .left), c .before .before .before .before .before .if3 .left, c .before .before .before .before .if4 .left, ap₀ .0, ap₀ .1, ap₀ .2) in
     does-as _ _ _ _ _ run (ap (λ (t : ℕ). actTop (a .limit) room (readTop (field (a .at) t content)) g) e ∙ if-acts (a .limit) room (a .t .families) (a .t .registers) l (now (a .regs)) q b (c .before .before .before .before .before .before .before .before .before .before .before .before .before .top-scope .result) (c .before .before .before .before .before .before .before .before .before .before .before .before .before .top-scope .ensures) (a .at) content (c .before .before .before .before .before .before .before .before .before .before .before .before .before .before .before .before .before .pre .0 .0 .ready e .long)) (step-taken (a .limit) room (now (a .out)) (a .st) s (a .at) _ _ _ (q₀ .left) (q₀ .same) (q₀ .more) (c .before .before .conditional .ensures))
 
-pub act-spec : {M : Type 1} → statement M
-act-spec =
+pub act-top-spec : {M : Type 1} → statement M
+act-top-spec =
     tie.close
     (tie.spec
     cast-seen
