@@ -15,6 +15,7 @@ use fields::Header;
 use indexes::VALUES;
 use indexes::Value;
 use limits::DEEPEST;
+use operands::REGISTER_NUMBERS;
 use operands::Scope;
 use operands::WireMeaning;
 use records::Answer;
@@ -63,7 +64,7 @@ pub fn write_gate(
     place: usize,
     vars: &[i32; VALUES],
     scope: Scope,
-    regs: &[u16; 765],
+    regs: &[u16; REGISTER_NUMBERS],
     mode: Mode,
     st: State,
     out: &mut [u8],

@@ -12,6 +12,7 @@ use fields::Header;
 use gates::Mode;
 use indexes::VALUES;
 use operands::BitMeaning;
+use operands::REGISTER_NUMBERS;
 use operands::Scope;
 use operands::WireMeaning;
 use records::Answer;
@@ -25,7 +26,7 @@ pub fn reset(
     place: usize,
     vars: &[i32; VALUES],
     scope: Scope,
-    regs: &[u16; 765],
+    regs: &[u16; REGISTER_NUMBERS],
     mode: Mode,
     st: State,
     out: &mut [u8],
@@ -51,7 +52,7 @@ pub fn measure(
     place: usize,
     vars: &[i32; VALUES],
     scope: Scope,
-    regs: &[u16; 765],
+    regs: &[u16; REGISTER_NUMBERS],
     mode: Mode,
     st: State,
     out: &mut [u8],
