@@ -13,7 +13,7 @@ use borrow.Author.Tests.{eqb-true, eqb-false}
 use types.Run.{OneOf}
 use denote.Enum.Declared.{tagOf}
 use Rattle.language.specs.Read.{Field, fields, typesOf, statementsBy, outerStatement, familyOf, readFamily}
-use Rattle.language.specs.Limits.{mostFamilies, mostVariables, mostParameters}
+use Rattle.language.specs.Limits.{mostFamilies, mostRegisters, mostVariables, mostParameters}
 use Rattle.language.specs.Tree.{Number, number, missing}
 use Rattle.language.specs.Check.{Checked, good, _>>=_, _>>_, require, checkNumber, Kind, Signature, kindsOf, checkStatements, Declared, familyScope, withFamily, checkCounts, checkFamily, checkTop}
 use Rattle.fields.specs.Header.{fieldsAt}
@@ -152,7 +152,7 @@ module _ (t : SoFar) (families : List (List ℕ)) (kinds : List ℕ) (sizes : Li
         by (Refused n q) o = absurd (let z : _≡_ {A = ℕ} 1 0 = o in omega arith)
 
 -- one family more
-module _ (t : SoFar) (families : List (List ℕ)) (m p : ℕ) {k₀ : List ℕ} {s₀ : List (List ℤ)} {k₁ : List ℕ} {s₁ : List (List ℤ)} (h : DeclaredRight t families k₀ s₀) (a : Apart (t .rows) p k₀ s₀ k₁ s₁) (room : t .families < 255) (few : m ≤ 4) (some : p ≤ 8) where
+module _ (t : SoFar) (families : List (List ℕ)) (m p : ℕ) {k₀ : List ℕ} {s₀ : List (List ℤ)} {k₁ : List ℕ} {s₁ : List (List ℤ)} (h : DeclaredRight t families k₀ s₀) (a : Apart (t .rows) p k₀ s₀ k₁ s₁) (room : t .families < mostFamilies) (few : m ≤ mostVariables) (some : p ≤ mostParameters) where
   abbrev more : SoFar
   more = record { families = t .families + 1; rows = t .rows + p; registers = t .registers; qubits = t .qubits; bits = t .bits }
 
@@ -206,10 +206,10 @@ module _ (t : SoFar) (families : List (List ℕ)) (m p : ℕ) {k₀ : List ℕ} 
               let v = w .inside in
               rw (other k z) (record { few = w .few; inside = omega arith })
 
-      after : (k : ℕ) → k < t .families + 1 → 255 ≤ getD (getD newFamilies k []) 2 0
+      after : (k : ℕ) → k < t .families + 1 → mostRegisters ≤ getD (getD newFamilies k []) 2 0
       after k q = by (eqb k (t .families)) refl
         where
-          by : (b : Bool) → eqb k (t .families) ≡ b → 255 ≤ getD (getD newFamilies k []) 2 0
+          by : (b : Bool) → eqb k (t .families) ≡ b → mostRegisters ≤ getD (getD newFamilies k []) 2 0
           by true e = rw (eqb-true k (t .families) e, own) (h .leastRows)
           by false e = let n = eqb-false k (t .families) e in let z : k < t .families = omega arith in rw (other k z) (h .behind k z)
 

@@ -12,7 +12,8 @@ use Rattle.check_operand.specs.Tables.{tabulated, TablesRight}
 use Rattle.check_call.specs.Calls.{scopeFull, FamiliesRight, signatureAt}
 use Rattle.check_operand.specs.declared.Visible.{Visible}
 use Rattle.check_operand.proofs.Tables.{rows-same}
-use Rattle.check_declaration.specs.Types.{OperandTable, Apart}
+use Rattle.language.specs.Limits.{mostRegisters, mostVariables, mostLoops}
+use Rattle.check_declaration.specs.Types.{tableRows, OperandTable, Apart}
 use Rattle.check_program.specs.Declarations.{declaredIn, DeclaredRight}
 use Rattle.check_program.specs.declared.SoFar.{SoFar}
 use Rattle.check_declaration.proofs.Tables.{rows-below, rows-above}
@@ -25,7 +26,7 @@ eight-rows = record {
 }
 
 pub scope-right : (s : Visible) (kinds : List ℕ) (sizes lows highs : List (List ℤ)) → OperandTable kinds sizes → Rows lows 8 → Rows highs 8
-    → s .variables ≤ 4 → s .loops ≤ 8 → s .first + s .count ≤ 2295 → TablesRight s kinds sizes lows highs
+    → s .variables ≤ mostVariables → s .loops ≤ mostLoops → s .first + s .count ≤ tableRows → TablesRight s kinds sizes lows highs
 scope-right s kinds sizes lows highs t l h m n k =
     let q = t .kindsLong in
     let p = t .sizesLong in
@@ -65,7 +66,7 @@ module _ (t : SoFar) (families : List (List ℕ)) {k₀ : List ℕ} {s₀ : List
       (λ k q. ap (sizedBy families k) (rows-below (t .rows) count (getD (getD families k []) 1 0) (getD (getD families k []) 2 0) a (h .each k q .inside)))
 
   -- the row that changes is a register's
-  pub families-above : (row : ℕ) → row < 255 → Apart row 1 k₀ s₀ k₁ s₁ → tabulated (signatureAt families k₁ s₁) (t .families) 0 ≡ tabulated (signatureAt families k₀ s₀) (t .families) 0
+  pub families-above : (row : ℕ) → row < mostRegisters → Apart row 1 k₀ s₀ k₁ s₁ → tabulated (signatureAt families k₁ s₁) (t .families) 0 ≡ tabulated (signatureAt families k₀ s₀) (t .families) 0
   families-above row b a =
       signatures-same (t .families) families k₀ s₀ k₁ s₁
       (λ k q. let z = h .behind k q in ap (sizedBy families k) (rows-above row 1 (getD (getD families k []) 1 0) (getD (getD families k []) 2 0) a (omega arith)))

@@ -9,6 +9,8 @@ use lib.Seq.{slice, take-length}
 use borrow.Author.Tests.{le-leb, lt-leb}
 use types.Run.{OneOf}
 use denote.Enum.Declared.{tagOf}
+use Rattle.language.specs.Limits.{mostFamilies, longestProgram}
+use Rattle.check_declaration.specs.Types.{tableRows}
 use Rattle.language.specs.Read.{Field, field, badHeader, fields, choose, readFamily, readRegister, readTop, read}
 use Rattle.language.specs.Check.{Checked, _>>=_, _>>_, require, Declared, checkTop, checkTops, check}
 use Rattle.language.specs.Tree.{qreg, creg}
@@ -86,15 +88,15 @@ pub tops-all : (program : List ℕ) (families : List (List ℕ)) (kinds : List �
 unfolding check read fieldsAt tabulated
 tops-all program families kinds sizes = sym (ap (λ (l : List ℕ). checkTops (map readTop (fields 0 l)) (declaredIn noneSoFar families kinds sizes)) (take-length program))
 
-pub zeros-hold : DeclaredRight noneSoFar (replicate 255 (replicate 3 0)) (replicate 2295 0) (replicate 2295 (replicate 5 (pos 0)))
+pub zeros-hold : DeclaredRight noneSoFar (replicate mostFamilies (replicate 3 0)) (replicate tableRows 0) (replicate tableRows (replicate 5 (pos 0)))
 unfolding inRange allInRange
 zeros-hold = record {
   table = record {
-    kindsLong = length-replicate {A = ℕ} 2295 0;
-    sizesLong = length-replicate 2295 (replicate 5 (pos 0));
-    sizeRows = record { enough = omega (arith, length-replicate 2295 (replicate 5 (pos 0))); each = λ i h. rw (getD-replicate 2295 i (replicate 5 (pos 0)) [] h) (record { long = refl; inside = refl }) };
+    kindsLong = length-replicate {A = ℕ} tableRows 0;
+    sizesLong = length-replicate tableRows (replicate 5 (pos 0));
+    sizeRows = record { enough = omega (arith, length-replicate tableRows (replicate 5 (pos 0))); each = λ i h. rw (getD-replicate tableRows i (replicate 5 (pos 0)) [] h) (record { long = refl; inside = refl }) };
   };
-  long = length-replicate {A = List ℕ} 255 (replicate 3 0);
+  long = length-replicate {A = List ℕ} mostFamilies (replicate 3 0);
   familiesFit = omega arith;
   registersFit = omega arith;
   qubitsFit = omega arith;
@@ -105,10 +107,10 @@ zeros-hold = record {
   behind = λ k h. absurd (omega arith);
 }
 
-pub program-long : (program : List ℕ) → 65535 < length program → resultTold (Turned 1 0) ≡ checkResult program
+pub program-long : (program : List ℕ) → longestProgram < length program → resultTold (Turned 1 0) ≡ checkResult program
 unfolding checkResult checkProgram verdict resultTold require _>>_
-program-long program h = sym (rw (lt-leb (length program) 65535 h))
+program-long program h = sym (rw (lt-leb (length program) longestProgram h))
 
-pub program-short : (program : List ℕ) → length program ≤ 65535 → verdict (check (read program)) ≡ checkResult program
+pub program-short : (program : List ℕ) → length program ≤ longestProgram → verdict (check (read program)) ≡ checkResult program
 unfolding checkResult checkProgram require _>>_
-program-short program h = sym (rw (le-leb (length program) 65535 h))
+program-short program h = sym (rw (le-leb (length program) longestProgram h))

@@ -9,7 +9,7 @@ ghost use lib.ListN.{length};
 ghost use Rattle.language.specs.Result.{finished};
 ghost use Rattle.metaqasm.specs.Answers.{answered};
 ghost use Rattle.list_words.specs.Words.{outcomeOf};
-ghost use Rattle.list_words.specs.Meaning.{jobMeant, JobHeld};
+ghost use Rattle.list_words.specs.Jobs.{jobMeant, JobHeld};
 use list_words::Asked;
 use list_words::Job;
 use metaqasm::MetaqasmResult;

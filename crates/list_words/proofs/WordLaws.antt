@@ -12,7 +12,7 @@ use lib.ListN.{length, take, drop, getD, set, length-set, length-take, length-dr
 use lib.Seq.{take-suc, take-suc-set, drop-cons, getD-drop}
 use Rattle.list_words.specs.declared.Span.{Span}
 use Rattle.list_words.specs.Words.{allDigits, valueFrom, numberIn, sizeBytes, andSizes, sizesIn, before, wordsIn, listing, help, whole, helpWord, sameWord, familyAt, requestOf}
-use Rattle.list_words.specs.Meaning.{WordAt}
+use Rattle.list_words.specs.Jobs.{WordAt}
 
 -- a byte at a place, and what is after it
 pub next-byte : (l : List ℕ) (i : ℕ) → i < length l → drop i l ≡ getD l i 0 ∷ drop (i + 1) l

@@ -4,7 +4,7 @@ ghost use mathlib.Core.List.{_++_};
 ghost use Prim.Native.Nat.{_+_, _*_, _-_, _<_, _≤_};
 ghost use lib.ListN.{length, take, drop};
 ghost use Rattle.list_words.specs.Words.{numberIn, sizeBytes, sizesIn, wordsIn, requestOf};
-ghost use Rattle.list_words.specs.Meaning.{saidBy, sizesMeant, SizesHeld, WordAt, meant, Held};
+ghost use Rattle.list_words.specs.Jobs.{saidBy, sizesMeant, SizesHeld, WordAt, meant, Held};
 
 // The numbers of 32 bits are smaller.
 const TOO_LARGE: u64 = 4294967296;

@@ -7,6 +7,7 @@ use native.Mathlib.Omega.{arith}
 use lib.Dec.{leb}
 use borrow.Author.Tests.{leb-true}
 use lib.ListN.{length}
+use Rattle.language.specs.Limits.{longestProgram}
 use Rattle.language.specs.Read.{read}
 use Rattle.language.specs.Check.{require, check, _>>_}
 use Rattle.language.specs.Result.{verdict, checkProgram, checkResult}
@@ -16,15 +17,15 @@ use Rattle.check_program.specs.declared.Outcome.{Outcome}
 use Rattle.check_program.specs.declared.Outcome.the-variants.{Turned}
 
 -- the place of a check's answer
-pub place-small : (p : List ℕ) → checkResult p .place ≤ 65535
+pub place-small : (p : List ℕ) → checkResult p .place ≤ longestProgram
 unfolding checkResult checkProgram require _>>_ verdict
-place-small p = by (leb (length p) 65535) refl
+place-small p = by (leb (length p) longestProgram) refl
   where
-    by : (b : Bool) → leb (length p) 65535 ≡ b → verdict (require 1 0 b >> check (read p)) .place ≤ 65535
-    by true e = let h = leb-true (length p) 65535 e in let k = rw e at (place-within p) in omega arith
+    by : (b : Bool) → leb (length p) longestProgram ≡ b → verdict (require 1 0 b >> check (read p)) .place ≤ longestProgram
+    by true e = let h = leb-true (length p) longestProgram e in let k = rw e at (place-within p) in omega arith
     by false e = omega arith
 
 module _ (o : Outcome) (p : List ℕ) (e : resultTold o ≡ checkResult p) where
-  pub turned-small : (n q : ℕ) → o ≡ Turned n q → q ≤ 65535
+  pub turned-small : (n q : ℕ) → o ≡ Turned n q → q ≤ longestProgram
   unfolding resultTold
   turned-small n q u = let z : q ≡ checkResult p .place = sym (ap (λ (x : Outcome). resultTold x .place) u) ∙ ap (λ r. r .place) e in let h = place-small p in omega arith

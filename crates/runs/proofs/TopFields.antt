@@ -10,7 +10,7 @@ use lib.Dec.{eqb}
 use borrow.Author.Tests.{eqb-true, eqb-false}
 use lib.ListN.{length, take}
 use lib.Seq.{slice}
-use Rattle.language.specs.Limits.{mostRegisters, longestProgram}
+use Rattle.language.specs.Limits.{mostFamilies, mostRegisters, longestProgram}
 use Rattle.language.specs.Read.{field, fields, readTop}
 use Rattle.language.specs.Machine.{actTop, Run, Globals, runTops}
 use Rattle.fields.specs.declared.Header.the-variants.{Whole, End, Cut}
@@ -145,5 +145,5 @@ module _ (limit : ℕ) (l out₀ : List ℕ) where
     tabled-here table a f = tabled-fewer l table (f .count) (t .families) (seen-few limit room l (a .declares) (a .accepted) at t (i .reached) table (f .count) (f .listed) (f .long))
         (tabled l table (f .count) (a .declares) (a .accepted) (a .short) (f .listed))
 
-    pub few-families : (table : List ℕ) → Acceptable l → FullTable l table → t .families ≤ 255
+    pub few-families : (table : List ℕ) → Acceptable l → FullTable l table → t .families ≤ mostFamilies
     few-families table a f = omega (arith, seen-few limit room l (a .declares) (a .accepted) at t (i .reached) table (f .count) (f .listed) (f .long), f .listed .room, f .long)

@@ -6,6 +6,7 @@ use native.Mathlib.Omega.{arith}
 use lib.ListN.{length, take}
 use lib.Seq.{slice}
 use lib.IntN.{ℤ}
+use Rattle.language.specs.Limits.{longestProgram}
 use Rattle.language.specs.Machine.{Run, step, inDirection, runStatements, _>>_}
 use Rattle.fields.specs.declared.Header.the-variants.{Whole}
 use Rattle.fields.specs.Header.{fieldsAt, headerOf}
@@ -41,7 +42,7 @@ module _ (bytes : List ℕ) (base to : ℕ) (e : Nested) where
     -- what it holds, and how deep that is
     pub record Content : Type 0 where
       pub low : r .from + 3 ≤ to
-      pub near : base + r .from + 3 ≤ 65535
+      pub near : base + r .from + 3 ≤ longestProgram
       pub few : r .mode .variables ≤ 19
       pub deep : 0 < r .mode .levels
 

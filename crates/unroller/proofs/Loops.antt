@@ -9,6 +9,7 @@ use lib.ListN.{take, drop}
 use lib.Seq.{slice}
 use lib.Dec.{eqb}
 use lib.IntN.{ℤ, pos, _-ℤ_}
+use Rattle.indexes.specs.Values.{mostValues}
 use Rattle.language.specs.Form.{inRange}
 use Rattle.language.specs.Read.{fields, readStatement, statementsBy}
 use Rattle.language.specs.Machine.{runFor, Run, noMeaning, endAt, step, rounds, roundsOf, startOf, inRound, inDirection, runStatements, _>>_}
@@ -38,10 +39,10 @@ module _ (mode : Mode) where
       go true = refl
       go false = refl
 
-  pub inner-few : (tag : ℕ) → mode .variables + mode .levels ≤ 20 → (mode .levels ≡ 0 → ⊥) → innerOf mode tag .variables + innerOf mode tag .levels ≤ 20
+  pub inner-few : (tag : ℕ) → mode .variables + mode .levels ≤ mostValues → (mode .levels ≡ 0 → ⊥) → innerOf mode tag .variables + innerOf mode tag .levels ≤ mostValues
   inner-few tag h k = go (eqb tag 37)
     where
-      go : (b : Bool) → chosen b .variables + chosen b .levels ≤ 20
+      go : (b : Bool) → chosen b .variables + chosen b .levels ≤ mostValues
       go true = omega (arith, h)
       go false = omega (arith, h, k)
 

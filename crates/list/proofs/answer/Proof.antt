@@ -5,7 +5,7 @@ use Rattle.list.proofs.answer.Tie as tie
 use mathlib.Core.Path.{ap, subst, _∙_}
 use denote.Ref.{now}
 use Rattle.list_words.specs.Words.{outcomeOf}
-use Rattle.list_words.specs.Meaning.{jobMeant, JobHeld}
+use Rattle.list_words.specs.Jobs.{jobMeant, JobHeld}
 
 enum-told : tie.Need-enum-told
 enum-told c =

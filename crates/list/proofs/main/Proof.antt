@@ -3,7 +3,7 @@ use borrow.Author.Needs.{needs}
 use Rattle.list.proofs.main.Statement.{statement}
 use Rattle.list.proofs.main.Tie as tie
 use mathlib.Core.Path.{subst}
-use Rattle.list_words.specs.Meaning.{Held}
+use Rattle.list_words.specs.Jobs.{Held}
 
 buffer-requires : tie.Need-buffer-requires
 buffer-requires c κs = search needs

@@ -5,7 +5,7 @@ use Prim.Native.Nat.{_-_}
 use native.Mathlib.Omega.{arith}
 use lib.ListN.{length}
 use denote.Ref.{now}
-use Rattle.list_words.specs.Meaning.{saidBy}
+use Rattle.list_words.specs.Jobs.{saidBy}
 use Rattle.list_words.proofs.WordLaws.{Reading, reading-start, no-byte, below-digits, above-digits, too-large, reading-next, reading-done}
 
 abbrev Inv-loop : tie.InvT-loop

@@ -8,7 +8,7 @@ use native.Mathlib.Omega.{arith}
 use lib.ListN.{length-take, take}
 use denote.Ref.{now}
 use Rattle.list_words.specs.Words.{familyAt}
-use Rattle.list_words.specs.Meaning.{saidBy, sizesMeant, SizesHeld, meant, jobMeant}
+use Rattle.list_words.specs.Jobs.{saidBy, sizesMeant, SizesHeld, meant, jobMeant}
 use Rattle.list_words.proofs.WordLaws.{nothing-asked, help-asked, family-asked, not-same}
 
 returns : tie.Need-returns

@@ -7,7 +7,7 @@ use native.Mathlib.Omega.{arith}
 use borrow.Author.Needs.{needs}
 use lib.ListN.{length, length-take}
 use denote.Ref.{now}
-use Rattle.list_words.specs.Meaning.{saidBy, sizesMeant}
+use Rattle.list_words.specs.Jobs.{saidBy, sizesMeant}
 use Rattle.list_words.proofs.WordLaws.{Sizing, sizing-start, too-many, sizing-done, no-number, sizing-next}
 
 abbrev Inv-loop : tie.InvT-loop
