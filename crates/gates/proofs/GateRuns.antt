@@ -34,16 +34,16 @@ pub does-as : (l : List ℕ) (st : State) (l' : List ℕ) (r : Answer) (run run'
 does-as l st l' r run run' e d = subst (λ (x : Run (Unit {0})). Does l st l' r x) (sym e) d
 
 pub gate-acts : (tag : ℕ) (reversed : Bool) (n : ℕ) → ActionNumbers (written (directionOf reversed) (gateFor tag) (theWire n)) (codeOf tag reversed) n 0
-unfolding directionOf gateFor codeOf written op firstNumber secondNumber
-gate-acts tag reversed n = go (eqb tag 32) (eqb tag 33) reversed
+unfolding directionOf written op firstNumber secondNumber
+gate-acts tag reversed n = go (gateFor tag) reversed
   where
-    go : (a b reversed : Bool) → ActionNumbers (written (directionOf reversed) (cond a gateH (cond b gateT gateTdg)) (theWire n)) (cond a 1 (cond b (cond reversed 3 2) (cond reversed 2 3))) n 0
-    go true b true = record { its-code = refl; its-first = refl; its-second = refl }
-    go true b false = record { its-code = refl; its-first = refl; its-second = refl }
-    go false true true = record { its-code = refl; its-first = refl; its-second = refl }
-    go false true false = record { its-code = refl; its-first = refl; its-second = refl }
-    go false false true = record { its-code = refl; its-first = refl; its-second = refl }
-    go false false false = record { its-code = refl; its-first = refl; its-second = refl }
+    go : (g : Gate) (reversed : Bool) → ActionNumbers (written (directionOf reversed) g (theWire n)) (op (written (directionOf reversed) g (theWire 0))) n 0
+    go gateH true = record { its-code = refl; its-first = refl; its-second = refl }
+    go gateH false = record { its-code = refl; its-first = refl; its-second = refl }
+    go gateT true = record { its-code = refl; its-first = refl; its-second = refl }
+    go gateT false = record { its-code = refl; its-first = refl; its-second = refl }
+    go gateTdg true = record { its-code = refl; its-first = refl; its-second = refl }
+    go gateTdg false = record { its-code = refl; its-first = refl; its-second = refl }
 
 module _ (mode : Mode) (room : ℕ) (p : Place) (l : List ℕ) (from to : ℕ) (d : Direction) (c : Condition) (values : List ℤ) (ms : List Meaning) (r : WireMeaning) (u : WireAt (slice from to l) 0 values ms r) where
   gate-is : (tag : ℕ) → gateAt mode room tag p (slice from to l) (frameOf d c values ms) ≡ (wireTold p r >>= (λ w. write (mode .limit) room p (frameOf d c values ms) (written d (gateFor tag) w)))

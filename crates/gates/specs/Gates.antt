@@ -11,10 +11,11 @@ use Rattle.language.specs.Limits.{deepest, furthest}
 use Rattle.language.specs.Tree.{Place, Gate, gateH, gateT, gateTdg, badIndex}
 use Rattle.language.specs.Form.{inRange}
 use Rattle.language.specs.Read.{fields, due, operandDue, outerIndex}
-use Rattle.language.specs.Machine.{Run, Frame, Direction, forward, backward, endAt, noMeaning, startOf, roundsOf, runGate, runCx, runBounds}
+use Rattle.language.specs.Machine.{Run, Frame, Direction, forward, backward, written, endAt, noMeaning, startOf, roundsOf, runGate, runCx, runBounds}
 use Rattle.indexes.specs.declared.Value.{Value}
 use Rattle.indexes.specs.declared.Value.the-variants.{Is, Over as vOver, Stuck as vStuck}
-use Rattle.operands.specs.Meanings.{operandsOf, frameOf}
+use Rattle.language.specs.Result.{op}
+use Rattle.operands.specs.Meanings.{theWire, operandsOf, frameOf}
 use Rattle.operands.specs.declared.Scope.{Scope}
 use Rattle.records.specs.Outcomes.{conditionOf, OneStep, NoStep}
 use Rattle.records.specs.declared.State.{State}
@@ -34,8 +35,8 @@ directionOf false = forward
 unfoldable pub gateFor : ℕ → Gate
 gateFor tag = cond (eqb tag 32) gateH (cond (eqb tag 33) gateT gateTdg)
 
-unfoldable pub codeOf : ℕ → Bool → ℕ
-codeOf tag reversed = cond (eqb tag 32) 1 (cond (eqb tag 33) (cond reversed 3 2) (cond reversed 2 3))
+abbrev pub codeOf : ℕ → Bool → ℕ
+codeOf tag reversed = op (written (directionOf reversed) (gateFor tag) (theWire 0))
 
 abbrev pub frameIn : Mode → List ℤ → Scope → List ℕ → Frame
 frameIn mode values scope regs = frameOf (directionOf (mode .reversed)) (conditionOf (mode .condition)) values (operandsOf scope regs)
