@@ -1,28 +1,25 @@
 -- The value of an index field, from the values of its parts. Assumes nothing.
-use Prim.Native.Nat.{ℕ, zero, suc, _+_, _*_, _-_, _<_, _≤_}
+use Prim.Native.Nat.{ℕ, zero, suc, _+_, _-_, _≤_}
 use mathlib.Core.Path.{_≡_, refl, sym, ap, _∙_}
 use mathlib.Core.List.{List, [], _∷_}
-use mathlib.Core.Bool.{Bool, true, false, cond, _&&_}
-use mathlib.Core.Logic.{⊎-elim}
-use mathlib.Core.Option.{Option, none, some}
+use mathlib.Core.Bool.{Bool, true, false, cond}
 use native.Mathlib.Omega.{arith}
-use borrow.Author.Tests.{leb-true, leb-false, le-leb, lt-leb, eq-eqb, ne-eqb, eqb-true, eqb-false}
-use lib.ListN.{length, getD, getElem?, take, drop}
+use borrow.Author.Tests.{ne-eqb, eqb-true, eqb-false}
+use lib.ListN.{take, drop}
 use lib.Seq.{slice, drop-drop}
-use lib.Dec.{leb, eqb}
-use lib.IntN.{ℤ, pos}
+use lib.Dec.{eqb}
+use lib.IntN.{ℤ}
 use types.Run.{OneOf}
 use denote.Enum.Declared.{tagOf}
 use Rattle.language.specs.Tree.{Place, Index, literal, variable, operation, badIndex, Operation, sum, difference, product}
 use Rattle.language.specs.Form.{inRange}
-use Rattle.language.specs.Read.{Field, field, badHeader, fields, fieldsAfter, readIndex, indexBy, deepIndex, choose, due, ending, readLiteral, readVariable, operationOf, isIndexTag}
-use Rattle.language.specs.Machine.{Run, Outcome, going, ended, stuck, State, evaluate, inside, operate, found, after, _>>=_, noMeaning, give, endAt}
+use Rattle.language.specs.Read.{Field, field, badHeader, fields, readIndex, indexBy, deepIndex, choose, due, readLiteral, readVariable, operationOf, isIndexTag}
+use Rattle.language.specs.Machine.{Run, evaluate, inside, operate, after, _>>=_, noMeaning}
 use Rattle.fields.specs.declared.Header.{Header}
 use Rattle.fields.specs.declared.Header.the-variants.{Whole, End, Cut}
 use Rattle.indexes.specs.declared.Value.{Value}
 use Rattle.indexes.specs.declared.Value.the-variants.{Is, Over, Stuck}
-use Rattle.language.proofs.Integers.{range-yes}
-use Rattle.indexes.specs.Values.{IndexAt, valueTold, Ranged, IndexIs, insideOf, literalOf, foundValue, variableOf, operateOf}
+use Rattle.indexes.specs.Values.{valueTold, Ranged, InsideIs, LeafIs, TagOf, OperateIs, IndexIs, IndexAt}
 use Rattle.fields.proofs.Header.{the-type}
 use Rattle.indexes.proofs.Value.{the-type as value-type}
 use Rattle.fields.proofs.Parts.{not-first}
@@ -52,55 +49,11 @@ module _ (levels : ℕ) (l : List ℕ) (at to : ℕ) (values : List ℤ) where
 
 -- ---- by tag
 
-inside-is : (p : Place) (z : ℤ) → valueTold p (insideOf z) ≡ inside p z
-unfolding valueTold insideOf inside
-inside-is p z = go (inRange z)
-  where
-    go : (b : Bool) → valueTold p (cond b (Is z) Over) ≡ cond b (give z) (endAt 24 p)
-    go true = refl
-    go false = refl
-
-inside-ranged : (z : ℤ) → Ranged (insideOf z)
-unfolding insideOf Ranged
-inside-ranged z = go (inRange z) refl
-  where
-    go : (b : Bool) → inRange z ≡ b → Ranged (cond b (Is z) Over)
-    go true e = e
-    go false e = tt
-
 -- one level
 level : (levels : ℕ) (f : Field) → (levels ≡ 0 → ⊥) → readIndex levels f ≡ indexBy (readIndex (levels - 1)) f
 unfolding readIndex
 level zero f h = absurd (h refl)
 level (suc n) f h = let e : suc n - 1 ≡ n = omega arith in rw e
-
--- two bytes are in range
-literal-same : (p q : Place) (l : List ℕ) (values : List ℤ) → Ranged (literalOf l) → valueTold p (literalOf l) ≡ evaluate p values (readLiteral q l)
-unfolding literalOf valueTold evaluate readLiteral inside Ranged
-literal-same p q [] values b = refl
-literal-same p q (x ∷ []) values b = refl
-literal-same p q (x ∷ y ∷ []) values b = rw b
-literal-same p q (x ∷ y ∷ z ∷ l) values b = refl
-
-found-ranged : (o : Option ℤ) → Ranged (foundValue o)
-unfolding foundValue Ranged
-found-ranged none = tt
-found-ranged (some z) = inside-ranged z
-
-variable-ranged : (l : List ℕ) (values : List ℤ) → Ranged (variableOf l values)
-unfolding variableOf Ranged
-variable-ranged [] values = tt
-variable-ranged (n ∷ l) values = found-ranged (getElem? values n)
-
-found-same : (p : Place) (o : Option ℤ) → valueTold p (foundValue o) ≡ (found o >>= inside p)
-unfolding foundValue valueTold found _>>=_ after
-found-same p none = refl
-found-same p (some z) = inside-is p z
-
-variable-same : (p q : Place) (l : List ℕ) (values : List ℤ) → valueTold p (variableOf l values) ≡ evaluate p values (readVariable q l)
-unfolding variableOf valueTold evaluate readVariable
-variable-same p q [] values = refl
-variable-same p q (n ∷ l) values = found-same p (getElem? values n)
 
 module _ (tag : ℕ) (l : List ℕ) (levels : ℕ) (values : List ℤ) where
   pub at-deepest : levels ≡ 0 → IndexIs tag l levels values Stuck
@@ -111,13 +64,13 @@ module _ (tag : ℕ) (l : List ℕ) (levels : ℕ) (values : List ℤ) where
       go true p q = refl
       go false p q = refl
 
-  pub at-literal : (levels ≡ 0 → ⊥) → tag ≡ 64 → Ranged (literalOf l) → IndexIs tag l levels values (literalOf l)
+  pub at-literal : (levels ≡ 0 → ⊥) → tag ≡ 64 → (r : Value) → LeafIs readLiteral l values r → IndexIs tag l levels values r
   unfolding indexBy choose
-  at-literal h e b = record { ranged = b; same = λ p q. rw (level levels (field q tag l) h, e) (literal-same p q l values b) }
+  at-literal h e r w = record { ranged = w .ranged; same = λ p q. rw (level levels (field q tag l) h, e) (w .same p q) }
 
-  pub at-variable : (levels ≡ 0 → ⊥) → tag ≡ 65 → IndexIs tag l levels values (variableOf l values)
+  pub at-variable : (levels ≡ 0 → ⊥) → tag ≡ 65 → (r : Value) → LeafIs readVariable l values r → IndexIs tag l levels values r
   unfolding indexBy choose
-  at-variable h e = record { ranged = variable-ranged l values; same = λ p q. rw (level levels (field q tag l) h, e) (variable-same p q l values) }
+  at-variable h e r w = record { ranged = w .ranged; same = λ p q. rw (level levels (field q tag l) h, e) (w .same p q) }
 
   -- a tag that is none of the five
   pub at-other : (levels ≡ 0 → ⊥) → (tag ≡ 64 → ⊥) → (tag ≡ 65 → ⊥) → (tag ≡ 66 → ⊥) → (tag ≡ 67 → ⊥) → (tag ≡ 68 → ⊥) → IndexIs tag l levels values Stuck
@@ -128,18 +81,81 @@ module _ (tag : ℕ) (l : List ℕ) (levels : ℕ) (values : List ℤ) where
         rw (level levels (field q tag l) h, ne-eqb tag 64 a, ne-eqb tag 65 b, ne-eqb tag 66 c, ne-eqb tag 67 d, ne-eqb tag 68 e);
   }
 
+-- ---- the operation of a tag
+
+pub tag-sum : TagOf sum 66
+unfolding indexBy choose
+tag-sum = record { reads = λ part q l. refl }
+
+pub tag-difference : TagOf difference 67
+unfolding indexBy choose
+tag-difference = record { reads = λ part q l. refl }
+
+pub tag-product : TagOf product 68
+unfolding indexBy choose
+tag-product = record { reads = λ part q l. refl }
+
+-- the operation of an index, or `o` where it is none
+unfoldable operationIn : Operation → Index → Operation
+operationIn o (literal q n) = o
+operationIn o (variable q n e) = o
+operationIn o (operation q u a b e) = u
+operationIn o (badIndex n q) = o
+
+-- 1 for an operation
+unfoldable isOperation : Index → ℕ
+isOperation (literal q n) = 0
+isOperation (variable q n e) = 0
+isOperation (operation q u a b e) = 1
+isOperation (badIndex n q) = 0
+
+-- a reading of parts, to look at the field alone
+noPart : Field → Index
+noPart f = badIndex 4 0
+
+-- a tag is that of one operation
+tag-one : (tag : ℕ) (o u : Operation) → TagOf o tag → TagOf u tag → o ≡ u
+unfolding operationIn operationOf
+tag-one tag o u a b = ap (operationIn sum) (sym (a .reads noPart 0 []) ∙ b .reads noPart 0 [])
+
+tag-none : (tag : ℕ) → (tag ≡ 66 → ⊥) → (tag ≡ 67 → ⊥) → (tag ≡ 68 → ⊥) → (o : Operation) → TagOf o tag → ⊥
+unfolding isOperation indexBy choose operationOf readLiteral readVariable
+tag-none tag a b c o t = go (eqb tag 64) refl (eqb tag 65) refl
+  where
+    is : isOperation (indexBy noPart (field 0 tag [])) ≡ 1
+    is = ap isOperation (t .reads noPart 0 [])
+
+    no : isOperation (indexBy noPart (field 0 tag [])) ≡ 0 → ⊥
+    no h = omega (arith, is, h)
+
+    go : (u : Bool) → eqb tag 64 ≡ u → (v : Bool) → eqb tag 65 ≡ v → ⊥
+    go true e v f = no (rw e)
+    go false e true f = no (rw (e, f))
+    go false e false f = no (rw (e, f, ne-eqb tag 66 a, ne-eqb tag 67 b, ne-eqb tag 68 c))
+
+pub operated : (tag : ℕ) (o : Operation) (x y : ℤ) (r : Value) → TagOf o tag → InsideIs (operate o x y) r → OperateIs tag x y r
+operated tag o x y r t i = record {
+  ranged = i .ranged;
+  same = λ u w p. i .same p ∙ ap (λ (a : Operation). inside p (operate a x y)) (tag-one tag o u t w);
+  other = λ n. absurd (n o t);
+}
+
+pub not-operated : (tag : ℕ) (x y : ℤ) → (tag ≡ 66 → ⊥) → (tag ≡ 67 → ⊥) → (tag ≡ 68 → ⊥) → OperateIs tag x y Stuck
+unfolding Ranged
+not-operated tag x y a b c = record { ranged = tt; same = λ o t p. absurd (tag-none tag a b c o t); other = λ n. refl }
+
 -- the operation of a tag from 66 to 68
 unfoldable operationFor : ℕ → Operation
 operationFor t = cond (eqb t 66) sum (cond (eqb t 67) difference product)
 
-operate-is : (tag : ℕ) (x y : ℤ) → 66 ≤ tag → tag ≤ 68 → operateOf tag x y ≡ insideOf (operate (operationFor tag) x y)
-unfolding operateOf operationFor operate
-operate-is tag x y a b = go (eqb tag 66) refl (eqb tag 67) refl
+tag-is : (tag : ℕ) → 66 ≤ tag → tag ≤ 68 → TagOf (operationFor tag) tag
+unfolding operationFor
+tag-is tag a b = go (eqb tag 66) refl (eqb tag 67) refl
   where
-    go : (u : Bool) → eqb tag 66 ≡ u → (v : Bool) → eqb tag 67 ≡ v → operateOf tag x y ≡ insideOf (operate (operationFor tag) x y)
-    go true e v f = let t : tag ≡ 66 = eqb-true tag 66 e in rw t
-    go false e true f = let t : tag ≡ 67 = eqb-true tag 67 f in rw t
-    go false e false f = let t : tag ≡ 68 = omega (arith, eqb-false tag 66 e, eqb-false tag 67 f) in rw t
+    go : (u : Bool) → eqb tag 66 ≡ u → (v : Bool) → eqb tag 67 ≡ v → TagOf (operationFor tag) tag
+    go true e v f = let t : tag ≡ 66 = eqb-true tag 66 e in rw t tag-sum
+    go false e true f = let t : tag ≡ 67 = eqb-true tag 67 f in rw t tag-difference
+    go false e false f = let t : tag ≡ 68 = omega (arith, eqb-false tag 66 e, eqb-false tag 67 f) in rw t tag-product
 
 -- both sides' values and their operation
 both : Place → Operation → Run ℤ → Run ℤ → Run ℤ
@@ -177,14 +193,8 @@ rightOf levels q l = due (readIndex levels) (badIndex 4 q) (drop 1 (fields (q + 
 module _ (tag : ℕ) (l : List ℕ) (levels : ℕ) (values : List ℤ) (h : levels ≡ 0 → ⊥) (low : 66 ≤ tag) (high : tag ≤ 68) where
   at-operation : (p q : Place) → evaluate p values (readIndex levels (field q tag l))
       ≡ both p (operationFor tag) (evaluate p values (leftOf (levels - 1) q l)) (evaluate p values (rightOf (levels - 1) q l))
-  unfolding indexBy choose operationFor operationOf evaluate both
-  at-operation p q = ap (evaluate p values) (level levels (field q tag l) h) ∙ go (eqb tag 66) refl (eqb tag 67) refl
-    where
-      go : (u : Bool) → eqb tag 66 ≡ u → (v : Bool) → eqb tag 67 ≡ v → evaluate p values (indexBy (readIndex (levels - 1)) (field q tag l))
-          ≡ both p (operationFor tag) (evaluate p values (leftOf (levels - 1) q l)) (evaluate p values (rightOf (levels - 1) q l))
-      go true e v f = let t : tag ≡ 66 = eqb-true tag 66 e in rw t
-      go false e true f = let t : tag ≡ 67 = eqb-true tag 67 f in rw t
-      go false e false f = let t : tag ≡ 68 = omega (arith, eqb-false tag 66 e, eqb-false tag 67 f) in rw t
+  unfolding operationOf evaluate both
+  at-operation p q = ap (evaluate p values) (level levels (field q tag l) h ∙ tag-is tag low high .reads (readIndex (levels - 1)) q l)
 
   pub at-left : (a : Value) → ((p q : Place) → evaluate p values (leftOf (levels - 1) q l) ≡ valueTold p a) → OneOf (1 ∷ 2 ∷ []) (tagOf value-type a)
       → IndexIs tag l levels values a
@@ -197,10 +207,10 @@ module _ (tag : ℕ) (l : List ℕ) (levels : ℕ) (values : List ℤ) (h : leve
 
   pub at-both : (x y : ℤ) → ((p q : Place) → evaluate p values (leftOf (levels - 1) q l) ≡ valueTold p (Is x))
       → ((p q : Place) → evaluate p values (rightOf (levels - 1) q l) ≡ valueTold p (Is y))
-      → IndexIs tag l levels values (operateOf tag x y)
-  at-both x y v w = record {
-    ranged = rw (operate-is tag x y low high) (inside-ranged (operate (operationFor tag) x y));
-    same = λ p q. ap (valueTold p) (operate-is tag x y low high) ∙ inside-is p (operate (operationFor tag) x y)
+      → (r : Value) → OperateIs tag x y r → IndexIs tag l levels values r
+  at-both x y v w r o = record {
+    ranged = o .ranged;
+    same = λ p q. o .same (operationFor tag) (tag-is tag low high) p
         ∙ sym (at-operation p q ∙ (λ j. both p (operationFor tag) (v p q j) (w p q j)) ∙ both-is p (operationFor tag) x y);
   }
 
