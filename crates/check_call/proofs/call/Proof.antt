@@ -24,11 +24,9 @@ use Rattle.check_call.proofs.Calls.{call-none, call-beyond, call-stops,
 use Rattle.check_index.proofs.Answers.{count-upto}
 use Rattle.check_call.proofs.Forms.{four-rows}
 
--- src/lib.rt:159:16
 add-from : tie.Need-add-from
 add-from c = search needs
 
--- src/lib.rt:161:9
 returns : tie.Need-returns
 unfolding checkedPart
 returns c =
@@ -40,15 +38,12 @@ returns c =
     let fs = tabulated (signatureAt (now (a .families)) (now (a .kinds)) (now (a .sizes))) (a .s .families) 0 in
     call-none s (a .at) content (slice-none from (a .next) program (c .if1 .taken))
 
--- src/lib.rt:163:26
 shared-slice-read-wide : tie.Need-shared-slice-read-wide
 shared-slice-read-wide c = search needs
 
--- src/lib.rt:163:9
 wide-requires : tie.Need-wide-requires
 wide-requires c κs = search needs
 
--- src/lib.rt:165:9
 returns-2 : tie.Need-returns-2
 unfolding checkedPart
 returns-2 c =
@@ -62,52 +57,42 @@ returns-2 c =
     let e = one-byte from (a .next) program (c .before .before .before .before .if1 .left) (c .before .before .before .before .before .before .before .pre .0 .1) ∙ ap (λ (x : ℕ). x ∷ slice (from + 1) (a .next) program) (sym (c .before .before .wide .ensures .0)) in
     call-beyond s (a .at) content n program (a .next) e (row-none (signatureAt (now (a .families)) (now (a .kinds)) (now (a .sizes))) (a .s .families) 0 n (c .if2 .taken))
 
--- src/lib.rt:167:18
 mul-family : tie.Need-mul-family
 mul-family c =
     let d = c .before .before .before .before .before .before .before .pre .1 .1 .enough in
     let h = c .if2 .left in
     omega (arith, c .before .before .before .before .before .before .before .good)
 
--- src/lib.rt:167:18
 shared-slice-copy-out-family : tie.Need-shared-slice-copy-out-family
 shared-slice-copy-out-family c =
     let d = c .before .before .before .before .before .before .before .pre .1 .1 .enough in
     let h = c .if2 .left in
     omega (arith, c .before .before .before .before .before .before .before .good)
 
--- src/lib.rt:168:13
 array-read-m : tie.Need-array-read-m
 array-read-m c = search needs
 
--- src/lib.rt:169:17
 array-read-count : tie.Need-array-read-count
 array-read-count c = search needs
 
--- src/lib.rt:170:17
 array-read-first : tie.Need-array-read-first
 array-read-first c = search needs
 
--- src/lib.rt:171:17
 add-inner : tie.Need-add-inner
 add-inner c = search needs
 
--- src/lib.rt:173:9
 call-forms-requires : tie.Need-call-forms-requires
 call-forms-requires c κs =
     let r = c .before .before .before .before .before .before .before .before .before .pre .1 .0 in
     let d = c .before .before .before .before .before .before .before .before .before .pre .1 .1 .each (c .before .before .before .before .wide .result) (c .before .before .if2 .left) in
     (c .before .before .before .before .before .before .before .before .before .pre .0 .1, (d .few, (record { few = r .few; nested = r .nested; lowRows = r .lowRows; highRows = r .highRows }, four-rows)))
 
--- src/lib.rt:174:20
 enum-known-r : tie.Need-enum-known-r
 enum-known-r c = search needs
 
--- src/lib.rt:175:9
 enum-told : tie.Need-enum-told
 enum-told c = search needs
 
--- src/lib.rt:175:9
 returns-3 : tie.Need-returns-3
 returns-3 c =
     let a = c .before .before .before .before .before .before .before .before .before .before .before .before .args in
@@ -125,13 +110,11 @@ returns-3 c =
     let m = getD (getD (now (a .families)) n []) 0 0 in
     call-stops s (a .at) content n program (a .next) e f (get) (c .before .before .call-forms .result) l m refl (c .before .before .call-forms .ensures .0 fs ks) (c .before .match .keys2)
 
--- src/lib.rt:177:5
 call-operands-requires : tie.Need-call-operands-requires
 call-operands-requires c κs =
     let d = c .before .before .before .before .before .before .before .before .before .before .before .before .before .before .pre .1 .1 .each (c .before .before .before .before .before .before .before .before .before .wide .result) (c .before .before .before .before .before .before .before .if2 .left) in
     (c .before .before .before .before .before .before .before .before .before .before .before .before .before .before .pre .0 .1, (d .few, (c .before .before .before .before .call-forms .ensures .1 .1, (d .inside, c .before .before .before .before .before .before .before .before .before .before .before .before .before .before .pre .1 .0))))
 
--- src/lib.rt:143:1
 returns-4 : tie.Need-returns-4
 returns-4 c =
     let a = c .before .before .before .before .before .before .before .before .before .before .before .before .before .before .before .args in

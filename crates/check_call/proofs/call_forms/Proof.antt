@@ -33,37 +33,31 @@ abbrev μ-loop : tie.MeasureT-loop
 μ-loop program at to parent m s lows highs forms₀ from₀ i₀ forms from i =
     m - i
 
--- src/lib.rt:50:5
 loop-holds : tie.Need-loop-holds Inv-loop μ-loop
 loop-holds c =
     let a = c .before .args in
     (omega arith, c .before .pre .1 .1 .1, beyond-none (now (a .program)) (a .at) (a .to), (λ fs ks. let z : a .m - 0 ≡ a .m = omega arith in rw z (no-forms _ (now (a .forms)))))
 
--- src/lib.rt:52:25
 add-variables : tie.Need-add-variables Inv-loop μ-loop
 add-variables c =
     let q = c .before .before .before .before .pre .1 .1 .0 .few in
     let t = c .before .before .before .before .pre .1 .1 .0 .nested in
     omega arith
 
--- src/lib.rt:53:13
 index-requires : tie.Need-index-requires Inv-loop μ-loop
 index-requires c κs =
     let q = c .before .before .before .before .before .pre .1 .1 .0 .few in
     let t = c .before .before .before .before .before .pre .1 .1 .0 .nested in
     (c .before .before .before .before .before .pre .0, omega arith)
 
--- src/lib.rt:54:24
 enum-known-r : tie.Need-enum-known-r Inv-loop μ-loop
 enum-known-r c =
     search needs
 
--- src/lib.rt:55:13
 enum-told : tie.Need-enum-told Inv-loop μ-loop
 enum-told c =
     search needs
 
--- src/lib.rt:55:13
 returns : tie.Need-returns Inv-loop μ-loop
 returns c =
     let a = c .before .before .before .before .before .before .before .before .args in
@@ -80,17 +74,14 @@ returns c =
       (beyond-stops program (a .at) (a .to) (a .m) (c .before .before .index .result) (c .before .match .keys2), i .inv .1),
     )
 
--- src/lib.rt:57:9
 mul-t20 : tie.Need-mul-t20 Inv-loop μ-loop
 mul-t20 c =
     search needs
 
--- src/lib.rt:57:9
 element-set-from-forms : tie.Need-element-set-from-forms Inv-loop μ-loop
 element-set-from-forms c =
     search needs
 
--- src/lib.rt:58:13
 must-show-requires : tie.Need-must-show-requires Inv-loop μ-loop
 must-show-requires c κs =
     let a = c .before .before .before .before .before .before .before .before .before .before .args in
@@ -110,12 +101,10 @@ enum-told-2 : tie.Need-enum-told-2 Inv-loop μ-loop
 enum-told-2 c =
     search needs
 
--- src/lib.rt:60:13
 enum-told-3 : tie.Need-enum-told-3 Inv-loop μ-loop
 enum-told-3 c =
     search needs
 
--- src/lib.rt:60:13
 returns-2 : tie.Need-returns-2 Inv-loop μ-loop
 returns-2 c =
     let a = c .before .before .before .before .before .before .before .before .before .before .before .before .before .args in
@@ -135,17 +124,14 @@ returns-2 c =
       (beyond-stops program (a .at) (a .to) (a .m) (c .before .before .must-show .result) (c .before .match2 .keys2), rows-set (i .forms) 4 (i .i) l (i .inv .1) (u .1)),
     )
 
--- src/lib.rt:50:9
 add-i : tie.Need-add-i Inv-loop μ-loop
 add-i c =
     search needs
 
--- src/lib.rt:50:5
 loop-less : tie.Need-loop-less Inv-loop μ-loop
 loop-less c =
     search needs
 
--- src/lib.rt:50:5
 loop-again : tie.Need-loop-again Inv-loop μ-loop
 loop-again c =
     let a = c .before .before .before .before .before .before .before .before .before .before .before .before .before .args in
@@ -169,7 +155,6 @@ loop-again c =
           ∙ more-forms (callForms (scopeWith fs ks (a .s .variables) ls) (a .parent) (a .m - (i .i + 1)) (map readArgument (fieldsAt program next (a .to)))) (i .i) (i .forms) l (omega arith)),
     )
 
--- src/lib.rt:30:1
 returns-3 : tie.Need-returns-3 Inv-loop μ-loop
 unfolding checkedForms
 returns-3 c =

@@ -35,12 +35,10 @@ abbrev μ-loop : tie.MeasureT-loop
 μ-loop program at to parent first count forms m s kinds sizes lows highs from₀ j₀ from j =
     count - j
 
--- src/lib.rt:113:5
 loop-holds : tie.Need-loop-holds Inv-loop μ-loop
 loop-holds c =
     (omega arith, λ fs. refl)
 
--- src/lib.rt:114:19
 add-row : tie.Need-add-row Inv-loop μ-loop
 add-row c =
     let h = c .loop-test .taken in
@@ -49,7 +47,6 @@ add-row c =
     let q = c .before .before .before .before .pre .1 .1 .1 .1 .sizeRows .enough in
     omega (arith, c .before .before .before .before .good)
 
--- src/lib.rt:116:43
 shared-slice-read-kind-by : tie.Need-shared-slice-read-kind-by Inv-loop μ-loop
 shared-slice-read-kind-by c =
     let h = c .before .loop-test .taken in
@@ -58,12 +55,10 @@ shared-slice-read-kind-by c =
     let q = c .before .before .before .before .before .pre .1 .1 .1 .1 .sizeRows .enough in
     omega (arith, c .before .before .before .before .before .good)
 
--- src/lib.rt:116:13
 kind-by-requires : tie.Need-kind-by-requires Inv-loop μ-loop
 kind-by-requires c κs =
     search needs
 
--- src/lib.rt:117:37
 mul-taken-by : tie.Need-mul-taken-by Inv-loop μ-loop
 mul-taken-by c =
     let h = c .before .before .loop-test .taken in
@@ -72,7 +67,6 @@ mul-taken-by c =
     let q = c .before .before .before .before .before .before .pre .1 .1 .1 .1 .sizeRows .enough in
     omega (arith, c .before .before .before .before .before .before .good)
 
--- src/lib.rt:117:37
 shared-slice-element-taken-by : tie.Need-shared-slice-element-taken-by Inv-loop μ-loop
 shared-slice-element-taken-by c =
     let h = c .before .before .loop-test .taken in
@@ -81,7 +75,6 @@ shared-slice-element-taken-by c =
     let q = c .before .before .before .before .before .before .pre .1 .1 .1 .1 .sizeRows .enough in
     omega (arith, c .before .before .before .before .before .before .good)
 
--- src/lib.rt:117:13
 taken-by-requires : tie.Need-taken-by-requires Inv-loop μ-loop
 taken-by-requires c κs =
     let a = c .before .before .before .before .before .before .before .before .args in
@@ -89,22 +82,18 @@ taken-by-requires c κs =
     let b = c .before .before .before .before .before .before .before .before .pre .1 .1 .1 .0 in
     (c .before .before .before .before .before .before .before .before .pre .1 .1 .1 .1 .sizeRows .each (a .first + c .before .before .before .before .before .loop .j) (omega arith), (c .before .before .before .before .before .before .before .before .pre .1 .0, c .before .before .before .before .before .before .before .before .pre .1 .1 .0))
 
--- src/lib.rt:118:13
 operand-requires : tie.Need-operand-requires Inv-loop μ-loop
 operand-requires c κs =
     (c .before .before .before .before .before .before .before .before .before .before .pre .0, (c .before .taken-by .ensures .1, c .before .before .before .before .before .before .before .before .before .before .pre .1 .1 .1 .1))
 
--- src/lib.rt:131:24
 enum-known-r : tie.Need-enum-known-r Inv-loop μ-loop
 enum-known-r c =
     search needs
 
--- src/lib.rt:132:13
 enum-told : tie.Need-enum-told Inv-loop μ-loop
 enum-told c =
     search needs
 
--- src/lib.rt:132:13
 returns : tie.Need-returns Inv-loop μ-loop
 returns c =
     let a = c .before .before .before .before .before .before .before .before .before .before .before .before .before .args in
@@ -125,17 +114,14 @@ returns c =
       ends-stops (c .before .before .operand .result) (a .to) (c .before .match .keys2),
     )
 
--- src/lib.rt:113:9
 add-j : tie.Need-add-j Inv-loop μ-loop
 add-j c =
     search needs
 
--- src/lib.rt:113:5
 loop-less : tie.Need-loop-less Inv-loop μ-loop
 loop-less c =
     search needs
 
--- src/lib.rt:113:5
 loop-again : tie.Need-loop-again Inv-loop μ-loop
 loop-again c =
     let a = c .before .before .before .before .before .before .before .before .before .before .before .before .before .before .args in
@@ -160,7 +146,6 @@ loop-again c =
           ∙ rw add-one (ap (λ (l : List Field). callOperands (s fs) (a .parent) gs (drop (suc (i .j)) ks) (map readArgument l)) (v .rest))),
     )
 
--- src/lib.rt:137:9
 returns-2 : tie.Need-returns-2 Inv-loop μ-loop
 unfolding checkedPart
 returns-2 c =
@@ -173,7 +158,6 @@ returns-2 c =
     let e = drop-end (λ (x : ℕ). kindAt x (now (a .kinds)) (now (a .sizes))) (a .count) (a .first) (i .j) (c .before .loop-test .left) in
     (λ fs. sym (i .inv .1 fs ∙ ap (λ (l : List Kind). callOperands (s fs) (a .parent) gs l (map readArgument (fieldsAt program (i .from) (a .to)))) e ∙ operands-left (s fs) (a .parent) gs program (i .from) (a .to) (c .if1 .taken) (c .before .before .before .before .before .pre .0)), tt)
 
--- src/lib.rt:89:1
 returns-3 : tie.Need-returns-3 Inv-loop μ-loop
 unfolding checkedPart
 returns-3 c =

@@ -14,41 +14,34 @@ use Rattle.forms.proofs.Laws.{fewer}
 use Rattle.check_operand.specs.Operands.{wantedOf}
 use Rattle.check_operand.specs.Tables.{kindIn}
 
--- src/lib.rt:82:31
 enum-told : tie.Need-enum-told
 enum-told c =
     search needs
 
--- src/lib.rt:83:64
 enum-told-2 : tie.Need-enum-told-2
 enum-told-2 c =
     search needs
 
--- src/lib.rt:83:50
 put-in-requires : tie.Need-put-in-requires
 put-in-requires c κs =
     (c .before .before .before .before .pre .0, (c .before .before .before .before .pre .1 .0, fewer (c .before .before .before .before .pre .1 .1) (c .before .before .before .before .pre .1 .0)))
 
--- src/lib.rt:84:35
 enum-told-3 : tie.Need-enum-told-3
 enum-told-3 c =
     search needs
 
--- src/lib.rt:68:1
 returns : tie.Need-returns
 unfolding wantedOf taken kindIn
 returns c =
     let a = c .before .before .args in
     (sym (ap (λ (k : Kind). taken (formsOf (a .m) (now (a .forms))) (kindIn k (asForm (widened (now (a .own)))))) (c .enum-told .given .1)), tt)
 
--- src/lib.rt:68:1
 returns-2 : tie.Need-returns-2
 unfolding wantedOf taken kindIn
 returns-2 c =
     let a = c .before .before .before .before .before .args in
     (ap register (c .put-in .ensures .0) ∙ sym (ap (λ (k : Kind). taken (formsOf (a .m) (now (a .forms))) (kindIn k (asForm (widened (now (a .own)))))) (c .before .before .before .enum-told2 .given .1)), c .put-in .ensures .1)
 
--- src/lib.rt:68:1
 returns-3 : tie.Need-returns-3
 unfolding wantedOf taken kindIn
 returns-3 c =

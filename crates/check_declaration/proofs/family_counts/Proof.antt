@@ -14,7 +14,6 @@ use Rattle.fields.proofs.Headers.{one-byte, slice-none}
 use Rattle.check_declaration.specs.Families.{checkedCounts}
 use Rattle.check_declaration.proofs.Families.{counts-many, counts-none, counts-over, counts-one, counts-zero, counts-above, counts-good}
 
--- src/lib.rt:180:9
 returns : tie.Need-returns
 unfolding checkedCounts
 returns c =
@@ -24,11 +23,9 @@ returns c =
     let content = slice from (a .next) program in
     (counts-many (a .at) (a .families) content (c .if1 .taken), tt)
 
--- src/lib.rt:182:16
 add-from : tie.Need-add-from
 add-from c = search needs
 
--- src/lib.rt:184:9
 returns-2 : tie.Need-returns-2
 unfolding checkedCounts
 returns-2 c =
@@ -38,15 +35,12 @@ returns-2 c =
     let content = slice from (a .next) program in
     (counts-none (a .at) (a .families) content (c .before .if1 .left) (slice-none from (a .next) program (c .if2 .taken)), tt)
 
--- src/lib.rt:186:26
 shared-slice-read-wide : tie.Need-shared-slice-read-wide
 shared-slice-read-wide c = search needs
 
--- src/lib.rt:186:9
 wide-requires : tie.Need-wide-requires
 wide-requires c κs = search needs
 
--- src/lib.rt:188:9
 returns-3 : tie.Need-returns-3
 unfolding checkedCounts
 returns-3 c =
@@ -60,11 +54,9 @@ returns-3 c =
     let e = one-byte from (a .next) program (c .before .before .before .if2 .left) (c .before .before .before .before .before .before .pre .1) ∙ (λ i. sym (c .before .wide .ensures .0) i ∷ slice (x i) (a .next) program) in
     (counts-over (a .at) (a .families) content (c .before .before .before .before .if1 .left) m more e (c .if3 .taken), tt)
 
--- src/lib.rt:190:18
 add-second : tie.Need-add-second
 add-second c = search needs
 
--- src/lib.rt:192:9
 returns-4 : tie.Need-returns-4
 unfolding checkedCounts
 returns-4 c =
@@ -78,15 +70,12 @@ returns-4 c =
     let e = one-byte from (a .next) program (c .before .before .before .before .if2 .left) (c .before .before .before .before .before .before .before .pre .1) ∙ (λ i. sym (c .before .before .wide .ensures .0) i ∷ slice (x i) (a .next) program) in
     (counts-one (a .at) (a .families) content (c .before .before .before .before .before .if1 .left) m more e (c .before .if3 .left) (slice-none (a .at + 4) (a .next) program (c .if4 .taken)), tt)
 
--- src/lib.rt:194:26
 shared-slice-read-wide-2 : tie.Need-shared-slice-read-wide-2
 shared-slice-read-wide-2 c = search needs
 
--- src/lib.rt:194:9
 wide-requires-2 : tie.Need-wide-requires-2
 wide-requires-2 c κs = search needs
 
--- src/lib.rt:196:9
 returns-5 : tie.Need-returns-5
 unfolding checkedCounts
 returns-5 c =
@@ -103,7 +92,6 @@ returns-5 c =
     let z = one-byte (a .at + 4) (a .next) program (c .before .before .before .if4 .left) (c .before .before .before .before .before .before .before .before .before .before .pre .1) ∙ ap (λ (k : ℕ). k ∷ rest) (sym (c .before .wide2 .ensures .0)) in
     (counts-zero (a .at) (a .families) content (c .before .before .before .before .before .before .before .before .if1 .left) m more e (c .before .before .before .before .if3 .left) n rest z (c .if5 .taken), tt)
 
--- src/lib.rt:199:9
 returns-6 : tie.Need-returns-6
 unfolding checkedCounts
 returns-6 c =
@@ -120,7 +108,6 @@ returns-6 c =
     let z = one-byte (a .at + 4) (a .next) program (c .before .before .before .before .if4 .left) (c .before .before .before .before .before .before .before .before .before .before .before .pre .1) ∙ ap (λ (k : ℕ). k ∷ rest) (sym (c .before .before .wide2 .ensures .0)) in
     (counts-above (a .at) (a .families) content (c .before .before .before .before .before .before .before .before .before .if1 .left) m more e (c .before .before .before .before .before .if3 .left) n rest z (c .before .if5 .left) (c .if6 .taken), tt)
 
--- src/lib.rt:174:1
 returns-7 : tie.Need-returns-7
 unfolding checkedCounts
 returns-7 c =

@@ -27,47 +27,39 @@ abbrev μ-loop : tie.MeasureT-loop
 μ-loop program at to parent m count first kinds₀ sizes₀ from₀ j₀ kinds sizes from j =
     count - j
 
--- src/lib.rt:162:5
 loop-holds : tie.Need-loop-holds Inv-loop μ-loop
 loop-holds c =
     let a = c .before .before .args in
     (omega arith, apart-none (a .first) (a .count) (now (a .kinds)) (now (a .sizes)) (c .before .before .pre .1 .1 .1), beyond-none (now (a .program)) (a .at) (a .to), (λ fs ks. let z : a .count - 0 ≡ a .count = omega arith in rw z (no-kinds _ (a .first) (now (a .kinds)) (now (a .sizes)))))
 
--- src/lib.rt:163:19
 add-row : tie.Need-add-row Inv-loop μ-loop
 add-row c =
     let h = c .loop-test .taken in
     let k = c .before .before .before .before .pre .1 .1 .0 in
     omega arith
 
--- src/lib.rt:164:13
 typed-row-requires : tie.Need-typed-row-requires Inv-loop μ-loop
 typed-row-requires c κs =
     let h = c .before .before .loop-test .taken in
     let k = c .before .before .before .before .before .before .pre .1 .1 .0 in
     (c .before .before .before .before .before .before .pre .0, (c .before .before .before .before .before .before .pre .1 .0, (omega arith, c .before .before .before .loop .inv .1 .table)))
 
--- src/lib.rt:165:24
 enum-known-r : tie.Need-enum-known-r Inv-loop μ-loop
 enum-known-r c =
     search needs
 
--- src/lib.rt:166:13
 enum-told : tie.Need-enum-told Inv-loop μ-loop
 enum-told c =
     search needs
 
--- src/lib.rt:166:13
 same-length : tie.Need-same-length Inv-loop μ-loop
 same-length c =
     c .before .before .before .before .before .typed-row .ensures .1 .1 .table .kindsLong ∙ sym (c .before .before .before .before .before .before .before .before .before .before .before .before .pre .1 .1 .1 .kindsLong)
 
--- src/lib.rt:166:13
 same-length-2 : tie.Need-same-length-2 Inv-loop μ-loop
 same-length-2 c =
     c .before .before .before .before .before .typed-row .ensures .1 .1 .table .sizesLong ∙ sym (c .before .before .before .before .before .before .before .before .before .before .before .before .pre .1 .1 .1 .sizesLong)
 
--- src/lib.rt:166:13
 returns : tie.Need-returns Inv-loop μ-loop
 returns c =
     let a = c .before .before .before .before .before .before .before .before .before .before .before .before .args in
@@ -84,17 +76,14 @@ returns c =
       (beyond-stops program (a .at) (a .to) (a .count) (c .before .before .before .before .before .typed-row .result) (c .before .match .keys2), apart-more (a .first) (a .count) (i .j) (c .before .before .before .before .before .before .before .before .loop-test .taken) (i .inv .1) (c .before .before .before .before .before .typed-row .ensures .1 .1)),
     )
 
--- src/lib.rt:162:9
 add-j : tie.Need-add-j Inv-loop μ-loop
 add-j c =
     search needs
 
--- src/lib.rt:162:5
 loop-less : tie.Need-loop-less Inv-loop μ-loop
 loop-less c =
     search needs
 
--- src/lib.rt:162:5
 loop-again : tie.Need-loop-again Inv-loop μ-loop
 loop-again c =
     let a = c .before .before .before .before .before .before .before .before .before .before .before .before .before .args in
@@ -116,17 +105,14 @@ loop-again c =
           ∙ more-kinds (kindsOf (scopeWith fs ks (a .m) []) (typesOf (a .parent) (a .count - (i .j + 1)) (fieldsAt program next (a .to)))) (a .first) (a .count) (i .j) (c .before .before .before .before .before .before .typed-row .ensures .1 .1)),
     )
 
--- src/lib.rt:142:1
 same-length-3 : tie.Need-same-length-3 Inv-loop μ-loop
 same-length-3 c =
     c .before .loop .inv .1 .table .kindsLong ∙ sym (c .before .before .before .before .pre .1 .1 .1 .kindsLong)
 
--- src/lib.rt:142:1
 same-length-4 : tie.Need-same-length-4 Inv-loop μ-loop
 same-length-4 c =
     c .before .loop .inv .1 .table .sizesLong ∙ sym (c .before .before .before .before .pre .1 .1 .1 .sizesLong)
 
--- src/lib.rt:142:1
 returns-2 : tie.Need-returns-2 Inv-loop μ-loop
 unfolding checkedRows
 returns-2 c =

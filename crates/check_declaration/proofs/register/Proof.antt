@@ -7,7 +7,6 @@ use Rattle.check_declaration.proofs.register_size.Reads as register-siz
 use Rattle.forms.proofs.set_constant.Reads as set-constant-reads
 use Rattle.forms.proofs.store.Reads as store-reads
 use Rattle.kinds.proofs.number.Reads as number-reads
-use borrow.Author.Needs.{needs}
 use mathlib.Core.Path.{sym, ap, _∙_}
 use Prim.Native.Nat.{_+_, _<_}
 use native.Mathlib.Omega.{arith}
@@ -24,22 +23,18 @@ use Rattle.check_declaration.specs.Registers.{checkedRegister}
 use Rattle.check_declaration.proofs.Registers.{size-fits, register-stops}
 use Rattle.check_declaration.proofs.Tables.{apart-both, row-both, numbered}
 
--- src/lib.rt:254:9
 register-size-requires : tie.Need-register-size-requires
 register-size-requires c κs =
     search needs
 
--- src/lib.rt:255:20
 enum-known-r : tie.Need-enum-known-r
 enum-known-r c =
     search needs
 
--- src/lib.rt:256:9
 enum-told : tie.Need-enum-told
 enum-told c =
     search needs
 
--- src/lib.rt:256:9
 returns : tie.Need-returns
 returns c =
     let a = c .before .before .before .before .before .args in
@@ -47,7 +42,6 @@ returns c =
     let content = slice (a .at + 3) (a .next) program in
     (c .before .before .register-size .ensures, register-stops (c .before .before .register-size .result) (a .kind) (a .count) (a .total) (a .most) (now (a .kinds)) (now (a .sizes)) (now (a .kinds)) (now (a .sizes)) (c .before .match .keys2))
 
--- src/lib.rt:259:33
 cast-set-constant : tie.Need-cast-set-constant
 cast-set-constant c =
     let a = c .before .before .before .before .before .before .before .args in
@@ -61,7 +55,6 @@ cast-set-constant c =
     let rows = c .before .before .before .before .before .before .before .pre .1 .1 .1 .sizesLong in
     search needs
 
--- src/lib.rt:259:5
 set-constant-requires : tie.Need-set-constant-requires
 set-constant-requires c κs =
     let a = c .before .before .before .before .before .before .before .args in
@@ -77,18 +70,15 @@ set-constant-requires c κs =
     let fine = range-yes (pos n) (omega arith) in
     rw (range-back fine) fine
 
--- src/lib.rt:261:5
 store-requires : tie.Need-store-requires
 unfolding asForm
 store-requires c κs =
     (c .before .before .set-constant .ensures .1, constant-narrow (c .before .before .set-constant .last .0) _ (c .before .before .set-constant .ensures .0) (c .before .before .set-constant .ensures .1))
 
--- src/lib.rt:262:20
 number-requires : tie.Need-number-requires
 number-requires c κs =
     search needs
 
--- src/lib.rt:262:5
 slice-write-kinds : tie.Need-slice-write-kinds
 slice-write-kinds c =
     let a = c .before .before .before .before .before .before .before .before .before .before .before .before .args in
@@ -102,7 +92,6 @@ slice-write-kinds c =
     let rows = c .before .before .before .before .before .before .before .before .before .before .before .before .pre .1 .1 .1 .sizesLong in
     omega arith
 
--- src/lib.rt:263:5
 mul-t22 : tie.Need-mul-t22
 mul-t22 c =
     let a = c .before .before .before .before .before .before .before .before .before .before .before .before .args in
@@ -116,7 +105,6 @@ mul-t22 c =
     let rows = c .before .before .before .before .before .before .before .before .before .before .before .before .pre .1 .1 .1 .sizesLong in
     omega arith
 
--- src/lib.rt:263:5
 slice-set-from-sizes : tie.Need-slice-set-from-sizes
 slice-set-from-sizes c =
     let a = c .before .before .before .before .before .before .before .before .before .before .before .before .args in
@@ -130,17 +118,14 @@ slice-set-from-sizes c =
     let rows = c .before .before .before .before .before .before .before .before .before .before .before .before .pre .1 .1 .1 .sizesLong in
     omega arith
 
--- src/lib.rt:236:1
 same-length : tie.Need-same-length
 same-length c =
     search needs
 
--- src/lib.rt:236:1
 same-length-2 : tie.Need-same-length-2
 same-length-2 c =
     search needs
 
--- src/lib.rt:236:1
 returns-2 : tie.Need-returns-2
 returns-2 c =
     let a = c .before .before .before .before .before .before .before .before .before .before .before .before .args in

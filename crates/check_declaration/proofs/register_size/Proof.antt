@@ -17,7 +17,6 @@ use Rattle.fields.proofs.Headers.{one-byte, slice-none}
 use Rattle.check_declaration.specs.Registers.{checkedRegister}
 use Rattle.check_declaration.proofs.Registers.{size-many-registers, size-short, size-past, size-left, size-good}
 
--- src/lib.rt:219:9
 returns : tie.Need-returns
 unfolding checkedRegister
 returns c =
@@ -28,15 +27,12 @@ returns c =
     let long = length-slice from (a .next) program (c .before .before .pre .0 .1) in
     size-many-registers (a .at) (a .count) (a .total) (a .most) content (c .if1 .taken)
 
--- src/lib.rt:221:16
 add-from : tie.Need-add-from
 add-from c = search needs
 
--- src/lib.rt:222:8
 sub-if2 : tie.Need-sub-if2
 sub-if2 c = search needs
 
--- src/lib.rt:223:9
 returns-2 : tie.Need-returns-2
 unfolding checkedRegister
 returns-2 c =
@@ -47,15 +43,12 @@ returns-2 c =
     let long = length-slice from (a .next) program (c .before .before .before .pre .0 .1) in
     size-short (a .at) (a .count) (a .total) (a .most) content (c .before .if1 .left) (omega arith)
 
--- src/lib.rt:225:9
 two-bytes-requires : tie.Need-two-bytes-requires
 two-bytes-requires c κs = search needs
 
--- src/lib.rt:226:21
 add-if3 : tie.Need-add-if3
 add-if3 c = search needs
 
--- src/lib.rt:227:9
 returns-3 : tie.Need-returns-3
 unfolding checkedRegister
 returns-3 c =
@@ -73,11 +66,9 @@ returns-3 c =
     let t = c .if3 .taken in
     size-past (a .at) (a .count) (a .total) (a .most) content (c .before .before .before .if1 .left) x y more e (rw n at t)
 
--- src/lib.rt:229:8
 sub-if4 : tie.Need-sub-if4
 sub-if4 c = search needs
 
--- src/lib.rt:230:9
 returns-4 : tie.Need-returns-4
 unfolding checkedRegister
 returns-4 c =
@@ -96,7 +87,6 @@ returns-4 c =
     let z = c .if4 .taken in
     size-left (a .at) (a .count) (a .total) (a .most) content (c .before .before .before .before .if1 .left) x y more e (rw n at t) (λ q. z (omega arith))
 
--- src/lib.rt:205:1
 returns-5 : tie.Need-returns-5
 unfolding checkedRegister
 returns-5 c =

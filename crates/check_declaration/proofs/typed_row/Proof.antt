@@ -6,7 +6,6 @@ use Rattle.check_declaration.proofs.typed_row.Lts as lts
 use Rattle.check_declaration.proofs.parameter_type.Reads as parameter-type-reads
 use Rattle.forms.proofs.store.Reads as store-reads
 use Rattle.kinds.proofs.number.Reads as number-reads
-use borrow.Author.Needs.{needs}
 use mathlib.Core.Path.{_∙_}
 use denote.Ref.{now}
 use Rattle.check_declaration.proofs.Tables.{apart-none, apart-kind, apart-both}
@@ -19,32 +18,26 @@ use Rattle.fields.specs.Header.{fieldsAt}
 use Rattle.check_operand.specs.Tables.{scopeWith}
 use Rattle.check_declaration.proofs.Sizes.{narrow}
 
--- src/lib.rt:125:11
 parameter-type-requires : tie.Need-parameter-type-requires
 parameter-type-requires c κs =
     search needs
 
--- src/lib.rt:126:26
 enum-known-next : tie.Need-enum-known-next
 enum-known-next c =
     search needs
 
--- src/lib.rt:127:26
 number-requires : tie.Need-number-requires
 number-requires c κs =
     search needs
 
--- src/lib.rt:127:13
 slice-write-kinds : tie.Need-slice-write-kinds
 slice-write-kinds c =
     search needs
 
--- src/lib.rt:130:24
 enum-known-next-2 : tie.Need-enum-known-next-2
 enum-known-next-2 c =
     search needs
 
--- src/lib.rt:132:13
 store-requires : tie.Need-store-requires
 store-requires c κs =
     let a = c .before .before .before .before .before .before .before .before .before .args in
@@ -58,37 +51,30 @@ store-requires c κs =
     let u = past-many program (a .at) (a .to) (c .before .before .before .before .before .parameter-type .result) l (c .before .before .before .next2 .given .0 .0) (c .before .before .before .before .before .parameter-type .ensures .1) (c .before .before .before .next2 .given .1) in
     (u .1, narrow (c .before .before .before .before .before .parameter-type .result) (c .before .before .before .next2 .given .0 .0) l (scopeWith [] [] (a .m) []) (due readType (badType 4 (a .parent)) (fieldsAt program (a .at) (a .to))) (c .before .before .before .next2 .given .1) (u .1) (c .before .before .before .before .before .parameter-type .ensures .0 [] []) (omega arith))
 
--- src/lib.rt:133:26
 number-requires-2 : tie.Need-number-requires-2
 number-requires-2 c κs =
     search needs
 
--- src/lib.rt:133:13
 slice-write-kinds-2 : tie.Need-slice-write-kinds-2
 slice-write-kinds-2 c =
     search needs
 
--- src/lib.rt:134:13
 mul-t28 : tie.Need-mul-t28
 mul-t28 c =
     search needs
 
--- src/lib.rt:134:13
 slice-set-from-sizes : tie.Need-slice-set-from-sizes
 slice-set-from-sizes c =
     search needs
 
--- src/lib.rt:137:23
 enum-known-n : tie.Need-enum-known-n
 enum-known-n c =
     search needs
 
--- src/lib.rt:106:1
 same-length : tie.Need-same-length
 same-length c =
     search needs
 
--- src/lib.rt:106:1
 returns : tie.Need-returns
 returns c =
     let a = c .before .before .before .before .before .before .before .before .args in
@@ -105,17 +91,14 @@ returns c =
       ),
     )
 
--- src/lib.rt:106:1
 same-length-2 : tie.Need-same-length-2
 same-length-2 c =
     search needs
 
--- src/lib.rt:106:1
 same-length-3 : tie.Need-same-length-3
 same-length-3 c =
     search needs
 
--- src/lib.rt:106:1
 returns-2 : tie.Need-returns-2
 returns-2 c =
     let a = c .before .before .before .before .before .before .before .before .before .before .before .args in
@@ -131,7 +114,6 @@ returns-2 c =
       (u .0, apart-both (a .row) kinds sizes t h (c .number2 .result) short (c .before .store .ensures .1)),
     )
 
--- src/lib.rt:106:1
 returns-3 : tie.Need-returns-3
 returns-3 c =
     let a = c .before .before .before .before .before .before .before .args in

@@ -14,59 +14,48 @@ use Rattle.check_index.specs.Indexes.{treeOperation}
 use Rattle.check_index.specs.declared.Operation.{Operation}
 use Rattle.check_index.proofs.Forms.{made, unmade}
 
--- src/lib.rt:132:27
 enum-told : tie.Need-enum-told
 enum-told c = search needs
 
--- src/lib.rt:132:16
 add-requires : tie.Need-add-requires
 add-requires c κs = search needs
 
--- src/lib.rt:133:17
 returns : tie.Need-returns
 unfolding treeOperation combined
 returns c =
     let a = c .before .before .before .before .before .args in
     (made (a .at) (a .next) (c .before .add .last .0) (c .before .add .ensures .0) (c .if1 .taken) ∙ ap (λ (o : Operation). combined (a .at) (treeOperation o) (asForm (now (a .f))) (asForm (now (a .g)))) (sym (c .before .before .before .enum-told .given .1)), (refl, c .before .add .ensures .1 (c .if1 .taken)))
 
--- src/lib.rt:138:32
 enum-told-2 : tie.Need-enum-told-2
 enum-told-2 c = search needs
 
--- src/lib.rt:138:16
 subtract-requires : tie.Need-subtract-requires
 subtract-requires c κs = search needs
 
--- src/lib.rt:139:17
 returns-2 : tie.Need-returns-2
 unfolding treeOperation combined
 returns-2 c =
     let a = c .before .before .before .before .before .args in
     (made (a .at) (a .next) (c .before .subtract .last .0) (c .before .subtract .ensures .0) (c .if2 .taken) ∙ ap (λ (o : Operation). combined (a .at) (treeOperation o) (asForm (now (a .f))) (asForm (now (a .g)))) (sym (c .before .before .before .enum-told2 .given .1)), (refl, c .before .subtract .ensures .1 (c .if2 .taken)))
 
--- src/lib.rt:143:49
 enum-told-3 : tie.Need-enum-told-3
 enum-told-3 c = search needs
 
--- src/lib.rt:143:31
 product-requires : tie.Need-product-requires
 product-requires c κs = search needs
 
--- src/lib.rt:124:1
 returns-3 : tie.Need-returns-3
 unfolding treeOperation combined
 returns-3 c =
     let a = c .before .before .before .before .before .args in
     (unmade (a .at) (c .before .add .last .0) (c .before .add .last .0) (c .before .add .ensures .0) (c .if1 .left) ∙ ap (λ (o : Operation). combined (a .at) (treeOperation o) (asForm (now (a .f))) (asForm (now (a .g)))) (sym (c .before .before .before .enum-told .given .1)), tt)
 
--- src/lib.rt:124:1
 returns-4 : tie.Need-returns-4
 unfolding treeOperation combined
 returns-4 c =
     let a = c .before .before .before .before .before .args in
     (unmade (a .at) (c .before .subtract .last .0) (c .before .subtract .last .0) (c .before .subtract .ensures .0) (c .if2 .left) ∙ ap (λ (o : Operation). combined (a .at) (treeOperation o) (asForm (now (a .f))) (asForm (now (a .g)))) (sym (c .before .before .before .enum-told2 .given .1)), tt)
 
--- src/lib.rt:124:1
 returns-5 : tie.Need-returns-5
 returns-5 c =
     let a = c .before .before .before .before .args in

@@ -6,37 +6,31 @@ use borrow.Author.Tests.{ne-eqb}
 use Rattle.check_index.specs.Indexes.{treeOperation}
 use Rattle.language.specs.Read.{indexBy, choose}
 
--- src/lib.rt:46:1
 returns : tie.Need-returns
 unfolding indexBy choose treeOperation
 returns c =
     λ part p content. simp (c .match .keys1)
 
--- src/lib.rt:46:1
 returns-2 : tie.Need-returns-2
 unfolding indexBy choose treeOperation
 returns-2 c =
     λ part p content. simp (c .match .keys2)
 
--- src/lib.rt:46:1
 returns-3 : tie.Need-returns-3
 unfolding indexBy choose treeOperation
 returns-3 c =
     λ part p content. simp (c .match .keys3)
 
--- src/lib.rt:46:1
 returns-4 : tie.Need-returns-4
 unfolding indexBy choose treeOperation
 returns-4 c =
     λ part p content. simp (c .match .keys4)
 
--- src/lib.rt:46:1
 returns-5 : tie.Need-returns-5
 unfolding indexBy choose treeOperation
 returns-5 c =
     λ part p content. simp (c .match .keys5)
 
--- src/lib.rt:46:1
 returns-6 : tie.Need-returns-6
 unfolding indexBy choose treeOperation
 returns-6 c =

@@ -19,36 +19,29 @@ use Rattle.check_index.specs.Answers.{checkedForm}
 use Rattle.check_index.proofs.Forms.{literal-bad, literal-good}
 use Rattle.language.proofs.Integers.{small, small-range}
 
--- src/lib.rt:78:16
 add-from : tie.Need-add-from
 add-from c = search needs
 
--- src/lib.rt:79:8
 sub-if1 : tie.Need-sub-if1
 sub-if1 c = search needs
 
--- src/lib.rt:80:9
 returns : tie.Need-returns
 unfolding checkedForm
 returns c =
     let a = c .before .before .args in
     (λ n. literal-bad (a .at) n (slice (a .at + 3) (a .next) (now (a .program))) (λ e. c .if1 .taken (sym (length-slice (a .at + 3) (a .next) (now (a .program)) (c .before .before .pre .1)) ∙ e)), tt)
 
--- src/lib.rt:82:9
 two-bytes-requires : tie.Need-two-bytes-requires
 two-bytes-requires c κs = search needs
 
--- src/lib.rt:83:28
 cast-set-constant : tie.Need-cast-set-constant
 cast-set-constant c = search needs
 
--- src/lib.rt:83:5
 set-constant-requires : tie.Need-set-constant-requires
 set-constant-requires c κs =
     let h = c .before .two-bytes .ensures .1 in
     rw (small (c .before .two-bytes .result) h) (small-range (c .before .two-bytes .result) h)
 
--- src/lib.rt:73:1
 returns-2 : tie.Need-returns-2
 unfolding checkedForm
 returns-2 c =

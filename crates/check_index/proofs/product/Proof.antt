@@ -9,37 +9,30 @@ use Rattle.forms.specs.Products.{productOf}
 use Rattle.check_index.specs.Answers.{checkedForm}
 use Rattle.check_index.specs.Indexes.{treeOperation}
 
--- src/lib.rt:116:11
 multiply-requires : tie.Need-multiply-requires
 multiply-requires c κs = search needs
 
--- src/lib.rt:117:26
 enum-told : tie.Need-enum-told
 enum-told c = search needs
 
--- src/lib.rt:118:29
 enum-told-2 : tie.Need-enum-told-2
 enum-told-2 c = search needs
 
--- src/lib.rt:119:31
 enum-told-3 : tie.Need-enum-told-3
 enum-told-3 c = search needs
 
--- src/lib.rt:110:1
 returns : tie.Need-returns
 unfolding productOf treeOperation checkedForm
 returns c =
     let e = c .enum-told .given .1 in
     (rw e at (c .before .before .multiply .ensures .0 (c .before .before .before .before .args .at)), (refl, rw e at (c .before .before .multiply .ensures .1)))
 
--- src/lib.rt:110:1
 returns-2 : tie.Need-returns-2
 unfolding productOf treeOperation checkedForm
 returns-2 c =
     let e = c .enum-told2 .given .1 in
     (rw e at (c .before .before .multiply .ensures .0 (c .before .before .before .before .args .at)), tt)
 
--- src/lib.rt:110:1
 returns-3 : tie.Need-returns-3
 unfolding productOf treeOperation checkedForm
 returns-3 c =

@@ -17,26 +17,21 @@ use Rattle.fields.proofs.Headers.{one-byte, slice-none}
 use Rattle.check_index.specs.Answers.{checkedForm}
 use Rattle.check_index.proofs.Forms.{variable-none, variable-beyond, variable-long, variable-good}
 
--- src/lib.rt:94:16
 add-from : tie.Need-add-from
 add-from c = search needs
 
--- src/lib.rt:96:9
 returns : tie.Need-returns
 unfolding checkedForm
 returns c =
     let a = c .before .before .args in
     (variable-none (a .at) (a .variables) (slice (a .at + 3) (a .next) (now (a .program))) (slice-none (a .at + 3) (a .next) (now (a .program)) (c .if1 .taken)), tt)
 
--- src/lib.rt:98:26
 shared-slice-read-wide : tie.Need-shared-slice-read-wide
 shared-slice-read-wide c = search needs
 
--- src/lib.rt:98:9
 wide-requires : tie.Need-wide-requires
 wide-requires c κs = search needs
 
--- src/lib.rt:100:9
 returns-2 : tie.Need-returns-2
 unfolding checkedForm
 returns-2 c =
@@ -46,11 +41,9 @@ returns-2 c =
     let e = one-byte from (a .next) l (c .before .before .before .if1 .left) (c .before .before .before .before .before .pre .0 .1) in
     (variable-beyond (a .at) (a .variables) (getD l from 0) (slice from (a .next) l) (slice (from + 1) (a .next) l) e (omega arith), tt)
 
--- src/lib.rt:102:8
 sub-if3 : tie.Need-sub-if3
 sub-if3 c = search needs
 
--- src/lib.rt:103:9
 returns-3 : tie.Need-returns-3
 unfolding checkedForm
 returns-3 c =
@@ -61,11 +54,9 @@ returns-3 c =
     let h = length-slice (from + 1) (a .next) l (c .before .before .before .before .before .before .pre .0 .1) in
     (variable-long (a .at) (a .variables) (getD l from 0) (slice from (a .next) l) (slice (from + 1) (a .next) l) e (omega arith) (λ z. c .if3 .taken (omega arith)), tt)
 
--- src/lib.rt:105:5
 set-variable-requires : tie.Need-set-variable-requires
 set-variable-requires c κs = search needs
 
--- src/lib.rt:88:1
 returns-4 : tie.Need-returns-4
 unfolding checkedForm
 returns-4 c =

@@ -10,60 +10,50 @@ use Rattle.check_operand.specs.Tables.{kindIn}
 use Rattle.check_operand.specs.Operands.{wantedOf, checkedSize}
 use Rattle.check_operand.proofs.OperandKinds.{element-wire, element-no-wire, element-bit, element-no-bit, element-register}
 
--- src/lib.rt:186:25
 enum-told : tie.Need-enum-told
 enum-told c =
     search needs
 
--- src/lib.rt:187:37
 enum-told-2 : tie.Need-enum-told-2
 enum-told-2 c =
     search needs
 
--- src/lib.rt:190:24
 enum-told-3 : tie.Need-enum-told-3
 enum-told-3 c =
     search needs
 
--- src/lib.rt:191:39
 enum-told-4 : tie.Need-enum-told-4
 enum-told-4 c =
     search needs
 
--- src/lib.rt:194:32
 enum-told-5 : tie.Need-enum-told-5
 enum-told-5 c =
     search needs
 
--- src/lib.rt:181:1
 returns : tie.Need-returns
 unfolding checkedSize
 returns c =
     let a = c .before .before .before .before .args in
     (λ f l. element-wire (a .at) f l ∙ (λ i. elementSize (a .at) (wantedOf (sym (c .before .before .enum-told .given .1) i) l) (kindIn (sym (c .enum-told2 .given .1) i) f)), refl)
 
--- src/lib.rt:181:1
 returns-2 : tie.Need-returns-2
 unfolding checkedSize
 returns-2 c =
     let a = c .before .before .before .args in
     (λ f l. element-no-wire (a .at) f l (a .kind) (c .match2 .keys2) ∙ ap (λ (w : Wanted). elementSize (a .at) (wantedOf w l) (kindIn (a .kind) f)) (sym (c .before .enum-told .given .1)), tt)
 
--- src/lib.rt:181:1
 returns-3 : tie.Need-returns-3
 unfolding checkedSize
 returns-3 c =
     let a = c .before .before .before .before .args in
     (λ f l. element-bit (a .at) f l ∙ (λ i. elementSize (a .at) (wantedOf (sym (c .before .before .enum-told3 .given .1) i) l) (kindIn (sym (c .enum-told4 .given .1) i) f)), refl)
 
--- src/lib.rt:181:1
 returns-4 : tie.Need-returns-4
 unfolding checkedSize
 returns-4 c =
     let a = c .before .before .before .args in
     (λ f l. element-no-bit (a .at) f l (a .kind) (c .match3 .keys2) ∙ ap (λ (w : Wanted). elementSize (a .at) (wantedOf w l) (kindIn (a .kind) f)) (sym (c .before .enum-told3 .given .1)), tt)
 
--- src/lib.rt:181:1
 returns-5 : tie.Need-returns-5
 unfolding checkedSize
 returns-5 c =

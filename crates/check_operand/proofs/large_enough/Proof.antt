@@ -6,7 +6,6 @@ use Rattle.check_operand.proofs.large_enough.Lts as lts
 use Rattle.check_operand.proofs.must_show.Reads as must-show-reads
 use Rattle.forms.proofs.load.Reads as load-reads
 use Rattle.forms.proofs.subtract.Reads as subtract-reads
-use borrow.Author.Needs.{needs}
 use mathlib.Core.Path.{sym, ap, _∙_}
 use mathlib.Core.Bool.{Bool}
 use denote.Ref.{now}
@@ -20,22 +19,18 @@ use Rattle.check_index.specs.Answers.{checkedPart}
 use Rattle.check_operand.specs.Tables.{scopeWith}
 use Rattle.check_operand.proofs.OperandKinds.{shown-outside, is-made, not-made}
 
--- src/lib.rt:135:9
 load-requires : tie.Need-load-requires
 load-requires c κs =
     search needs
 
--- src/lib.rt:136:12
 subtract-requires : tie.Need-subtract-requires
 subtract-requires c κs =
     (c .before .load .ensures .1, c .before .before .before .before .pre .0 (c .before .before .before .if1 .taken))
 
--- src/lib.rt:137:13
 must-show-requires : tie.Need-must-show-requires
 must-show-requires c κs =
     (c .before .before .subtract .ensures .1 (c .before .if2 .taken), c .before .before .before .before .before .before .before .pre .1 .1)
 
--- src/lib.rt:137:13
 returns : tie.Need-returns
 unfolding _thenBuild_
 returns c =
@@ -44,7 +39,6 @@ returns c =
     let shows : List Signature → List Kind → Built → Checked (Unit {0}) = λ fs ks b. mustShow (a .at) (scopeWith fs ks (a .variables) ls) b in
     (λ fs ks. c .must-show .ensures .0 fs ks ∙ ap (shows fs ks) (sym (ap (λ (t : Bool). builtOf t (now (a .size)) thenBuild differenceOf (asForm (widened (now (a .own))))) (c .before .before .before .before .before .before .before .if1 .taken) ∙ is-made (c .before .before .before .subtract .last .0) (c .before .before .before .subtract .ensures .0 ∙ ap (λ (x : List ℤ). differenceOf (asForm x) (asForm (now (a .size)))) (c .before .before .before .before .before .load .ensures .0)) (c .before .before .if2 .taken))), c .must-show .ensures .1)
 
--- src/lib.rt:139:9
 returns-2 : tie.Need-returns-2
 unfolding _thenBuild_ checkedPart
 returns-2 c =
@@ -53,7 +47,6 @@ returns-2 c =
     let shows : List Signature → List Kind → Built → Checked (Unit {0}) = λ fs ks b. mustShow (a .at) (scopeWith fs ks (a .variables) ls) b in
     (λ fs ks. shown-outside (a .at) (scopeWith fs ks (a .variables) ls) ∙ ap (shows fs ks) (sym (ap (λ (t : Bool). builtOf t (now (a .size)) thenBuild differenceOf (asForm (widened (now (a .own))))) (c .before .before .before .before .before .if1 .taken) ∙ not-made (c .before .subtract .last .0) (c .before .subtract .ensures .0 ∙ ap (λ (x : List ℤ). differenceOf (asForm x) (asForm (now (a .size)))) (c .before .before .before .load .ensures .0)) (c .if2 .left))), tt)
 
--- src/lib.rt:114:1
 returns-3 : tie.Need-returns-3
 unfolding _thenBuild_ checkedPart
 returns-3 c =

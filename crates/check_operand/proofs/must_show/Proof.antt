@@ -4,45 +4,37 @@ use Rattle.check_operand.proofs.must_show.Tie as tie
 use Rattle.check_operand.proofs.must_show.Reads as reads
 use Rattle.check_operand.proofs.must_show.Lts as lts
 use Rattle.forms.proofs.show.Reads as show-reads
-use borrow.Author.Needs.{needs}
 use mathlib.Core.Path.{refl, sym, ap, _∙_}
 use Rattle.language.specs.Check.{byShowing, mustShow}
 use Rattle.forms.specs.Flat.{shownOf}
 use Rattle.check_index.specs.Answers.{checkedPart}
 
--- src/lib.rt:69:11
 show-requires : tie.Need-show-requires
 show-requires c κs =
     search needs
 
--- src/lib.rt:70:27
 enum-told : tie.Need-enum-told
 enum-told c =
     search needs
 
--- src/lib.rt:71:30
 enum-told-2 : tie.Need-enum-told-2
 enum-told-2 c =
     search needs
 
--- src/lib.rt:72:32
 enum-told-3 : tie.Need-enum-told-3
 enum-told-3 c =
     search needs
 
--- src/lib.rt:53:1
 returns : tie.Need-returns
 unfolding checkedPart byShowing mustShow shownOf
 returns c =
     (λ fs ks. sym (ap (byShowing (c .before .before .before .before .args .at)) (sym (c .before .before .show .ensures) ∙ ap shownOf (c .enum-told .given .1))), refl)
 
--- src/lib.rt:53:1
 returns-2 : tie.Need-returns-2
 unfolding checkedPart byShowing mustShow shownOf
 returns-2 c =
     (λ fs ks. sym (ap (byShowing (c .before .before .before .before .args .at)) (sym (c .before .before .show .ensures) ∙ ap shownOf (c .enum-told2 .given .1))), tt)
 
--- src/lib.rt:53:1
 returns-3 : tie.Need-returns-3
 unfolding checkedPart byShowing mustShow shownOf
 returns-3 c =

@@ -4,7 +4,6 @@ use Rattle.check_operand.proofs.one_wire.Tie as tie
 use Rattle.check_operand.proofs.one_wire.Reads as reads
 use Rattle.check_operand.proofs.one_wire.Lts as lts
 use Rattle.check_operand.proofs.operand.Reads as operand-reads
-use borrow.Author.Needs.{needs}
 use mathlib.Core.Path.{refl, sym, _∙_}
 use mathlib.Core.List.{List}
 use Prim.Native.Nat.{_+_}
@@ -19,27 +18,22 @@ use Rattle.check_operand.specs.Tables.{scopeAt}
 use Rattle.check_operand.specs.Operands.{wantedOf}
 use Rattle.check_index.proofs.Answers.{ends-stops, part-goes, part-stops, passes-upto, left-some, left-none}
 
--- src/lib.rt:359:16
 add-from : tie.Need-add-from
 add-from c =
     search needs
 
--- src/lib.rt:360:9
 operand-requires : tie.Need-operand-requires
 operand-requires c κs =
     search needs
 
--- src/lib.rt:373:20
 enum-known-r : tie.Need-enum-known-r
 enum-known-r c =
     search needs
 
--- src/lib.rt:374:9
 enum-told : tie.Need-enum-told
 enum-told c =
     search needs
 
--- src/lib.rt:374:9
 returns : tie.Need-returns
 unfolding wantedOf checkOneWire
 returns c =
@@ -49,7 +43,6 @@ returns c =
     let y = noLeftover (a .at) (ending (drop 1 (fieldsAt program (a .at + 3) (a .next)))) in
     (λ fs. part-stops (c .before .before .operand .result) (x fs) y (c .before .before .operand .ensures .0 fs) (c .before .match .keys2), ends-stops (c .before .before .operand .result) (a .next) (c .before .match .keys2))
 
--- src/lib.rt:377:9
 returns-2 : tie.Need-returns-2
 unfolding wantedOf checkOneWire checkedPart
 returns-2 c =
@@ -61,7 +54,6 @@ returns-2 c =
     let v = passes-upto program (a .at + 3) (a .next) (c .before .before .before .before .operand .result) end (c .before .before .r .given .1) (c .before .before .before .before .operand .ensures .1) in
     (λ fs. sym (part-goes (c .before .before .before .before .operand .result) (x fs) (c .before .before .before .before .operand .ensures .0 fs) end y (c .before .before .r .given .1) ∙ left-some program (a .at) (a .at + 3) (a .next) end v (c .if1 .taken) (c .before .before .before .before .before .before .before .before .pre .0 .1)), tt)
 
--- src/lib.rt:343:1
 returns-3 : tie.Need-returns-3
 unfolding wantedOf checkOneWire checkedPart
 returns-3 c =

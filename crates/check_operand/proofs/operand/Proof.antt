@@ -6,7 +6,6 @@ use Rattle.check_operand.proofs.operand.Lts as lts
 use Rattle.check_operand.proofs.element.Reads as element-reads
 use Rattle.check_operand.proofs.whole.Reads as whole-reads
 use Rattle.fields.proofs.header_at.Reads as header-at-reads
-use borrow.Author.Needs.{needs}
 use mathlib.Core.Path.{sym, _∙_}
 use native.Mathlib.Omega.{arith}
 use denote.Ref.{now}
@@ -17,27 +16,22 @@ use Rattle.check_operand.specs.Operands.{wantedOf}
 use Rattle.check_operand.proofs.Operands.{operand-end, operand-cut, operand-whole, operand-element, operand-other}
 use Rattle.check_index.proofs.Answers.{ends-passes}
 
--- src/lib.rt:309:11
 header-at-requires : tie.Need-header-at-requires
 header-at-requires c κs =
     search needs
 
--- src/lib.rt:310:24
 enum-told : tie.Need-enum-told
 enum-told c =
     search needs
 
--- src/lib.rt:311:24
 enum-told-2 : tie.Need-enum-told-2
 enum-told-2 c =
     search needs
 
--- src/lib.rt:312:23
 enum-known-tag : tie.Need-enum-known-tag
 enum-known-tag c =
     search needs
 
--- src/lib.rt:313:19
 whole-requires : tie.Need-whole-requires
 whole-requires c κs =
     let a = c .before .before .before .before .before .before .before .args in
@@ -50,7 +44,6 @@ whole-requires c κs =
     let k = c .before .before .before .before .before .before .before .pre .0 in
     ((w .low, omega arith), (c .before .before .before .before .before .before .before .pre .1 .0, c .before .before .before .before .before .before .before .pre .1 .1))
 
--- src/lib.rt:325:19
 element-requires : tie.Need-element-requires
 element-requires c κs =
     let a = c .before .before .before .before .before .before .before .args in
@@ -63,7 +56,6 @@ element-requires c κs =
     let k = c .before .before .before .before .before .before .before .pre .0 in
     ((w .low, omega arith), c .before .before .before .before .before .before .before .pre .1 .1)
 
--- src/lib.rt:290:1
 returns : tie.Need-returns
 unfolding checkedPart
 returns c =
@@ -72,7 +64,6 @@ returns c =
     let d = wantedOf (a .wanted) (now (a .size)) in
     (λ fs. operand-end (scopeAt fs (a .s) (now (a .kinds)) (now (a .sizes)) (now (a .lows)) (now (a .highs))) d program (a .at) (a .to) (a .parent) (when-end program (a .at) (a .to) (c .before .before .before .before .before .pre .0) (sym (c .before .before .header-at .ensures) ∙ c .enum-told .given .1)), tt)
 
--- src/lib.rt:290:1
 returns-2 : tie.Need-returns-2
 unfolding checkedPart
 returns-2 c =
@@ -81,7 +72,6 @@ returns-2 c =
     let d = wantedOf (a .wanted) (now (a .size)) in
     (λ fs. operand-cut (scopeAt fs (a .s) (now (a .kinds)) (now (a .sizes)) (now (a .lows)) (now (a .highs))) d program (a .at) (a .to) (a .parent) (when-cut program (a .at) (a .to) (c .before .before .before .before .before .pre .0) (sym (c .before .before .header-at .ensures) ∙ c .enum-told2 .given .1)), tt)
 
--- src/lib.rt:290:1
 returns-3 : tie.Need-returns-3
 returns-3 c =
     let a = c .before .before .before .before .before .before .before .before .args in
@@ -94,7 +84,6 @@ returns-3 c =
     let k = c .before .before .before .before .before .before .before .before .pre .0 in
     (λ fs. c .whole .ensures .0 fs ∙ operand-whole (scopeAt fs (a .s) (now (a .kinds)) (now (a .sizes)) (now (a .lows)) (now (a .highs))) d program (a .at) (a .to) (a .parent) tag next w (c .before .match2 .keys1), ends-passes program (a .at) (a .to) tag next (c .whole .result) w (c .whole .ensures .1))
 
--- src/lib.rt:290:1
 returns-4 : tie.Need-returns-4
 returns-4 c =
     let a = c .before .before .before .before .before .before .before .before .args in
@@ -107,7 +96,6 @@ returns-4 c =
     let k = c .before .before .before .before .before .before .before .before .pre .0 in
     (λ fs. c .element .ensures .0 fs ∙ operand-element (scopeAt fs (a .s) (now (a .kinds)) (now (a .sizes)) (now (a .lows)) (now (a .highs))) d program (a .at) (a .to) (a .parent) tag next w (c .before .match2 .keys2), ends-passes program (a .at) (a .to) tag next (c .element .result) w (c .element .ensures .1))
 
--- src/lib.rt:290:1
 returns-5 : tie.Need-returns-5
 unfolding checkedPart
 returns-5 c =

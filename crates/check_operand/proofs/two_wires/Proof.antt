@@ -4,15 +4,12 @@ use Rattle.check_operand.proofs.two_wires.Tie as tie
 use Rattle.check_operand.proofs.two_wires.Reads as reads
 use Rattle.check_operand.proofs.two_wires.Lts as lts
 use Rattle.check_operand.proofs.two_operands.Reads as two-operands-reads
-use borrow.Author.Needs.{needs}
 use Rattle.check_operand.specs.Operands.{wantedOf}
 
--- src/lib.rt:455:5
 two-operands-requires : tie.Need-two-operands-requires
 two-operands-requires c κs =
     search needs
 
--- src/lib.rt:441:1
 returns : tie.Need-returns
 unfolding wantedOf
 returns c =

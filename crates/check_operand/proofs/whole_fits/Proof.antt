@@ -15,37 +15,30 @@ use Rattle.check_operand.specs.Tables.{kindIn, scopeWith}
 use Rattle.check_operand.specs.Operands.{wantedOf}
 use Rattle.check_operand.proofs.OperandKinds.{wire-good, wire-bad, bit-bad, register-good, register-bad}
 
--- src/lib.rt:166:25
 enum-told : tie.Need-enum-told
 enum-told c =
     search needs
 
--- src/lib.rt:167:35
 enum-told-2 : tie.Need-enum-told-2
 enum-told-2 c =
     search needs
 
--- src/lib.rt:170:24
 enum-told-3 : tie.Need-enum-told-3
 enum-told-3 c =
     search needs
 
--- src/lib.rt:171:26
 enum-known-wanted : tie.Need-enum-known-wanted
 enum-known-wanted c =
     search needs
 
--- src/lib.rt:173:17
 enum-told-4 : tie.Need-enum-told-4
 enum-told-4 c =
     search needs
 
--- src/lib.rt:173:17
 large-enough-requires : tie.Need-large-enough-requires
 large-enough-requires c κs =
     (rw (c .before .before .before .wanted .given .1) at (c .before .before .before .before .before .pre .0), c .before .before .before .before .before .pre .1)
 
--- src/lib.rt:145:1
 returns : tie.Need-returns
 unfolding checkedPart
 returns c =
@@ -55,7 +48,6 @@ returns c =
     let l = now (a .size) in
     (λ fs ks. wire-good (a .at) (scopeWith fs ks (a .variables) ls) f l ∙ (λ i. wholeFits (a .at) (scopeWith fs ks (a .variables) ls) (wantedOf (sym (c .before .before .enum-told .given .1) i) l) (kindIn (sym (c .enum-told2 .given .1) i) f)), refl)
 
--- src/lib.rt:145:1
 returns-2 : tie.Need-returns-2
 unfolding checkedPart
 returns-2 c =
@@ -65,7 +57,6 @@ returns-2 c =
     let l = now (a .size) in
     (λ fs ks. wire-bad (a .at) (scopeWith fs ks (a .variables) ls) f l (a .kind) (c .match2 .keys2) ∙ ap (λ (w : Wanted). wholeFits (a .at) (scopeWith fs ks (a .variables) ls) (wantedOf w l) (kindIn (a .kind) f)) (sym (c .before .enum-told .given .1)), tt)
 
--- src/lib.rt:145:1
 returns-3 : tie.Need-returns-3
 unfolding checkedPart
 returns-3 c =
@@ -75,7 +66,6 @@ returns-3 c =
     let l = now (a .size) in
     (λ fs ks. bit-bad (a .at) (scopeWith fs ks (a .variables) ls) f l (kindIn (a .kind) f) ∙ ap (λ (w : Wanted). wholeFits (a .at) (scopeWith fs ks (a .variables) ls) (wantedOf w l) (kindIn (a .kind) f)) (sym (c .enum-told3 .given .1)), tt)
 
--- src/lib.rt:145:1
 returns-4 : tie.Need-returns-4
 returns-4 c =
     let a = c .before .before .before .before .before .before .args in
@@ -84,7 +74,6 @@ returns-4 c =
     let l = now (a .size) in
     (λ fs ks. c .large-enough .ensures .0 fs ks ∙ register-good (a .at) (scopeWith fs ks (a .variables) ls) f l (c .before .before .before .before .wanted .given .0 .0) ∙ (λ i. wholeFits (a .at) (scopeWith fs ks (a .variables) ls) (wantedOf (sym (c .before .before .before .before .wanted .given .1) i) l) (kindIn (sym (c .before .enum-told4 .given .1) i) f)), c .large-enough .ensures .1)
 
--- src/lib.rt:145:1
 returns-5 : tie.Need-returns-5
 unfolding checkedPart
 returns-5 c =

@@ -7,7 +7,6 @@ use Rattle.check_operand.proofs.must_show.Reads as must-show-reads
 use Rattle.forms.proofs.load.Reads as load-reads
 use Rattle.forms.proofs.set_constant.Reads as set-constant-reads
 use Rattle.forms.proofs.subtract.Reads as subtract-reads
-use borrow.Author.Needs.{needs}
 use mathlib.Core.Path.{refl, sym, ap, _∙_}
 use mathlib.Core.List.{List}
 use denote.Ref.{now}
@@ -21,7 +20,6 @@ use Rattle.check_operand.proofs.Operands.{within-stops, within-goes, ro
 use Rattle.check_operand.proofs.OperandKinds.{shown-outside, is-made, not-made}
 use Rattle.check_index.proofs.Answers.{ends-stops}
 
--- src/lib.rt:96:9
 must-show-requires : tie.Need-must-show-requires
 must-show-requires c κs =
     search needs
@@ -30,12 +28,10 @@ enum-told : tie.Need-enum-told
 enum-told c =
     search needs
 
--- src/lib.rt:98:9
 enum-told-2 : tie.Need-enum-told-2
 enum-told-2 c =
     search needs
 
--- src/lib.rt:98:9
 returns : tie.Need-returns
 returns c =
     let a = c .before .before .before .before .before .args in
@@ -46,33 +42,27 @@ returns c =
     let shows : List Signature → List Kind → Built → Checked (Unit {0}) = λ fs ks b. mustShow (a .at) (s fs ks) b in
     (λ fs ks. within-stops (a .at) (s fs ks) size f (c .before .before .must-show .result) (c .before .before .must-show .ensures .0 fs ks) (c .before .match .keys2), ends-stops (c .before .before .must-show .result) (a .next) (c .before .match .keys2))
 
--- src/lib.rt:101:5
 set-constant-requires : tie.Need-set-constant-requires
 unfolding inRange
 set-constant-requires c κs =
     refl
 
--- src/lib.rt:103:5
 load-requires : tie.Need-load-requires
 load-requires c κs =
     search needs
 
--- src/lib.rt:104:8
 subtract-requires : tie.Need-subtract-requires
 subtract-requires c κs =
     search needs
 
--- src/lib.rt:105:12
 subtract-requires-2 : tie.Need-subtract-requires-2
 subtract-requires-2 c κs =
     (c .before .before .subtract .ensures .1 (c .before .if1 .taken), c .before .before .before .before .before .before .before .before .before .before .before .before .before .before .pre .0)
 
--- src/lib.rt:106:13
 must-show-requires-2 : tie.Need-must-show-requires-2
 must-show-requires-2 c κs =
     (c .before .before .subtract2 .ensures .1 (c .before .if2 .taken), c .before .before .before .before .before .before .before .before .before .before .before .before .before .before .before .before .before .pre .1 .1)
 
--- src/lib.rt:106:13
 returns-2 : tie.Need-returns-2
 returns-2 c =
     let a = c .before .before .before .before .before .before .before .before .before .before .before .before .before .before .before .before .before .before .args in
@@ -84,7 +74,6 @@ returns-2 c =
     let less = c .before .before .before .before .before .before .subtract .ensures .0 ∙ (λ i. differenceOf (asForm (c .before .before .before .before .before .before .before .before .before .load .ensures .0 i)) (c .before .before .before .before .before .before .before .before .before .before .before .set-constant .ensures .0 i)) in
     (λ fs ks. c .must-show2 .ensures .0 fs ks ∙ ap (shows fs ks) (sym (room-some size f (asForm (c .before .before .before .before .before .before .subtract .last .0)) (is-made (c .before .before .before .before .before .before .subtract .last .0) less (c .before .before .before .before .before .if1 .taken)) ∙ is-made (c .before .before .before .subtract2 .last .0) (c .before .before .before .subtract2 .ensures .0) (c .before .before .if2 .taken))) ∙ within-goes (a .at) (s fs ks) size f (c .before .before .before .before .before .before .before .before .before .before .before .before .before .before .before .must-show .result) (c .before .before .before .before .before .before .before .before .before .before .before .before .before .before .before .must-show .ensures .0 fs ks) (c .before .before .before .before .before .before .before .before .before .before .before .before .before .before .match .keys1), c .must-show2 .ensures .1)
 
--- src/lib.rt:108:9
 returns-3 : tie.Need-returns-3
 unfolding checkedPart
 returns-3 c =
@@ -97,7 +86,6 @@ returns-3 c =
     let less = c .before .before .before .before .subtract .ensures .0 ∙ (λ i. differenceOf (asForm (c .before .before .before .before .before .before .before .load .ensures .0 i)) (c .before .before .before .before .before .before .before .before .before .set-constant .ensures .0 i)) in
     (λ fs ks. shown-outside (a .at) (s fs ks) ∙ ap (shows fs ks) (sym (room-some size f (asForm (c .before .before .before .before .subtract .last .0)) (is-made (c .before .before .before .before .subtract .last .0) less (c .before .before .before .if1 .taken)) ∙ not-made (c .before .subtract2 .last .0) (c .before .subtract2 .ensures .0) (c .if2 .left))) ∙ within-goes (a .at) (s fs ks) size f (c .before .before .before .before .before .before .before .before .before .before .before .before .before .must-show .result) (c .before .before .before .before .before .before .before .before .before .before .before .before .before .must-show .ensures .0 fs ks) (c .before .before .before .before .before .before .before .before .before .before .before .before .match .keys1), tt)
 
--- src/lib.rt:77:1
 returns-4 : tie.Need-returns-4
 unfolding checkedPart
 returns-4 c =

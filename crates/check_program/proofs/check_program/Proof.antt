@@ -8,29 +8,23 @@ use mathlib.Core.Path.{_∙_}
 use denote.Ref.{now}
 use Rattle.check_program.proofs.TopFields.{zeros-hold, program-long, program-short}
 
--- src/lib.rt:345:9
 returns : tie.Need-returns
 returns c =
     program-long (now (c .before .before .args .program)) (c .if1 .taken)
 
--- src/lib.rt:350:5
 slice-aggregate-top-fields : tie.Need-slice-aggregate-top-fields
 slice-aggregate-top-fields c = search needs
 
--- src/lib.rt:350:5
 slice-aggregate-top-fields-2 : tie.Need-slice-aggregate-top-fields-2
 slice-aggregate-top-fields-2 c = search needs
 
--- src/lib.rt:350:5
 slice-aggregate-top-fields-3 : tie.Need-slice-aggregate-top-fields-3
 slice-aggregate-top-fields-3 c = search needs
 
--- src/lib.rt:350:5
 top-fields-requires : tie.Need-top-fields-requires
 top-fields-requires c κs =
     zeros-hold
 
--- src/lib.rt:341:1
 returns-2 : tie.Need-returns-2
 returns-2 c =
     c .before .before .before .top-fields .ensures ∙ program-short (now (c .before .before .before .before .before .before .before .before .before .args .program)) (c .before .before .before .before .before .before .before .if1 .left)

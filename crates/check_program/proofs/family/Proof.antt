@@ -12,19 +12,15 @@ use Rattle.language.specs.Check.{good}
 use Rattle.check_program.specs.Declarations.{checkedStep}
 use Rattle.check_program.proofs.Families.{family-bad, family-stops, family-goes, with-family, holds-family, counts-right}
 
--- src/lib.rt:127:11
 family-counts-requires : tie.Need-family-counts-requires
 family-counts-requires c κs = search needs
 
--- src/lib.rt:128:21
 enum-known-k : tie.Need-enum-known-k
 enum-known-k c = search needs
 
--- src/lib.rt:129:22
 enum-known-m : tie.Need-enum-known-m
 enum-known-m c = search needs
 
--- src/lib.rt:131:19
 family-body-requires : tie.Need-family-body-requires
 family-body-requires c κs =
     let a = c .before .before .before .before .before .before .before .before .before .args in
@@ -38,15 +34,12 @@ family-body-requires c κs =
     let w = counts-right (a .at) (a .next) (a .t .families) (c .before .before .before .before .before .before .family-counts .result) m p u (c .before .before .before .before .before .before .family-counts .ensures .1) in
     ((w .3, c .before .before .before .before .before .before .before .before .before .pre .0 .1), (w .0, (w .1, (w .2, h))))
 
--- src/lib.rt:132:31
 enum-known-k-2 : tie.Need-enum-known-k-2
 enum-known-k-2 c = search needs
 
--- src/lib.rt:134:25
 enum-told : tie.Need-enum-told
 enum-told c = search needs
 
--- src/lib.rt:135:21
 mul-entry : tie.Need-mul-entry
 mul-entry c =
     let a = c .before .before .before .before .before .before .before .before .before .before .before .before .before .before .before .args in
@@ -64,7 +57,6 @@ mul-entry c =
     let lr = h .rowsFit in
     omega arith
 
--- src/lib.rt:135:21
 slice-set-from-entry : tie.Need-slice-set-from-entry
 slice-set-from-entry c =
     let a = c .before .before .before .before .before .before .before .before .before .before .before .before .before .before .before .args in
@@ -82,11 +74,9 @@ slice-set-from-entry c =
     let lr = h .rowsFit in
     omega arith
 
--- src/lib.rt:136:33
 add-after : tie.Need-add-after
 add-after c = search needs
 
--- src/lib.rt:137:32
 add-rows : tie.Need-add-rows
 add-rows c =
     let a = c .before .before .before .before .before .before .before .before .before .before .before .before .before .before .before .args in
@@ -104,7 +94,6 @@ add-rows c =
     let lr = h .rowsFit in
     omega arith
 
--- src/lib.rt:112:1
 returns : tie.Need-returns
 returns c =
     let a = c .before .before .before .before .before .before .args in
@@ -114,19 +103,15 @@ returns c =
     let e = c .before .before .before .family-counts .ensures .0 in
     (family-bad (a .t) x (now (a .kinds)) (now (a .sizes)) program (a .at) (a .next) (c .before .before .before .family-counts .result) e (c .before .k .given .0 .0) (c .before .k .given .0 .1 .0) x (now (a .kinds)) (now (a .sizes)) (c .before .k .given .1), tt)
 
--- src/lib.rt:112:1
 same-length : tie.Need-same-length
 same-length c = search needs
 
--- src/lib.rt:112:1
 same-length-2 : tie.Need-same-length-2
 same-length-2 c = search needs
 
--- src/lib.rt:112:1
 same-length-3 : tie.Need-same-length-3
 same-length-3 c = search needs
 
--- src/lib.rt:112:1
 returns-2 : tie.Need-returns-2
 returns-2 c =
     let a = c .before .before .before .before .before .before .before .before .before .before .before .before .before .before .before .before .args in
@@ -144,19 +129,15 @@ returns-2 c =
     let d = c .before .before .before .before .before .before .family-body .ensures .1 in
     (family-stops (a .t) x (now (a .kinds)) (now (a .sizes)) program (a .at) (a .next) (c .before .before .before .before .before .before .before .before .before .before .before .before .before .family-counts .result) e m p u (c .before .before .before .before .before .before .family-body .result) kinds sizes b (c .before .k2 .given .0 .0) (c .before .k2 .given .0 .1 .0) x kinds sizes (c .before .k2 .given .1), tt)
 
--- src/lib.rt:112:1
 same-length-4 : tie.Need-same-length-4
 same-length-4 c = search needs
 
--- src/lib.rt:112:1
 same-length-5 : tie.Need-same-length-5
 same-length-5 c = search needs
 
--- src/lib.rt:112:1
 same-length-6 : tie.Need-same-length-6
 same-length-6 c = search needs
 
--- src/lib.rt:112:1
 returns-3 : tie.Need-returns-3
 unfolding checkedStep
 returns-3 c =

@@ -18,11 +18,9 @@ use Rattle.check_program.specs.Declarations.{declaredIn}
 use Rattle.check_program.proofs.Scopes.{eight-rows, scope-right, scope-declares}
 use Rattle.check_program.proofs.Families.{familyRows, body-stops, body-goes}
 
--- src/lib.rt:73:16
 add-from : tie.Need-add-from
 add-from c = search needs
 
--- src/lib.rt:75:9
 parameter-types-requires : tie.Need-parameter-types-requires
 parameter-types-requires c κs =
     let a = c .before .before .before .before .args in
@@ -36,23 +34,18 @@ parameter-types-requires c κs =
     let none = replicate 8 (replicate 13 (pos 0)) in
     (long, (few, (omega arith, h .table)))
 
--- src/lib.rt:86:20
 enum-known-r : tie.Need-enum-known-r
 enum-known-r c = search needs
 
--- src/lib.rt:87:9
 enum-told : tie.Need-enum-told
 enum-told c = search needs
 
--- src/lib.rt:87:9
 same-length : tie.Need-same-length
 same-length c = search needs
 
--- src/lib.rt:87:9
 same-length-2 : tie.Need-same-length-2
 same-length-2 c = search needs
 
--- src/lib.rt:87:9
 returns : tie.Need-returns
 unfolding familyScope
 returns c =
@@ -70,7 +63,6 @@ returns c =
     let d = declaredIn (a .t) (now (a .families)) (now (a .kinds)) (now (a .sizes)) in
     (body-stops (a .t) (now (a .families)) (a .at) (a .m) (a .parameters) program (a .at + 5) (a .next) h (c .before .before .before .before .before .parameter-types .ensures .1 .1) (c .before .before .before .before .before .parameter-types .result) (c .before .before .before .before .before .parameter-types .ensures .0 (d .families) []) (c .before .match .keys2), c .before .before .before .before .before .parameter-types .ensures .1 .1)
 
--- src/lib.rt:97:5
 list-requires : tie.Need-list-requires
 list-requires c κs =
     let a = c .before .before .before .before .before .before .before .before .before .before .before .before .before .before .before .args in
@@ -86,15 +78,12 @@ list-requires c κs =
     let sizes = c .before .before .before .before .before .before .before .before .before .before .parameter-types .last .1 .1 .1 .1 .1 .1 .1 .1 .0 in
     (long, (scope-right (familyRows (a .t) (a .m) (a .parameters)) kinds sizes none none (c .before .before .before .before .before .before .before .before .before .before .parameter-types .ensures .1 .1 .table) eight-rows eight-rows few (omega arith) (omega arith), scope-declares (familyRows (a .t) (a .m) (a .parameters)) (a .t) (now (a .families)) kinds sizes h (c .before .before .before .before .before .before .before .before .before .before .parameter-types .ensures .1 .1 .table) refl))
 
--- src/lib.rt:54:1
 same-length-3 : tie.Need-same-length-3
 same-length-3 c = search needs
 
--- src/lib.rt:54:1
 same-length-4 : tie.Need-same-length-4
 same-length-4 c = search needs
 
--- src/lib.rt:54:1
 returns-2 : tie.Need-returns-2
 unfolding familyScope
 returns-2 c =

@@ -13,7 +13,6 @@ use Rattle.check_program.specs.Declarations.{declaredIn}
 use Rattle.check_program.proofs.Scopes.{eight-rows, scope-right, scope-declares, topRows, top-scope}
 use Rattle.check_program.proofs.TopFields.{kept-refused, kept-going}
 
--- src/lib.rt:262:5
 action-requires : tie.Need-action-requires
 action-requires c κs =
     let a = c .before .before .before .before .args in
@@ -25,15 +24,12 @@ action-requires c κs =
     let e = top-scope (a .t) (now (a .families)) (now (a .kinds)) (now (a .sizes)) none none in
     (c .before .before .before .before .pre .0, (scope-right (topRows (a .t)) (now (a .kinds)) (now (a .sizes)) none none (h .table) eight-rows eight-rows (omega arith) (omega arith) (omega arith), (scope-declares (topRows (a .t)) (a .t) (now (a .families)) (now (a .kinds)) (now (a .sizes)) h (h .table) refl, c .before .before .before .before .pre .1 .1)))
 
--- src/lib.rt:274:23
 enum-known-k : tie.Need-enum-known-k
 enum-known-k c = search needs
 
--- src/lib.rt:275:26
 enum-told : tie.Need-enum-told
 enum-told c = search needs
 
--- src/lib.rt:238:1
 returns : tie.Need-returns
 returns c =
     let a = c .before .before .before .before .before .before .before .before .args in
@@ -45,7 +41,6 @@ returns c =
     let e = top-scope (a .t) (now (a .families)) (now (a .kinds)) (now (a .sizes)) none none in
     (kept-refused (c .before .before .before .action .result) (c .before .k .given .0 .0) (c .before .k .given .0 .1 .0) d (now (a .families)) (now (a .kinds)) (now (a .sizes)) (c .before .k .given .1) ∙ c .before .before .before .action .ensures d e, tt)
 
--- src/lib.rt:238:1
 returns-2 : tie.Need-returns-2
 returns-2 c =
     let a = c .before .before .before .before .before .before .before .args in

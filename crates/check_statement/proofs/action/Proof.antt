@@ -20,23 +20,18 @@ use Rattle.check_operand.specs.Operands.{wantedOf, oneWire, twoOperands}
 use Rattle.check_call.specs.Calls.{signatureAt}
 use Rattle.check_statement.proofs.Actions.{kept-is, top-measure, top-reset, top-if, top-statement}
 
--- src/lib.rt:341:14
 two-operands-requires : tie.Need-two-operands-requires
 two-operands-requires c κs = search needs
 
--- src/lib.rt:352:14
 one-wire-requires : tie.Need-one-wire-requires
 one-wire-requires c κs = search needs
 
--- src/lib.rt:353:14
 conditional-requires : tie.Need-conditional-requires
 conditional-requires c κs = search needs
 
--- src/lib.rt:354:14
 one-statement-requires : tie.Need-one-statement-requires
 one-statement-requires c κs = search needs
 
--- src/lib.rt:322:1
 returns : tie.Need-returns
 unfolding wantedOf
 returns c =
@@ -45,7 +40,6 @@ returns c =
     let fs = tabulated (signatureAt (now (a .families)) (now (a .kinds)) (now (a .sizes))) (a .s .families) 0 in
     λ d q. kept-is (c .two-operands .result) d ∙ ap (λ (x : Checked (Unit {0})). x >> good d) (c .two-operands .ensures .0 fs ∙ ap (λ (s : C.Scope). twoOperands s C.bit (a .at) (fieldsAt program (a .at + 3) (a .next))) (sym q)) ∙ top-measure d (a .at) (a .next) (a .tag) program (c .before .before .before .match .keys1)
 
--- src/lib.rt:322:1
 returns-2 : tie.Need-returns-2
 returns-2 c =
     let a = c .before .before .before .before .before .before .args in
@@ -53,7 +47,6 @@ returns-2 c =
     let fs = tabulated (signatureAt (now (a .families)) (now (a .kinds)) (now (a .sizes))) (a .s .families) 0 in
     λ d q. kept-is (c .one-wire .result) d ∙ ap (λ (x : Checked (Unit {0})). x >> good d) (c .one-wire .ensures .0 fs ∙ ap (λ (s : C.Scope). oneWire s (a .at) (fieldsAt program (a .at + 3) (a .next))) (sym q)) ∙ top-reset d (a .at) (a .next) (a .tag) program (c .before .before .before .match .keys2)
 
--- src/lib.rt:322:1
 returns-3 : tie.Need-returns-3
 returns-3 c =
     let a = c .before .before .before .before .args in
@@ -61,7 +54,6 @@ returns-3 c =
     let fs = tabulated (signatureAt (now (a .families)) (now (a .kinds)) (now (a .sizes))) (a .s .families) 0 in
     λ d q. c .conditional .ensures d q ∙ top-if d (a .at) (a .next) (a .tag) program (c .before .match .keys3)
 
--- src/lib.rt:322:1
 returns-4 : tie.Need-returns-4
 returns-4 c =
     let a = c .before .before .before .before .args in

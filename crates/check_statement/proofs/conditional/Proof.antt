@@ -25,11 +25,9 @@ use Rattle.check_statement.specs.Statements.{checkedDeclared}
 use Rattle.check_index.proofs.Answers.{part-goes, passes-upto}
 use Rattle.check_statement.proofs.Actions.{kept-is, kept-stops, if-none, if-large, if-bit, bit, rest}
 
--- src/lib.rt:281:16
 add-from : tie.Need-add-from
 add-from c = search needs
 
--- src/lib.rt:283:9
 returns : tie.Need-returns
 unfolding checkedDeclared
 returns c =
@@ -40,15 +38,12 @@ returns c =
     let fs = tabulated (signatureAt (now (a .families)) (now (a .kinds)) (now (a .sizes))) (a .s .families) 0 in
     λ d q. if-none d (a .at) content (slice-none from (a .next) program (c .if1 .taken))
 
--- src/lib.rt:285:30
 shared-slice-read-wide : tie.Need-shared-slice-read-wide
 shared-slice-read-wide c = search needs
 
--- src/lib.rt:285:9
 wide-requires : tie.Need-wide-requires
 wide-requires c κs = search needs
 
--- src/lib.rt:287:9
 returns-2 : tie.Need-returns-2
 unfolding checkedDeclared
 returns-2 c =
@@ -61,23 +56,18 @@ returns-2 c =
     let e = one-byte from (a .next) program (c .before .before .before .if1 .left) (c .before .before .before .before .before .before .pre .0 .1) ∙ ap (λ (x : ℕ). x ∷ slice (from + 1) (a .next) program) (sym (c .before .wide .ensures .0)) in
     λ d q. if-large d (a .at) content v program (a .next) e (c .if2 .taken)
 
--- src/lib.rt:290:17
 add-inner : tie.Need-add-inner
 add-inner c = search needs
 
--- src/lib.rt:291:9
 operand-requires : tie.Need-operand-requires
 operand-requires c κs = search needs
 
--- src/lib.rt:304:20
 enum-known-r : tie.Need-enum-known-r
 enum-known-r c = search needs
 
--- src/lib.rt:305:9
 enum-told : tie.Need-enum-told
 enum-told c = search needs
 
--- src/lib.rt:305:9
 returns-3 : tie.Need-returns-3
 unfolding wantedOf
 returns-3 c =
@@ -91,11 +81,9 @@ returns-3 c =
     λ d q. kept-stops (c .before .before .operand .result) d (bit d (a .at) content v program (a .next) e) (rest d (a .at) content v program (a .next) e (drop 1 (fieldsAt program (a .at + 4) (a .next)))) (c .before .before .operand .ensures .0 fs ∙ ap (λ (s : C.Scope). checkOperand s C.bit (due readOperand (badOperand 4 (a .at)) (fieldsAt program (a .at + 4) (a .next)))) (sym q)) (c .before .match .keys2)
     ∙ if-bit d (a .at) content v program (a .next) e (c .before .before .before .before .before .before .if2 .left)
 
--- src/lib.rt:307:5
 list-requires : tie.Need-list-requires
 list-requires c κs = search needs
 
--- src/lib.rt:265:1
 returns-4 : tie.Need-returns-4
 unfolding wantedOf
 returns-4 c =

@@ -10,23 +10,18 @@ use Rattle.check_index.specs.Indexes.{scopeOf}
 use Rattle.check_index.proofs.Answers.{form-passes-upto, beyond-none, beyond-more}
 use Rattle.check_statement.proofs.Loops.{low-stops, high-stops, high-good, bounds-stop}
 
--- src/lib.rt:63:16
 add-from : tie.Need-add-from
 add-from c = search needs
 
--- src/lib.rt:64:9
 index-requires : tie.Need-index-requires
 index-requires c κs = search needs
 
--- src/lib.rt:65:20
 enum-known-r : tie.Need-enum-known-r
 enum-known-r c = search needs
 
--- src/lib.rt:66:9
 enum-told : tie.Need-enum-told
 enum-told c = search needs
 
--- src/lib.rt:66:9
 returns : tie.Need-returns
 returns c =
     let a = c .before .before .before .before .before .args in
@@ -35,19 +30,15 @@ returns c =
     let l = c .before .before .index .last .1 .1 .1 .1 .1 .1 .0 in
     (low-stops (scopeOf (a .variables)) program (a .at) from (a .next) (c .before .before .index .result) l (c .before .before .index .ensures .0) l (now (a .high)) (c .before .match .keys2), bounds-stop program from (a .next) (c .before .before .index .result) l (now (a .high)) (c .before .match .keys2))
 
--- src/lib.rt:68:9
 index-requires-2 : tie.Need-index-requires-2
 index-requires-2 c κs = search needs
 
--- src/lib.rt:69:20
 enum-known-t : tie.Need-enum-known-t
 enum-known-t c = search needs
 
--- src/lib.rt:70:9
 enum-told-2 : tie.Need-enum-told-2
 enum-told-2 c = search needs
 
--- src/lib.rt:70:9
 returns-2 : tie.Need-returns-2
 returns-2 c =
     let a = c .before .before .before .before .before .before .before .before .before .before .args in
@@ -59,7 +50,6 @@ returns-2 c =
     let k = c .before .before .index2 .last .1 .1 .1 .1 .1 .1 .0 in
     (high-stops (scopeOf (a .variables)) program (a .at) from (a .next) (c .before .before .before .before .before .before .before .index .result) l (c .before .before .before .before .before .before .before .index .ensures .0) mid (c .before .before .before .before .before .r .given .1) (v .0) (c .before .before .index2 .result) k (c .before .before .index2 .ensures .0) l k (c .before .match2 .keys2), bounds-stop program from (a .next) (c .before .before .index2 .result) l k (c .before .match2 .keys2))
 
--- src/lib.rt:50:1
 returns-3 : tie.Need-returns-3
 returns-3 c =
     let a = c .before .before .before .before .before .before .before .before .before .before .before .args in

@@ -13,46 +13,38 @@ use mathlib.Core.Path.{_≡_, refl, sym, ap, _∙_}
 use mathlib.Core.Bool.{Bool, true, false, not}
 use Rattle.field_walk.proofs.Positions.{kept-first, begin-forward, begin-empty, begin-broken, begin-found}
 
--- src/lib.rt:156:13
 returns : tie.Need-returns
 returns c =
     let a = c .before .before .before .args in
     begin-empty (now (a .bytes)) (a .from) (a .to) (now (a .cuts)) (c .before .before .before .pre .1) (a .reversed) (c .before .if1 .taken) (c .before .before .before .pre .0) (omega arith)
 
--- src/lib.rt:158:9
 tell-requires : tie.Need-tell-requires
 tell-requires c κs =
     search needs
 
--- src/lib.rt:159:19
 cast-cuts : tie.Need-cast-cuts
 cast-cuts c =
     search needs
 
--- src/lib.rt:159:9
 element-write-cuts : tie.Need-element-write-cuts
 element-write-cuts c =
     search needs
 
--- src/lib.rt:160:13
 last-requires : tie.Need-last-requires
 last-requires c κs =
     let a = c .before .before .before .before .before .before .args in
     (c .before .before .before .before .before .before .pre .1, c .before .before .before .before .before .before .pre .2, omega arith, omega arith, kept-first (now (a .bytes)) (a .from) (now (a .cuts)) (a .to) (omega arith) (omega (arith, c .before .tell .ensures)))
 
--- src/lib.rt:162:13
 returns-2 : tie.Need-returns-2
 returns-2 c =
     let a = c .before .before .before .before .before .before .before .before .before .args in
     begin-broken (now (a .bytes)) (a .from) (a .to) _ (c .before .before .before .before .before .before .before .before .before .pre .1) (a .reversed) _ _ (c .before .before .before .before .before .before .before .if1 .taken) (c .before .before .last .ensures) (c .if3 .taken)
 
--- src/lib.rt:164:9
 returns-3 : tie.Need-returns-3
 returns-3 c =
     let a = c .before .before .before .before .before .before .before .before .before .args in
     begin-found (now (a .bytes)) (a .from) (a .to) _ (c .before .before .before .before .before .before .before .before .before .pre .1) (a .reversed) _ _ (c .before .before .before .before .before .before .before .if1 .taken) (c .before .before .last .ensures) (c .if3 .left)
 
--- src/lib.rt:150:1
 returns-4 : tie.Need-returns-4
 returns-4 c =
     let a = c .before .before .args in

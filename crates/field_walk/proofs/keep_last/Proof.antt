@@ -9,85 +9,69 @@ use denote.Ref.{now}
 use mathlib.Core.Path.{sym, _∙_}
 use Rattle.field_walk.proofs.Search.{last-of-all, last-already, last-above, last-instead}
 
--- src/lib.rt:81:9
 returns : tie.Need-returns
 returns c =
     let a = c .before .args in
     λ bytes from to w s x. last-of-all bytes from to w (now (a .cuts)) (a .at) (a .d) (a .first) (a .all) (c .before .pre .1) s x (c .if1 .taken)
 
--- src/lib.rt:86:5
 tell-requires : tie.Need-tell-requires
 tell-requires c κs =
     search needs
 
--- src/lib.rt:87:15
 sub-top : tie.Need-sub-top
 sub-top c =
     search needs
 
--- src/lib.rt:88:21
 mul-long : tie.Need-mul-long
 mul-long c =
     search needs
 
--- src/lib.rt:88:21
 element-copy-out-long : tie.Need-element-copy-out-long
 element-copy-out-long c =
     search needs
 
--- src/lib.rt:88:8
 long-requires : tie.Need-long-requires
 long-requires c κs =
     search needs
 
--- src/lib.rt:89:9
 returns-2 : tie.Need-returns-2
 returns-2 c =
     let a = c .before .before .before .before .before .before .args in
     λ bytes from to w s x. last-already bytes from to w (now (a .cuts)) (a .at) (a .d) (a .first) (a .all) (c .before .before .before .before .before .before .pre .1) s x (sym (c .before .long .ensures .0) ∙ c .if2 .taken)
 
--- src/lib.rt:95:19
 cast-cuts : tie.Need-cast-cuts
 cast-cuts c =
     search needs
 
--- src/lib.rt:95:9
 mul-cuts : tie.Need-mul-cuts
 mul-cuts c =
     search needs
 
--- src/lib.rt:95:9
 element-write-cuts : tie.Need-element-write-cuts
 element-write-cuts c =
     search needs
 
--- src/lib.rt:96:20
 add-more : tie.Need-add-more
 add-more c =
     search needs
 
--- src/lib.rt:97:9
 returns-3 : tie.Need-returns-3
 returns-3 c =
     let a = c .before .before .before .before .before .before .before .args in
     λ bytes from to w s x. last-above bytes from to w (now (a .cuts)) (a .at) (a .d) (a .first) (a .all) (c .before .before .before .before .before .before .before .pre .1) s x (c .if3 .taken) (c .before .before .before .before .tell .ensures) (λ q. c .before .if2 .left (c .before .before .long .ensures .0 ∙ q))
 
--- src/lib.rt:102:17
 cast-cuts-2 : tie.Need-cast-cuts-2
 cast-cuts-2 c =
     search needs
 
--- src/lib.rt:102:5
 mul-cuts-2 : tie.Need-mul-cuts-2
 mul-cuts-2 c =
     search needs
 
--- src/lib.rt:102:5
 element-write-cuts-2 : tie.Need-element-write-cuts-2
 element-write-cuts-2 c =
     search needs
 
--- src/lib.rt:76:1
 returns-4 : tie.Need-returns-4
 returns-4 c =
     let a = c .before .before .before .before .before .before .before .args in

@@ -5,13 +5,11 @@ use Rattle.field_walk.proofs.passed.Lts as lts
 use mathlib.Core.Path.{_≡_, sym, ap, _∙_}
 use Rattle.field_walk.specs.Walks.{passedOf}
 
--- src/lib.rt:229:9
 returns : tie.Need-returns
 unfolding passedOf
 returns c =
     rw (c .if1 .taken)
 
--- src/lib.rt:224:1
 returns-2 : tie.Need-returns-2
 unfolding passedOf
 returns-2 c =

@@ -15,17 +15,14 @@ use mathlib.Core.Bool.{Bool, true, false, not}
 use Rattle.field_walk.specs.Walks.{Walking, NextField, Sought, Backward, Forward, LastField, FirstField}
 use Rattle.field_walk.proofs.Positions.{top-is, linked-top, lasts-found}
 
--- src/lib.rt:191:13
 tell-requires : tie.Need-tell-requires
 tell-requires c κs =
     search needs
 
--- src/lib.rt:192:25
 sub-below : tie.Need-sub-below
 sub-below c =
     omega arith
 
--- src/lib.rt:193:28
 mul-long : tie.Need-mul-long
 unfolding Walking
 mul-long c =
@@ -34,7 +31,6 @@ mul-long c =
     let b : Backward p (a .w) (now (a .cuts)) = rw (c .before .before .before .before .before .if1 .taken) at (c .before .before .before .before .before .before .before .pre .0) in
     omega (arith, b .few, c .before .tell .ensures)
 
--- src/lib.rt:193:28
 element-copy-out-long : tie.Need-element-copy-out-long
 unfolding Walking
 element-copy-out-long c =
@@ -43,12 +39,10 @@ element-copy-out-long c =
     let b : Backward p (a .w) (now (a .cuts)) = rw (c .before .before .before .before .before .if1 .taken) at (c .before .before .before .before .before .before .before .pre .0) in
     omega (arith, b .few, c .before .tell .ensures)
 
--- src/lib.rt:193:17
 long-requires : tie.Need-long-requires
 long-requires c κs =
     search needs
 
--- src/lib.rt:194:13
 returns : tie.Need-returns
 unfolding Walking NextField
 returns c =
@@ -60,7 +54,6 @@ returns c =
     let l = linked-top p (now (a .cuts)) (a .w .sure) (a .w .depth) (a .w .to) (c .before .before .before .before .before .if2 .taken) (b .linked) in
     rw (c .before .before .before .before .before .before .before .if1 .taken, c .long .ensures .0) (record { same-at = refl; same-to = refl; next = record { within = b .within; ends = l .ends; begins = t .begins; few = omega (arith, b .few); kept = t .kept; linked = l .linked } })
 
--- src/lib.rt:202:13
 last-requires : tie.Need-last-requires
 unfolding Walking
 last-requires c κs =
@@ -69,12 +62,10 @@ last-requires c κs =
     let b : Backward p (a .w) (now (a .cuts)) = rw (c .before .before .before .if1 .taken) at (c .before .before .before .before .before .pre .0) in
     (b .within, c .before .before .before .before .before .pre .2, c .before .before .before .before .before .pre .1, b .few, b .kept)
 
--- src/lib.rt:203:9
 tell-requires-2 : tie.Need-tell-requires-2
 tell-requires-2 c κs =
     search needs
 
--- src/lib.rt:204:21
 sub-depth : tie.Need-sub-depth
 unfolding Walking
 sub-depth c =
@@ -84,7 +75,6 @@ sub-depth c =
     let f = lasts-found p (a .w .at) (a .w .to) _ (b .within) _ _ (b .end) (c .before .before .before .last .ensures) in
     omega (arith, f .some)
 
--- src/lib.rt:205:25
 mul-long-2 : tie.Need-mul-long-2
 unfolding Walking
 mul-long-2 c =
@@ -94,7 +84,6 @@ mul-long-2 c =
     let f = lasts-found p (a .w .at) (a .w .to) _ (b .within) _ _ (b .end) (c .before .before .before .last .ensures) in
     omega (arith, f .some, f .few, c .before .tell2 .ensures)
 
--- src/lib.rt:205:25
 element-copy-out-long-2 : tie.Need-element-copy-out-long-2
 unfolding Walking
 element-copy-out-long-2 c =
@@ -104,12 +93,10 @@ element-copy-out-long-2 c =
     let f = lasts-found p (a .w .at) (a .w .to) _ (b .within) _ _ (b .end) (c .before .before .before .last .ensures) in
     omega (arith, f .some, f .few, c .before .tell2 .ensures)
 
--- src/lib.rt:205:13
 long-requires-2 : tie.Need-long-requires-2
 long-requires-2 c κs =
     search needs
 
--- src/lib.rt:206:9
 returns-2 : tie.Need-returns-2
 unfolding Walking NextField
 returns-2 c =
@@ -121,7 +108,6 @@ returns-2 c =
     let l = f .linking in
     rw (c .before .before .before .before .before .before .before .before .before .if1 .taken, c .long2 .ensures .0) (record { same-at = refl; same-to = refl; next = record { within = b .within; ends = l .ends; begins = t .begins; few = omega (arith, f .few); kept = t .kept; linked = l .linked } })
 
--- src/lib.rt:183:1
 returns-3 : tie.Need-returns-3
 unfolding Walking NextField
 returns-3 c =

@@ -6,12 +6,10 @@ use Rattle.field_walk.proofs.skipped.Lts as lts
 use mathlib.Core.Path.{_≡_, refl, sym, ap, _∙_}
 use Rattle.language.proofs.Integers.{clash}
 
--- src/lib.rt:70:9
 returns : tie.Need-returns
 returns c =
     λ z. absurd (clash (sym z))
 
--- src/lib.rt:66:1
 returns-2 : tie.Need-returns-2
 returns-2 c =
     search needs

@@ -5,7 +5,6 @@ use Rattle.field_walk.proofs.whole.Lts as lts
 use mathlib.Core.Path.{_≡_, refl}
 use Rattle.field_walk.specs.Walks.{wholeOf}
 
--- src/lib.rt:170:1
 returns : tie.Need-returns
 unfolding wholeOf
 returns c =

@@ -8,47 +8,36 @@ use denote.Ref.{now}
 use Rattle.language.proofs.Integers.{range-back}
 use Rattle.forms.proofs.Lists.{short-range, load-wide, load-kept}
 
--- src/lib.rt:226:12
 element-copy-out-f : tie.Need-element-copy-out-f
 element-copy-out-f c = search needs
 
--- src/lib.rt:226:5
 element-set-from-f : tie.Need-element-set-from-f
 element-set-from-f c = search needs
 
--- src/lib.rt:227:12
 element-copy-out-f-2 : tie.Need-element-copy-out-f-2
 element-copy-out-f-2 c = search needs
 
--- src/lib.rt:227:5
 element-set-from-f-2 : tie.Need-element-set-from-f-2
 element-set-from-f-2 c = search needs
 
--- src/lib.rt:228:12
 element-copy-out-f-3 : tie.Need-element-copy-out-f-3
 element-copy-out-f-3 c = search needs
 
--- src/lib.rt:228:5
 element-set-from-f-3 : tie.Need-element-set-from-f-3
 element-set-from-f-3 c = search needs
 
--- src/lib.rt:229:12
 element-copy-out-f-4 : tie.Need-element-copy-out-f-4
 element-copy-out-f-4 c = search needs
 
--- src/lib.rt:229:5
 element-set-from-f-4 : tie.Need-element-set-from-f-4
 element-set-from-f-4 c = search needs
 
--- src/lib.rt:230:12
 element-copy-out-f-5 : tie.Need-element-copy-out-f-5
 element-copy-out-f-5 c = search needs
 
--- src/lib.rt:230:5
 element-set-from-f-5 : tie.Need-element-set-from-f-5
 element-set-from-f-5 c = search needs
 
--- src/lib.rt:220:1
 returns : tie.Need-returns
 returns c =
     let l = now (c .before .before .before .before .before .before .args .row) in

@@ -12,11 +12,9 @@ use Rattle.forms.specs.Flat.{asForm}
 use Rattle.forms.proofs.Lists.{set-kept}
 use Rattle.forms.proofs.Laws.{zeros-kept}
 
--- src/lib.rt:115:5
 element-set-from-z : tie.Need-element-set-from-z
 element-set-from-z c = search needs
 
--- src/lib.rt:109:1
 returns : tie.Need-returns
 unfolding asForm
 returns c =

@@ -12,17 +12,14 @@ use Rattle.forms.specs.Flat.{asForm}
 use Rattle.language.proofs.Integers.{range-back}
 use Rattle.forms.proofs.Laws.{multiple-alone}
 
--- src/lib.rt:135:5
 set-constant-requires : tie.Need-set-constant-requires
 unfolding inRange
 set-constant-requires c κs =
     refl
 
--- src/lib.rt:136:5
 add-scaled-requires : tie.Need-add-scaled-requires
 add-scaled-requires c κs = search needs
 
--- src/lib.rt:129:1
 returns : tie.Need-returns
 returns c =
     let a = c .before .before .before .before .args in

@@ -13,19 +13,15 @@ use Rattle.forms.specs.Flat.{asForm}
 use Rattle.forms.proofs.Lists.{set-kept}
 use Rattle.forms.proofs.Laws.{zeros-kept}
 
--- src/lib.rt:125:7
 add-f : tie.Need-add-f
 add-f c = search needs
 
--- src/lib.rt:125:5
 mul-f : tie.Need-mul-f
 mul-f c = search needs
 
--- src/lib.rt:125:5
 element-set-of-f : tie.Need-element-set-of-f
 element-set-of-f c = search needs
 
--- src/lib.rt:119:1
 returns : tie.Need-returns
 unfolding asForm inRange
 returns c =

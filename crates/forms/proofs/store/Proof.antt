@@ -8,47 +8,36 @@ use denote.Ref.{now}
 use Rattle.language.proofs.Integers.{range-back}
 use Rattle.forms.proofs.Lists.{kept-at, store-wide, store-short}
 
--- src/lib.rt:235:14
 element-copy-out-row : tie.Need-element-copy-out-row
 element-copy-out-row c = search needs
 
--- src/lib.rt:235:5
 element-set-from-row : tie.Need-element-set-from-row
 element-set-from-row c = search needs
 
--- src/lib.rt:236:14
 element-copy-out-row-2 : tie.Need-element-copy-out-row-2
 element-copy-out-row-2 c = search needs
 
--- src/lib.rt:236:5
 element-set-from-row-2 : tie.Need-element-set-from-row-2
 element-set-from-row-2 c = search needs
 
--- src/lib.rt:237:14
 element-copy-out-row-3 : tie.Need-element-copy-out-row-3
 element-copy-out-row-3 c = search needs
 
--- src/lib.rt:237:5
 element-set-from-row-3 : tie.Need-element-set-from-row-3
 element-set-from-row-3 c = search needs
 
--- src/lib.rt:238:14
 element-copy-out-row-4 : tie.Need-element-copy-out-row-4
 element-copy-out-row-4 c = search needs
 
--- src/lib.rt:238:5
 element-set-from-row-4 : tie.Need-element-set-from-row-4
 element-set-from-row-4 c = search needs
 
--- src/lib.rt:239:14
 element-copy-out-row-5 : tie.Need-element-copy-out-row-5
 element-copy-out-row-5 c = search needs
 
--- src/lib.rt:239:5
 element-set-from-row-5 : tie.Need-element-set-from-row-5
 element-set-from-row-5 c = search needs
 
--- src/lib.rt:232:1
 returns : tie.Need-returns
 returns c =
     let l = now (c .before .before .before .before .before .before .args .f) in

@@ -7,13 +7,11 @@ use mir.Syntax.{w64}
 use Rattle.language.specs.Machine.{startOf}
 use Rattle.gates.specs.Gates.{directionOf}
 
--- src/lib.rt:151:9
 returns : tie.Need-returns
 unfolding startOf directionOf
 returns c =
     rw (c .if1 .taken) (toZ-ofZ w64 (c .before .args .y) (c .before .fits .y))
 
--- src/lib.rt:147:1
 returns-2 : tie.Need-returns-2
 unfolding startOf directionOf
 returns-2 c =

@@ -7,27 +7,22 @@ use Rattle.gates.proofs.deeper.Reads as deeper-reads
 use mathlib.Core.Path.{_≡_, _∙_, sym}
 use borrow.Author.Tests.{eq-eqb, ne-eqb}
 
--- src/lib.rt:265:9
 deeper-requires : tie.Need-deeper-requires
 deeper-requires c κs =
     search needs
 
--- src/lib.rt:265:9
 returns : tie.Need-returns
 returns c =
     rw (eq-eqb (c .before .before .before .args .tag) 37 (c .before .before .if1 .taken)) (c .deeper .ensures)
 
--- src/lib.rt:267:16
 add-more : tie.Need-add-more
 add-more c =
     search needs
 
--- src/lib.rt:268:5
 deeper-requires-2 : tie.Need-deeper-requires-2
 deeper-requires-2 c κs =
     search needs
 
--- src/lib.rt:259:1
 returns-2 : tie.Need-returns-2
 returns-2 c =
     rw (ne-eqb (c .before .before .args .tag) 37 (c .before .if1 .left)) (c .deeper2 .ensures)

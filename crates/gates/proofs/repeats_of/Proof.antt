@@ -18,37 +18,30 @@ use Rattle.gates.specs.declared.Bounds.the-variants.{Are}
 use Rattle.gates.specs.Gates.{directionOf, Bounded, Looped}
 use Rattle.gates.proofs.RoundValues.{bounded-body, start-between}
 
--- src/lib.rt:178:9
 returns : tie.Need-returns
 returns c =
     record { once = λ e. refl; looped = λ n. absurd (n (c .if1 .taken)) }
 
--- src/lib.rt:180:11
 bounds-of-requires : tie.Need-bounds-of-requires
 bounds-of-requires c κs =
     search needs
 
--- src/lib.rt:181:25
 enum-told : tie.Need-enum-told
 enum-told c =
     search needs
 
--- src/lib.rt:182:26
 enum-told-2 : tie.Need-enum-told-2
 enum-told-2 c =
     search needs
 
--- src/lib.rt:183:21
 enum-known-x : tie.Need-enum-known-x
 enum-known-x c =
     search needs
 
--- src/lib.rt:184:17
 first-value-requires : tie.Need-first-value-requires
 first-value-requires c κs =
     search needs
 
--- src/lib.rt:185:17
 tally-requires : tie.Need-tally-requires
 tally-requires c κs =
     let a = c .before .before .before .before .before .before .before .args in
@@ -58,19 +51,16 @@ tally-requires c κs =
     let d = bounded-body b in
     rw (range-back {z = x} (d .low), range-back {z = y} (d .high)) (d .low, d .high)
 
--- src/lib.rt:164:1
 returns-2 : tie.Need-returns-2
 unfolding Looped
 returns-2 c =
     record { once = λ e. absurd (c .before .before .before .if1 .left e); looped = λ n. rw (c .enum-told .given .1) at (c .before .before .bounds-of .ensures) }
 
--- src/lib.rt:164:1
 returns-3 : tie.Need-returns-3
 unfolding Looped
 returns-3 c =
     record { once = λ e. absurd (c .before .before .before .if1 .left e); looped = λ n. rw (c .enum-told2 .given .1) at (c .before .before .bounds-of .ensures) }
 
--- src/lib.rt:164:1
 returns-4 : tie.Need-returns-4
 unfolding Looped
 returns-4 c =

@@ -14,14 +14,12 @@ use Rattle.language.specs.Form.{inRange}
 use Rattle.language.proofs.Integers.{range-back, range-fits}
 use Rattle.gates.proofs.RoundValues.{turn-small, turn-up, turn-down, narrow}
 
--- src/lib.rt:196:13
 cast-k : tie.Need-cast-k
 cast-k c =
     let a = c .args in
     let s = turn-small (a .reversed) (a .start) (a .i) (c .pre .0) (c .pre .1) in
     record { sfits = omega arith }
 
--- src/lib.rt:198:17
 sub-z : tie.Need-sub-z
 sub-z c =
     let a = c .before .args in
@@ -31,7 +29,6 @@ sub-z c =
     let h : inRange (a .start -ℤ pos (a .i)) ≡ true = sym (ap inRange e) ∙ c .before .pre .1 in
     rw (range-back {z = a .start} (c .before .pre .0), k) (range-fits (a .start -ℤ pos (a .i)) h)
 
--- src/lib.rt:199:16
 cast-result : tie.Need-cast-result
 cast-result c =
     let a = c .before .args in
@@ -41,7 +38,6 @@ cast-result c =
     let h : inRange (a .start -ℤ pos (a .i)) ≡ true = sym (ap inRange e) ∙ c .before .pre .1 in
     rw (range-back {z = a .start} (c .before .pre .0), k, range-back {z = (a .start -ℤ pos (a .i))} h) (narrow (a .start -ℤ pos (a .i)) h)
 
--- src/lib.rt:199:9
 returns : tie.Need-returns
 returns c =
     let a = c .before .args in
@@ -51,7 +47,6 @@ returns c =
     let h : inRange (a .start -ℤ pos (a .i)) ≡ true = sym (ap inRange e) ∙ c .before .pre .1 in
     rw (range-back {z = a .start} (c .before .pre .0), k, range-back {z = (a .start -ℤ pos (a .i))} h, toZ-ofZ w32 (a .start -ℤ pos (a .i)) (narrow (a .start -ℤ pos (a .i)) h)) (sym e)
 
--- src/lib.rt:201:13
 add-z : tie.Need-add-z
 add-z c =
     let a = c .before .args in
@@ -61,7 +56,6 @@ add-z c =
     let h : inRange (a .start +ℤ pos (a .i)) ≡ true = sym (ap inRange e) ∙ c .before .pre .1 in
     rw (range-back {z = a .start} (c .before .pre .0), k) (range-fits (a .start +ℤ pos (a .i)) h)
 
--- src/lib.rt:202:5
 cast-result-2 : tie.Need-cast-result-2
 cast-result-2 c =
     let a = c .before .args in
@@ -71,7 +65,6 @@ cast-result-2 c =
     let h : inRange (a .start +ℤ pos (a .i)) ≡ true = sym (ap inRange e) ∙ c .before .pre .1 in
     rw (range-back {z = a .start} (c .before .pre .0), k, range-back {z = (a .start +ℤ pos (a .i))} h) (narrow (a .start +ℤ pos (a .i)) h)
 
--- src/lib.rt:192:1
 returns-2 : tie.Need-returns-2
 returns-2 c =
     let a = c .before .args in

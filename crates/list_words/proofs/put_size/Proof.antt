@@ -2,7 +2,6 @@
 use borrow.Author.Needs.{needs}
 use Rattle.list_words.proofs.put_size.Statement.{statement}
 use Rattle.list_words.proofs.put_size.Tie as tie
-use borrow.Author.Needs.{needs}
 use native.Mathlib.Omega.{arith}
 use lib.ListN.{length-set}
 use denote.Ref.{now}

@@ -10,31 +10,25 @@ use denote.Ref.{now}
 use Rattle.check_program.specs.Answers.{resultTold}
 use Rattle.metaqasm.proofs.Places.{turned-small}
 
--- src/lib.rt:21:11
 check-program-requires : tie.Need-check-program-requires
 check-program-requires c κs = search needs
 
--- src/lib.rt:22:30
 enum-told : tie.Need-enum-told
 enum-told c = search needs
 
--- src/lib.rt:28:25
 enum-known-number : tie.Need-enum-known-number
 enum-known-number c = search needs
 
--- src/lib.rt:29:26
 cast-narrow : tie.Need-cast-narrow
 cast-narrow c =
     let h = turned-small (c .before .before .before .check-program .result) (now (c .before .before .before .before .before .args .program)) (c .before .before .before .check-program .ensures) (c .before .number .given .0 .0) (c .before .number .given .0 .1 .0) (c .before .number .given .1) in
     omega arith
 
--- src/lib.rt:17:1
 returns : tie.Need-returns
 unfolding resultTold
 returns c =
     sym (ap resultTold (c .enum-told .given .1)) ∙ c .before .before .check-program .ensures
 
--- src/lib.rt:17:1
 returns-2 : tie.Need-returns-2
 unfolding resultTold
 returns-2 c =

@@ -16,12 +16,10 @@ use Rattle.language.specs.Result.{Result}
 use Rattle.metaqasm.specs.Answers.{answered}
 use Rattle.metaqasm.proofs.AcceptedRuns.{acceptable, instance-told, instance-answers, refused-instance, refused-counts, refused-sound}
 
--- src/lib.rt:114:9
 checked-requires : tie.Need-checked-requires
 checked-requires c κs =
     search needs
 
--- src/lib.rt:116:9
 returns : tie.Need-returns
 returns c =
     let a = c .before .before .before .before .before .before .args in
@@ -31,12 +29,10 @@ returns c =
     let n = refused-counts l x (c .before .before .checked .ensures) (c .if1 .taken) in
     (refused-instance l x (c .before .before .checked .ensures) (c .if1 .taken) (a .family) (now (a .sizes)) (a .limit) lent, ((λ z. refused-sound l x (c .before .before .checked .ensures) (c .if1 .taken) z), (omega (arith, n .0), omega (arith, n .1))))
 
--- src/lib.rt:118:34
 wide-requires : tie.Need-wide-requires
 wide-requires c κs =
     search needs
 
--- src/lib.rt:118:10
 instance-requires : tie.Need-instance-requires
 instance-requires c κs =
     let a = c .before .before .before .before .before .before .before .before .args in
@@ -45,7 +41,6 @@ instance-requires c κs =
     let e = sym (ap (λ (r : Result). r .number) (c .before .before .before .before .checked .ensures)) ∙ c .before .before .if1 .left in
     acceptable l e
 
--- src/lib.rt:118:5
 result-of-answer-requires : tie.Need-result-of-answer-requires
 result-of-answer-requires c κs =
     let a = c .before .before .before .before .before .before .before .before .before .before .before .args in
@@ -54,12 +49,10 @@ result-of-answer-requires c κs =
     let e = sym (ap (λ (r : Result). r .number) (c .before .before .before .before .before .before .before .checked .ensures)) ∙ c .before .before .before .before .before .if1 .left in
     instance-told l (a .family) (now (a .sizes)) (a .limit) lent e (c .before .before .instance .last .1 .1 .1 .1 .0) (c .before .before .instance .result) (rw (c .before .before .before .before .wide .ensures) at (c .before .before .instance .ensures))
 
--- src/lib.rt:102:1
 same-length : tie.Need-same-length
 same-length c =
     search needs
 
--- src/lib.rt:102:1
 returns-2 : tie.Need-returns-2
 returns-2 c =
     let a = c .before .before .before .before .before .before .before .before .before .before .before .before .args in

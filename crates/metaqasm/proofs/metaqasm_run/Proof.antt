@@ -15,12 +15,10 @@ use Rattle.language.specs.Result.{Result}
 use Rattle.metaqasm.specs.Answers.{answered}
 use Rattle.metaqasm.proofs.AcceptedRuns.{acceptable, run-told, run-answers, refused-run, refused-counts, refused-sound}
 
--- src/lib.rt:88:9
 checked-requires : tie.Need-checked-requires
 checked-requires c κs =
     search needs
 
--- src/lib.rt:90:9
 returns : tie.Need-returns
 returns c =
     let a = c .before .before .before .before .before .args in
@@ -30,7 +28,6 @@ returns c =
     let n = refused-counts l x (c .before .before .checked .ensures) (c .if1 .taken) in
     (refused-run l x (c .before .before .checked .ensures) (c .if1 .taken) (a .limit) lent, ((λ z. refused-sound l x (c .before .before .checked .ensures) (c .if1 .taken) z), (omega (arith, n .0), omega (arith, n .1))))
 
--- src/lib.rt:92:10
 run-requires : tie.Need-run-requires
 run-requires c κs =
     let a = c .before .before .before .before .before .before .args in
@@ -39,7 +36,6 @@ run-requires c κs =
     let e = sym (ap (λ (r : Result). r .number) (c .before .before .before .checked .ensures)) ∙ c .before .if1 .left in
     acceptable l e
 
--- src/lib.rt:92:5
 result-of-answer-requires : tie.Need-result-of-answer-requires
 result-of-answer-requires c κs =
     let a = c .before .before .before .before .before .before .before .before .before .args in
@@ -48,12 +44,10 @@ result-of-answer-requires c κs =
     let e = sym (ap (λ (r : Result). r .number) (c .before .before .before .before .before .before .checked .ensures)) ∙ c .before .before .before .before .if1 .left in
     run-told l (a .limit) lent e (c .before .before .run .last .1 .1 .0) (c .before .before .run .result) (c .before .before .run .ensures)
 
--- src/lib.rt:82:1
 same-length : tie.Need-same-length
 same-length c =
     search needs
 
--- src/lib.rt:82:1
 returns-2 : tie.Need-returns-2
 returns-2 c =
     let a = c .before .before .before .before .before .before .before .before .before .before .args in

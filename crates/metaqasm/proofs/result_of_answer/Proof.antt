@@ -4,65 +4,53 @@ use Rattle.metaqasm.proofs.result_of_answer.Tie as tie
 use Rattle.metaqasm.proofs.result_of_answer.Reads as reads
 use Rattle.metaqasm.proofs.result_of_answer.Lts as lts
 use Rattle.metaqasm.proofs.result.Reads as result-reads
-use borrow.Author.Needs.{needs}
 use mathlib.Core.Path.{sym, ap, _∙_, subst}
 use Rattle.language.specs.Result.{Result, finished}
 use Rattle.runs.specs.Conclusions.{concluded}
 use Rattle.metaqasm.specs.Answers.{NotStuck}
 
--- src/lib.rt:63:23
 enum-known-a : tie.Need-enum-known-a
 enum-known-a c =
     search needs
 
--- src/lib.rt:63:29
 result-requires : tie.Need-result-requires
 result-requires c κs =
     search needs
 
--- src/lib.rt:64:23
 enum-known-a-2 : tie.Need-enum-known-a-2
 enum-known-a-2 c =
     search needs
 
--- src/lib.rt:64:42
 cast-result : tie.Need-cast-result
 cast-result c =
     search needs
 
--- src/lib.rt:64:52
 cast-result-2 : tie.Need-cast-result-2
 cast-result-2 c =
     search needs
 
--- src/lib.rt:64:35
 result-requires-2 : tie.Need-result-requires-2
 result-requires-2 c κs =
     search needs
 
--- src/lib.rt:66:48
 enum-told : tie.Need-enum-told
 enum-told c =
     search needs
 
--- src/lib.rt:66:26
 result-requires-3 : tie.Need-result-requires-3
 result-requires-3 c κs =
     search needs
 
--- src/lib.rt:58:1
 returns : tie.Need-returns
 unfolding concluded
 returns c =
     λ output. ap (concluded output) (c .before .before .a .given .1) ∙ ap (λ (x : Result). finished (record { result = x; output = output })) (sym (c .result .ensures))
 
--- src/lib.rt:58:1
 returns-2 : tie.Need-returns-2
 unfolding concluded
 returns-2 c =
     λ output. ap (concluded output) (c .before .before .a2 .given .1) ∙ ap (λ (x : Result). finished (record { result = x; output = output })) (sym (c .result2 .ensures))
 
--- src/lib.rt:58:1
 returns-3 : tie.Need-returns-3
 returns-3 c =
     absurd (subst NotStuck (c .before .enum-told .given .1) (c .before .before .before .pre))

@@ -7,34 +7,28 @@ use mathlib.Core.Path.{refl, sym, ap, _∙_}
 use Rattle.language.specs.Result.{conditionByte, conditionBit}
 use Rattle.records.specs.Outcomes.{conditionOf}
 
--- src/lib.rt:61:30
 enum-told : tie.Need-enum-told
 enum-told c =
     search needs
 
--- src/lib.rt:62:27
 enum-known-c : tie.Need-enum-known-c
 enum-known-c c =
     search needs
 
--- src/lib.rt:63:26
 enum-known-c-2 : tie.Need-enum-known-c-2
 enum-known-c-2 c =
     search needs
 
--- src/lib.rt:57:1
 returns : tie.Need-returns
 unfolding conditionByte conditionBit conditionOf
 returns c =
     rw (c .enum-told .given .1) (refl, refl)
 
--- src/lib.rt:57:1
 returns-2 : tie.Need-returns-2
 unfolding conditionByte conditionBit conditionOf
 returns-2 c =
     rw (c .before .c .given .1) (refl, refl)
 
--- src/lib.rt:57:1
 returns-3 : tie.Need-returns-3
 unfolding conditionByte conditionBit conditionOf
 returns-3 c =

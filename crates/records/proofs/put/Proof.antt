@@ -13,117 +13,94 @@ use lib.ListN.{length-set}
 use lib.Seq.{sets}
 use Rattle.records.proofs.RecordBytes.{stores}
 
--- src/lib.rt:47:5
 slice-write-out : tie.Need-slice-write-out
 slice-write-out c =
     search needs
 
--- src/lib.rt:48:9
 add-out : tie.Need-add-out
 add-out c =
     search needs
 
--- src/lib.rt:48:5
 slice-write-out-2 : tie.Need-slice-write-out-2
 slice-write-out-2 c =
     simp length-set (omega arith)
 
--- src/lib.rt:49:19
 low-requires : tie.Need-low-requires
 low-requires c κs =
     search needs
 
--- src/lib.rt:49:9
 add-out-2 : tie.Need-add-out-2
 add-out-2 c =
     search needs
 
--- src/lib.rt:49:5
 slice-write-out-3 : tie.Need-slice-write-out-3
 slice-write-out-3 c =
     simp length-set (omega arith)
 
--- src/lib.rt:50:19
 high-requires : tie.Need-high-requires
 high-requires c κs =
     search needs
 
--- src/lib.rt:50:9
 add-out-3 : tie.Need-add-out-3
 add-out-3 c =
     search needs
 
--- src/lib.rt:50:5
 slice-write-out-4 : tie.Need-slice-write-out-4
 slice-write-out-4 c =
     simp length-set (omega arith)
 
--- src/lib.rt:51:19
 low-requires-2 : tie.Need-low-requires-2
 low-requires-2 c κs =
     search needs
 
--- src/lib.rt:51:9
 add-out-4 : tie.Need-add-out-4
 add-out-4 c =
     search needs
 
--- src/lib.rt:51:5
 slice-write-out-5 : tie.Need-slice-write-out-5
 slice-write-out-5 c =
     simp length-set (omega arith)
 
--- src/lib.rt:52:19
 high-requires-2 : tie.Need-high-requires-2
 high-requires-2 c κs =
     search needs
 
--- src/lib.rt:52:9
 add-out-5 : tie.Need-add-out-5
 add-out-5 c =
     search needs
 
--- src/lib.rt:52:5
 slice-write-out-6 : tie.Need-slice-write-out-6
 slice-write-out-6 c =
     simp length-set (omega arith)
 
--- src/lib.rt:53:19
 low-requires-3 : tie.Need-low-requires-3
 low-requires-3 c κs =
     search needs
 
--- src/lib.rt:53:9
 add-out-6 : tie.Need-add-out-6
 add-out-6 c =
     search needs
 
--- src/lib.rt:53:5
 slice-write-out-7 : tie.Need-slice-write-out-7
 slice-write-out-7 c =
     simp length-set (omega arith)
 
--- src/lib.rt:54:19
 high-requires-3 : tie.Need-high-requires-3
 high-requires-3 c κs =
     search needs
 
--- src/lib.rt:54:9
 add-out-7 : tie.Need-add-out-7
 add-out-7 c =
     search needs
 
--- src/lib.rt:54:5
 slice-write-out-8 : tie.Need-slice-write-out-8
 slice-write-out-8 c =
     simp length-set (omega arith)
 
--- src/lib.rt:43:1
 same-length : tie.Need-same-length
 same-length c =
     search needs
 
--- src/lib.rt:43:1
 returns : tie.Need-returns
 returns c =
     let a = c .before .before .before .before .before .before .before .args in

@@ -8,7 +8,6 @@ use Rattle.fields.proofs.header_at.Reads as header-at-reads
 use Rattle.fields.proofs.wide.Reads as wide-reads
 use Rattle.operands.proofs.bit_at.Reads as bit-at-reads
 use Rattle.operands.proofs.wire_at.Reads as wire-at-reads
-use borrow.Author.Needs.{needs}
 use Prim.Native.Nat.{ℕ, _+_}
 use mathlib.Core.Path.{_≡_, refl, _∙_, ap, sym, subst}
 use native.Mathlib.Omega.{arith}
@@ -25,22 +24,18 @@ use Rattle.gates.proofs.GateRuns.{does-as}
 use Rattle.reset_measure.specs.Tops.{measureAt}
 use Rattle.reset_measure.proofs.Runs.{measure-none, measure-first-over, measure-first-stuck, measure-second-over, measure-second-stuck, measure-two}
 
--- src/lib.rt:60:9
 wide-requires : tie.Need-wide-requires
 wide-requires c κs =
     search needs
 
--- src/lib.rt:62:33
 header-at-requires : tie.Need-header-at-requires
 header-at-requires c κs =
     search needs
 
--- src/lib.rt:62:26
 enum-known-mid : tie.Need-enum-known-mid
 enum-known-mid c =
     search needs
 
--- src/lib.rt:63:9
 returns : tie.Need-returns
 returns c =
     let a = c .before .before .before .before .before .args in
@@ -54,67 +49,54 @@ returns c =
     let run = measureAt (a .mode) n (a .place) s f in
     does-as _ _ _ _ _ run (measure-none (a .mode) n (a .place) l (a .from) (a .to) _ _ v ms (rw (c .before .header-at .ensures) at (c .match .keys2))) (does-stuck o (a .st) _)
 
--- src/lib.rt:65:11
 wire-at-requires : tie.Need-wire-at-requires
 wire-at-requires c κs =
     search needs
 
--- src/lib.rt:66:19
 enum-known-x : tie.Need-enum-known-x
 enum-known-x c =
     search needs
 
--- src/lib.rt:66:31
 bit-at-requires : tie.Need-bit-at-requires
 bit-at-requires c κs =
     search needs
 
--- src/lib.rt:67:24
 enum-known-y : tie.Need-enum-known-y
 enum-known-y c =
     search needs
 
--- src/lib.rt:67:30
 write-record-requires : tie.Need-write-record-requires
 write-record-requires c κs =
     search needs
 
--- src/lib.rt:68:47
 enum-told : tie.Need-enum-told
 enum-told c =
     search needs
 
--- src/lib.rt:68:47
 cast-t23 : tie.Need-cast-t23
 cast-t23 c =
     search needs
 
--- src/lib.rt:69:30
 enum-told-2 : tie.Need-enum-told-2
 enum-told-2 c =
     search needs
 
--- src/lib.rt:71:42
 enum-told-3 : tie.Need-enum-told-3
 enum-told-3 c =
     search needs
 
--- src/lib.rt:71:42
 cast-t24 : tie.Need-cast-t24
 cast-t24 c =
     search needs
 
--- src/lib.rt:72:25
 enum-told-4 : tie.Need-enum-told-4
 enum-told-4 c =
     search needs
 
--- src/lib.rt:44:1
 same-length : tie.Need-same-length
 same-length c =
     search needs
 
--- src/lib.rt:44:1
 returns-2 : tie.Need-returns-2
 unfolding op firstNumber secondNumber
 returns-2 c =
@@ -140,7 +122,6 @@ returns-2 c =
     (c .before .before .before .before .before .before .before .before .before .x .given .0 .0) (c .before .before .before .before .before .before .before .before .before .x .given .1) r2 w
     (c .before .before .before .before .before .y .given .0 .0) (c .before .before .before .before .before .y .given .1)) (c .before .before .write-record .ensures (a .mode .limit) f act refl acts)
 
--- src/lib.rt:44:1
 returns-3 : tie.Need-returns-3
 returns-3 c =
     let a = c .before .before .before .before .before .before .before .before .before .before .before .before .before .before .args in
@@ -163,7 +144,6 @@ returns-3 c =
     (c .before .before .before .before .x .given .0 .0) (c .before .before .before .before .x .given .1) r2 w
     (c .enum-told .given .1)) (does-end o (a .st) 24 (a .place))
 
--- src/lib.rt:44:1
 returns-4 : tie.Need-returns-4
 returns-4 c =
     let a = c .before .before .before .before .before .before .before .before .before .before .before .before .before .before .args in
@@ -186,7 +166,6 @@ returns-4 c =
     (c .before .before .before .before .x .given .0 .0) (c .before .before .before .before .x .given .1) r2 w
     (c .enum-told2 .given .1)) (does-stuck o (a .st) _)
 
--- src/lib.rt:44:1
 returns-5 : tie.Need-returns-5
 returns-5 c =
     let a = c .before .before .before .before .before .before .before .before .before .before .args in
@@ -206,7 +185,6 @@ returns-5 c =
     (a .mode) n (a .place) l (a .from) (a .to) _ _ v ms _ mid e r u
     (c .enum-told3 .given .1)) (does-end o (a .st) 24 (a .place))
 
--- src/lib.rt:44:1
 returns-6 : tie.Need-returns-6
 returns-6 c =
     let a = c .before .before .before .before .before .before .before .before .before .before .args in

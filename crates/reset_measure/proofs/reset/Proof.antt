@@ -6,7 +6,6 @@ use Rattle.reset_measure.proofs.reset.Lts as lts
 use Rattle.records.proofs.write_record.Reads as write-record-reads
 use Rattle.fields.proofs.wide.Reads as wide-reads
 use Rattle.operands.proofs.wire_at.Reads as wire-at-reads
-use borrow.Author.Needs.{needs}
 use Prim.Native.Nat.{ℕ, _+_}
 use mathlib.Core.Path.{_≡_, refl, _∙_, ap, sym, subst}
 use native.Mathlib.Omega.{arith}
@@ -23,47 +22,38 @@ use Rattle.gates.proofs.GateRuns.{does-as}
 use Rattle.reset_measure.specs.Tops.{resetAt}
 use Rattle.reset_measure.proofs.Runs.{reset-wire, reset-over, reset-stuck}
 
--- src/lib.rt:34:9
 wide-requires : tie.Need-wide-requires
 wide-requires c κs =
     search needs
 
--- src/lib.rt:36:11
 wire-at-requires : tie.Need-wire-at-requires
 wire-at-requires c κs =
     search needs
 
--- src/lib.rt:37:19
 enum-known-w : tie.Need-enum-known-w
 enum-known-w c =
     search needs
 
--- src/lib.rt:37:25
 write-record-requires : tie.Need-write-record-requires
 write-record-requires c κs =
     search needs
 
--- src/lib.rt:38:42
 enum-told : tie.Need-enum-told
 enum-told c =
     search needs
 
--- src/lib.rt:38:42
 cast-t18 : tie.Need-cast-t18
 cast-t18 c =
     search needs
 
--- src/lib.rt:39:25
 enum-told-2 : tie.Need-enum-told-2
 enum-told-2 c =
     search needs
 
--- src/lib.rt:18:1
 same-length : tie.Need-same-length
 same-length c =
     search needs
 
--- src/lib.rt:18:1
 returns : tie.Need-returns
 unfolding op firstNumber secondNumber
 returns c =
@@ -85,7 +75,6 @@ returns c =
     (a .mode) n (a .place) l (a .from) (a .to) _ _ v ms r
     w u (c .before .before .before .before .before .w .given .1)) (c .before .before .write-record .ensures (a .mode .limit) f act refl acts)
 
--- src/lib.rt:18:1
 returns-2 : tie.Need-returns-2
 returns-2 c =
     let a = c .before .before .before .before .before .before .args in
@@ -103,7 +92,6 @@ returns-2 c =
     (a .mode) n (a .place) l (a .from) (a .to) _ _ v ms r
     u (c .enum-told .given .1)) (does-end o (a .st) 24 (a .place))
 
--- src/lib.rt:18:1
 returns-3 : tie.Need-returns-3
 returns-3 c =
     let a = c .before .before .before .before .before .before .args in

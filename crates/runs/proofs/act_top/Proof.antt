@@ -10,7 +10,6 @@ use Rattle.runs.proofs.conditional.Reads as conditional-reads
 use Rattle.runs.proofs.once.Reads as once-reads
 use Rattle.runs.proofs.top_mode.Reads as top-mode-reads
 use Rattle.runs.proofs.top_scope.Reads as top-scope-reads
-use borrow.Author.Needs.{needs}
 use borrow.Author.Tests.{ltb-true, ltb-false}
 use Prim.Native.Nat.{ℕ, _+_, _*_, _-_}
 use mathlib.Core.Path.{_≡_, refl, ap, _∙_}
@@ -26,32 +25,26 @@ use Rattle.language.specs.Machine.{actTop}
 use Rattle.runs.specs.TopFields.{globalsIn}
 use Rattle.runs.proofs.TopTags.{list-acts, timed, measure-acts, reset-acts, if-acts}
 
--- src/lib.rt:226:16
 cast-seen : tie.Need-cast-seen
 cast-seen c =
     search needs
 
--- src/lib.rt:227:9
 top-scope-requires : tie.Need-top-scope-requires
 top-scope-requires c κs =
     search needs
 
--- src/lib.rt:228:9
 top-mode-requires : tie.Need-top-mode-requires
 top-mode-requires c κs =
     search needs
 
--- src/lib.rt:230:9
 once-requires : tie.Need-once-requires
 once-requires c κs =
     ((omega (arith, c .before .before .before .before .before .before .before .before .pre .0 .1 .low), c .before .before .before .before .before .before .before .before .pre .0 .1 .high), (rw (c .before .before .before .top-mode .ensures) (omega arith), rw (c .before .before .before .top-mode .ensures) (c .before .before .before .before .before .before .before .before .pre .1 .1 .1)))
 
--- src/lib.rt:230:9
 same-length : tie.Need-same-length
 same-length c =
     search needs
 
--- src/lib.rt:230:9
 returns : tie.Need-returns
 returns c =
     let a = c .before .before .before .before .before .before .before .before .before .before .before .args in
@@ -63,17 +56,14 @@ returns c =
     let run = actTop (a .limit) room (readTop (field (a .at) (a .tag) content)) g in
     does-as _ _ _ _ _ run (list-acts (a .limit) room (a .t .families) (a .t .registers) l (now (a .regs)) q b (c .before .before .before .before .before .before .before .top-scope .result) (c .before .before .before .before .before .before .before .top-scope .ensures) (a .at) (a .tag) (slice (a .at) (a .next) l) content (c .before .before .before .before .before .before .before .before .before .before .before .pre .1 .0) (⊎-map (λ h. omega (arith, h .taken)) (λ h. ltb-true 6 (a .tag) (h .1 .taken)) (c .before .before .before .before .before .if1 .came))) (rw (c .before .before .before .before .before .before .top-mode .ensures) at (c .before .before .once .ensures))
 
--- src/lib.rt:232:9
 take-step-requires : tie.Need-take-step-requires
 take-step-requires c κs =
     search needs
 
--- src/lib.rt:233:23
 enum-known-r : tie.Need-enum-known-r
 enum-known-r c =
     search needs
 
--- src/lib.rt:234:9
 returns-2 : tie.Need-returns-2
 returns-2 c =
     let a = c .before .before .before .before .before .before .before .before .before .args in
@@ -87,22 +77,18 @@ returns-2 c =
     let t = timed (a .limit) room (a .t .families) (a .t .registers) l (now (a .regs)) q b (c .before .before .before .before .before .top-scope .result) (c .before .before .before .before .before .top-scope .ensures) (a .at) (a .tag) content (omega (arith, c .before .before .before .if1 .left, ap₀ .0, ap₀ .1, ap₀ .2)) (omega (arith, ltb-false 6 (a .tag) (c .before .before .if2 .left))) (λ e. c .before .before .before .before .before .before .before .before .before .pre .0 .0 .ready e .long) in
     does-as _ _ _ _ _ run (t .1) (stepped-stops (a .limit) room (now (a .out)) (a .st) (a .at) (t .0) (c .before .take-step .result) (c .before .take-step .ensures) (c .match .keys2))
 
--- src/lib.rt:236:16
 add-from : tie.Need-add-from
 add-from c =
     search needs
 
--- src/lib.rt:238:9
 measure-requires : tie.Need-measure-requires
 measure-requires c κs =
     (c .before .before .before .before .before .before .before .before .before .before .before .before .before .before .pre .0 .1 .high, (rw (c .before .before .before .before .before .before .before .before .before .top-mode .ensures) (omega arith), omega (arith, c .before .before .before .before .before .before .before .before .before .before .before .before .before .before .pre .0 .1 .low, c .before .before .before .before .before .before .before .before .before .before .before .before .before .before .pre .0 .1 .high, c .before .before .before .before .before .before .before .before .before .before .before .before .before .before .pre .0 .1 .short)))
 
--- src/lib.rt:238:9
 same-length-2 : tie.Need-same-length-2
 same-length-2 c =
     search needs
 
--- src/lib.rt:238:9
 returns-3 : tie.Need-returns-3
 returns-3 c =
     let a = c .before .before .before .before .before .before .before .before .before .before .before .before .before .before .before .before .before .args in
@@ -116,17 +102,14 @@ returns-3 c =
     let run = actTop (a .limit) room (readTop (field (a .at) (a .tag) content)) g in
     does-as _ _ _ _ _ run (ap (λ (t : ℕ). actTop (a .limit) room (readTop (field (a .at) t content)) g) (c .before .before .before .before .before .if3 .taken) ∙ measure-acts (a .limit) room (a .t .families) (a .t .registers) l (now (a .regs)) q b (c .before .before .before .before .before .before .before .before .before .before .before .before .before .top-scope .result) (c .before .before .before .before .before .before .before .before .before .before .before .before .before .top-scope .ensures) (a .at) content) (step-taken (a .limit) room (now (a .out)) (a .st) s (a .at) _ _ _ (q₀ .left) (q₀ .same) (q₀ .more) (rw (c .before .before .before .before .before .before .before .before .before .before .before .before .top-mode .ensures) at (c .before .before .measure .ensures)))
 
--- src/lib.rt:241:9
 reset-requires : tie.Need-reset-requires
 reset-requires c κs =
     (c .before .before .before .before .before .before .before .before .before .before .before .before .before .before .before .pre .0 .1 .high, (rw (c .before .before .before .before .before .before .before .before .before .before .top-mode .ensures) (omega arith), omega (arith, c .before .before .before .before .before .before .before .before .before .before .before .before .before .before .before .pre .0 .1 .low, c .before .before .before .before .before .before .before .before .before .before .before .before .before .before .before .pre .0 .1 .high, c .before .before .before .before .before .before .before .before .before .before .before .before .before .before .before .pre .0 .1 .short)))
 
--- src/lib.rt:241:9
 same-length-3 : tie.Need-same-length-3
 same-length-3 c =
     search needs
 
--- src/lib.rt:241:9
 returns-4 : tie.Need-returns-4
 returns-4 c =
     let a = c .before .before .before .before .before .before .before .before .before .before .before .before .before .before .before .before .before .before .args in
@@ -140,7 +123,6 @@ returns-4 c =
     let run = actTop (a .limit) room (readTop (field (a .at) (a .tag) content)) g in
     does-as _ _ _ _ _ run (ap (λ (t : ℕ). actTop (a .limit) room (readTop (field (a .at) t content)) g) (c .before .before .before .before .before .if4 .taken) ∙ reset-acts (a .limit) room (a .t .families) (a .t .registers) l (now (a .regs)) q b (c .before .before .before .before .before .before .before .before .before .before .before .before .before .before .top-scope .result) (c .before .before .before .before .before .before .before .before .before .before .before .before .before .before .top-scope .ensures) (a .at) content) (step-taken (a .limit) room (now (a .out)) (a .st) s (a .at) _ _ _ (q₀ .left) (q₀ .same) (q₀ .more) (rw (c .before .before .before .before .before .before .before .before .before .before .before .before .before .top-mode .ensures) at (c .before .before .reset .ensures)))
 
--- src/lib.rt:243:5
 conditional-requires : tie.Need-conditional-requires
 conditional-requires c κs =
     let a = c .before .before .before .before .before .before .before .before .before .before .before .before .before .before .args in
@@ -148,12 +130,10 @@ conditional-requires c κs =
     let e : _≡_ {A = ℕ} (a .tag) 6 = omega (arith, c .before .before .before .before .before .before .before .before .if1 .left, ltb-false 6 (a .tag) (c .before .before .before .before .before .before .before .if2 .left), c .before .before .if3 .left, c .before .if4 .left, ap₀ .0, ap₀ .1, ap₀ .2) in
     (c .before .before .before .before .before .before .before .before .before .before .before .before .before .before .pre .0 .1, (c .before .before .before .before .before .before .before .before .before .before .before .before .before .before .pre .0 .0 .ready e, c .before .before .before .before .before .before .before .before .before .before .before .before .before .before .pre .1 .1 .1))
 
--- src/lib.rt:207:1
 same-length-4 : tie.Need-same-length-4
 same-length-4 c =
     search needs
 
--- src/lib.rt:207:1
 returns-5 : tie.Need-returns-5
 returns-5 c =
     let a = c .before .before .before .before .before .before .before .before .before .before .before .before .before .before .before .before .before .args in

@@ -9,13 +9,11 @@ use Rattle.language.specs.Machine.{whenBit}
 use Rattle.operands.specs.Meanings.{theBit}
 use Rattle.records.specs.Outcomes.{conditionOf}
 
--- src/lib.rt:96:9
 returns : tie.Need-returns
 unfolding conditionOf
 returns c =
     ap (λ (n : ℕ). whenBit (theBit (c .before .args .b .0)) n) (sym (c .if1 .taken))
 
--- src/lib.rt:91:1
 returns-2 : tie.Need-returns-2
 unfolding conditionOf
 returns-2 c =

@@ -8,7 +8,6 @@ use Rattle.operands.proofs.bit_at.Reads as bit-at-reads
 use Rattle.runs.proofs.condition.Reads as condition-reads
 use Rattle.runs.proofs.once.Reads as once-reads
 use Rattle.runs.proofs.under_mode.Reads as under-mode-reads
-use borrow.Author.Needs.{needs}
 use Prim.Native.Nat.{_+_, _-_, _<_}
 use mathlib.Core.Path.{refl, sym, _∙_}
 use mathlib.Core.List.{[]}
@@ -25,27 +24,22 @@ use Rattle.fields.proofs.Between.{in-whole, first-byte}
 use Rattle.runs.specs.TopFields.{topMode, ifAt}
 use Rattle.runs.proofs.TopTags.{if-over, if-stuck, if-bit, if-none}
 
--- src/lib.rt:186:16
 add-from : tie.Need-add-from
 add-from c =
     search needs
 
--- src/lib.rt:187:17
 add-first : tie.Need-add-first
 add-first c =
     search needs
 
--- src/lib.rt:188:33
 header-at-requires : tie.Need-header-at-requires
 header-at-requires c κs =
     search needs
 
--- src/lib.rt:188:26
 enum-known-mid : tie.Need-enum-known-mid
 enum-known-mid c =
     search needs
 
--- src/lib.rt:189:9
 returns : tie.Need-returns
 returns c =
     let a = c .before .before .before .before .args in
@@ -55,32 +49,26 @@ returns c =
     let run = ifAt (a .limit) room (a .at) (slice (a .at + 3) (a .to) l) fs (frameIn (topMode (a .limit) (a .seen) 0) [] (a .scope) (now (a .regs))) in
     does-as _ _ _ _ _ run (if-none (a .limit) room (a .seen) (now (a .regs)) (a .scope) (a .at) l (a .at + 3) (a .to) fs (rw (c .before .header-at .ensures) at (c .match .keys2))) (does-stuck (now (a .out)) (a .st) _)
 
--- src/lib.rt:191:16
 cast-here : tie.Need-cast-here
 cast-here c =
     search needs
 
--- src/lib.rt:192:11
 bit-at-requires : tie.Need-bit-at-requires
 bit-at-requires c κs =
     search needs
 
--- src/lib.rt:193:25
 enum-told : tie.Need-enum-told
 enum-told c =
     search needs
 
--- src/lib.rt:194:26
 enum-told-2 : tie.Need-enum-told-2
 enum-told-2 c =
     search needs
 
--- src/lib.rt:195:20
 enum-known-b : tie.Need-enum-known-b
 enum-known-b c =
     search needs
 
--- src/lib.rt:196:55
 shared-slice-read-condition : tie.Need-shared-slice-read-condition
 shared-slice-read-condition c =
     let a = c .before .before .before .before .before .before .before .before .before .before .before .before .args in
@@ -89,7 +77,6 @@ shared-slice-read-condition c =
     let low : a .at + 3 < a .to = omega (arith, c .before .before .before .before .before .before .before .before .before .before .before .before .pre .1 .0 .long, length-slice (a .at + 3) (a .to) l high) in
     omega (arith, low, high)
 
--- src/lib.rt:196:45
 condition-requires : tie.Need-condition-requires
 condition-requires c κs =
     let a = c .before .before .before .before .before .before .before .before .before .before .before .before .args in
@@ -98,18 +85,15 @@ condition-requires c κs =
     let low : a .at + 3 < a .to = omega (arith, c .before .before .before .before .before .before .before .before .before .before .before .before .pre .1 .0 .long, length-slice (a .at + 3) (a .to) l high) in
     omega (arith, c .before .before .before .before .before .before .before .before .before .before .before .before .pre .1 .0 .value, first-byte l (a .at + 3) (a .to) low high)
 
--- src/lib.rt:196:17
 under-mode-requires : tie.Need-under-mode-requires
 under-mode-requires c κs =
     search needs
 
--- src/lib.rt:197:13
 once-requires : tie.Need-once-requires
 once-requires c κs =
     let w = in-whole (now (c .before .before .before .before .before .before .before .before .before .before .before .before .before .before .before .before .args .program)) (c .before .before .before .before .before .before .before .before .before .before .before .before .before .before .before .before .args .at + 3 + 1) (c .before .before .before .before .before .before .before .before .before .before .before .before .before .before .before .before .args .to) _ (c .before .before .before .before .before .before .before .before .before .before .before .mid .given .0 .1 .0) (sym (c .before .before .before .before .before .before .before .before .before .before .before .before .before .header-at .ensures) ∙ c .before .before .before .before .before .before .before .before .before .before .before .mid .given .1) in
     ((w .high, c .before .before .before .before .before .before .before .before .before .before .before .before .before .before .before .before .pre .0 .high), (rw (c .before .before .under-mode .ensures) (omega arith), rw (c .before .before .under-mode .ensures) (c .before .before .before .before .before .before .before .before .before .before .before .before .before .before .before .before .pre .1 .1)))
 
--- src/lib.rt:168:1
 returns-2 : tie.Need-returns-2
 returns-2 c =
     let a = c .before .before .before .before .before .before .before .before .before .before .args in
@@ -119,7 +103,6 @@ returns-2 c =
     let run = ifAt (a .limit) room (a .at) (slice (a .at + 3) (a .to) l) fs (frameIn (topMode (a .limit) (a .seen) 0) [] (a .scope) (now (a .regs))) in
     does-as _ _ _ _ _ run (if-over (a .limit) room (a .seen) (now (a .regs)) (a .scope) (a .at) l (a .at + 3) (a .to) fs (c .before .before .bit-at .result) (c .before .before .bit-at .ensures) (c .enum-told .given .1)) (does-end (now (a .out)) (a .st) 24 (a .at))
 
--- src/lib.rt:168:1
 returns-3 : tie.Need-returns-3
 returns-3 c =
     let a = c .before .before .before .before .before .before .before .before .before .before .args in
@@ -129,12 +112,10 @@ returns-3 c =
     let run = ifAt (a .limit) room (a .at) (slice (a .at + 3) (a .to) l) fs (frameIn (topMode (a .limit) (a .seen) 0) [] (a .scope) (now (a .regs))) in
     does-as _ _ _ _ _ run (if-stuck (a .limit) room (a .seen) (now (a .regs)) (a .scope) (a .at) l (a .at + 3) (a .to) fs (c .before .before .bit-at .result) (c .before .before .bit-at .ensures) (c .enum-told2 .given .1)) (does-stuck (now (a .out)) (a .st) _)
 
--- src/lib.rt:168:1
 same-length : tie.Need-same-length
 same-length c =
     search needs
 
--- src/lib.rt:168:1
 returns-4 : tie.Need-returns-4
 returns-4 c =
     let a = c .before .before .before .before .before .before .before .before .before .before .before .before .before .before .before .before .before .before .before .args in

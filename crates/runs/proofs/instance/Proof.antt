@@ -7,7 +7,6 @@ use Rattle.fields.proofs.families.Reads as families-reads
 use Rattle.fields.proofs.long.Reads as long-reads
 use Rattle.runs.proofs.narrow.Reads as narrow-reads
 use Rattle.runs.proofs.sized.Reads as sized-reads
-use borrow.Author.Needs.{needs}
 use Prim.Native.Nat.{_-_}
 use mathlib.Core.Path.{sym, ap, _∙_}
 use native.Mathlib.Omega.{arith}
@@ -18,17 +17,14 @@ use Rattle.calls.proofs.FamilyTable.{tabled, tabled-fewer}
 use Rattle.runs.proofs.Conclusions.{concluded-early}
 use Rattle.runs.proofs.InstanceRuns.{no-family, instance-none, family-is}
 
--- src/lib.rt:464:39
 slice-aggregate-families : tie.Need-slice-aggregate-families
 slice-aggregate-families c =
     search needs
 
--- src/lib.rt:464:9
 families-requires : tie.Need-families-requires
 families-requires c κs =
     search needs
 
--- src/lib.rt:466:9
 returns : tie.Need-returns
 returns c =
     let a = c .before .before .before .before .before .before .before .args in
@@ -37,27 +33,22 @@ returns c =
     let p = c .before .before .before .before .before .before .before .pre in
     concluded-early (now (a .out)) 20 ∙ sym (instance-none (a .limit) room l (p .declares) (p .accepted) (a .family) (now (a .sizes)) (now (a .out)) (no-family (a .limit) room l (p .declares) (p .accepted) _ (c .before .before .families .result) (a .family) (c .before .before .families .ensures .0) (c .before .before .families .ensures .1) (c .if1 .taken)))
 
--- src/lib.rt:468:19
 mul-long : tie.Need-mul-long
 mul-long c =
     search needs
 
--- src/lib.rt:468:19
 array-read-long : tie.Need-array-read-long
 array-read-long c =
     search needs
 
--- src/lib.rt:468:9
 long-requires : tie.Need-long-requires
 long-requires c κs =
     search needs
 
--- src/lib.rt:469:24
 narrow-requires : tie.Need-narrow-requires
 narrow-requires c κs =
     search needs
 
--- src/lib.rt:469:5
 sized-requires : tie.Need-sized-requires
 sized-requires c κs =
     let a = c .before .before .before .before .before .before .before .before .before .before .before .args in
@@ -67,12 +58,10 @@ sized-requires c κs =
     let T = tabled l table (c .before .before .before .before .before .before .families .result) (p .declares) (p .accepted) (p .short) (c .before .before .before .before .before .before .families .ensures .0) in
     (rw (c .before .before .narrow .ensures, c .before .before .before .long .ensures .0) (T .each (a .family) (omega (arith, c .before .before .before .before .if1 .left))), rw (c .before .before .narrow .ensures) (tabled-fewer l table (c .before .before .before .before .before .before .families .result) (a .family) (omega (arith, c .before .before .before .before .if1 .left)) T))
 
--- src/lib.rt:459:1
 same-length : tie.Need-same-length
 same-length c =
     search needs
 
--- src/lib.rt:459:1
 returns-2 : tie.Need-returns-2
 returns-2 c =
     let a = c .before .before .before .before .before .before .before .before .before .before .before .before .before .before .args in

@@ -7,13 +7,11 @@ use native.Mathlib.Omega.{arith}
 use borrow.Author.Tests.{ltb-true, ltb-false}
 use Rattle.language.proofs.Integers.{clash}
 
--- src/lib.rt:294:9
 returns : tie.Need-returns
 returns c =
     let e = c .if1 .taken in
     record { yes = λ h. absurd (clash (sym h)); no = λ h. ((λ i. omega (arith, e, i)), (λ i. omega (arith, e, i)), (λ i. omega (arith, e, i))) }
 
--- src/lib.rt:290:1
 returns-2 : tie.Need-returns-2
 returns-2 c =
     let t = c .before .args .tag in

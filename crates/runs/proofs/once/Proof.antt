@@ -4,24 +4,20 @@ use Rattle.runs.proofs.once.Tie as tie
 use Rattle.runs.proofs.once.Reads as reads
 use Rattle.runs.proofs.once.Lts as lts
 use Rattle.unroller.proofs.run_list.Reads as run-list-reads
-use borrow.Author.Needs.{needs}
 use mathlib.Core.Path.{refl}
 use native.Mathlib.Omega.{arith}
 use native.Mathlib.Nat.{zero-add}
 use Rattle.unroller.specs.Runs.{Often}
 
--- src/lib.rt:147:5
 run-list-requires : tie.Need-run-list-requires
 unfolding Often
 run-list-requires c κs =
     (record { few = c .before .before .before .before .pre .1 .0; order = c .before .before .before .before .pre .0 .0; within = c .before .before .before .before .pre .0 .1; near = omega (arith, c .before .before .before .before .pre .1 .1 .short); here = omega (arith, c .before .before .before .before .pre .0 .0, c .before .before .before .before .pre .0 .1, c .before .before .before .before .pre .1 .1 .short) }, (c .before .before .before .before .pre .1 .1, refl))
 
--- src/lib.rt:130:1
 same-length : tie.Need-same-length
 same-length c =
     search needs
 
--- src/lib.rt:130:1
 returns : tie.Need-returns
 returns c =
     rw (zero-add (c .before .before .before .before .before .before .before .args .from)) at (c .before .before .run-list .ensures .0)

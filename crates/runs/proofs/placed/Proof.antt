@@ -9,7 +9,6 @@ use Rattle.fields.proofs.wide.Reads as wide-reads
 use Rattle.layout.proofs.lay_out.Reads as lay-out-reads
 use Rattle.runs.proofs.once.Reads as once-reads
 use Rattle.runs.proofs.top_mode.Reads as top-mode-reads
-use borrow.Author.Needs.{needs}
 use Prim.Native.Nat.{_+_, _-_}
 use native.Mathlib.Omega.{arith}
 use denote.Ref.{now}
@@ -26,47 +25,38 @@ use Rattle.layout.proofs.Instances.{laid-done, laid-past, laid-over, laid-stuck
 use Rattle.runs.specs.Whole.{started, familyWith}
 use Rattle.runs.proofs.InstanceRuns.{instance-runs, instance-ends, instance-stuck, ends-near}
 
--- src/lib.rt:391:9
 past-requires : tie.Need-past-requires
 past-requires c κs =
     search needs
 
--- src/lib.rt:392:16
 add-from : tie.Need-add-from
 add-from c =
     search needs
 
--- src/lib.rt:393:38
 add-wide : tie.Need-add-wide
 add-wide c =
     search needs
 
--- src/lib.rt:393:30
 shared-slice-read-wide : tie.Need-shared-slice-read-wide
 shared-slice-read-wide c =
     search needs
 
--- src/lib.rt:393:9
 wide-requires : tie.Need-wide-requires
 wide-requires c κs =
     search needs
 
--- src/lib.rt:394:66
 wide-requires-2 : tie.Need-wide-requires-2
 wide-requires-2 c κs =
     search needs
 
--- src/lib.rt:394:9
 lay-out-requires : tie.Need-lay-out-requires
 lay-out-requires c κs =
     search needs
 
--- src/lib.rt:397:22
 enum-known-answer : tie.Need-enum-known-answer
 enum-known-answer c =
     search needs
 
--- src/lib.rt:398:24
 cast-past : tie.Need-cast-past
 cast-past c =
     let a = c .before .before .before .before .before .before .before .before .before .before .before .args in
@@ -77,12 +67,10 @@ cast-past c =
     let p = c .before .answer .given .0 .0 in
     omega (arith, ends-near (a .limit) room l (a .k) (a .at) (c .before .before .before .before .before .before .before .before .before .before .before .pre .0) values 23 p (laid-past _ _ _ _ _ lays (a .at) p (c .before .answer .given .1)), c .before .before .before .before .before .before .before .before .before .before .before .pre .1 .0 .short)
 
--- src/lib.rt:401:22
 enum-known-answer-2 : tie.Need-enum-known-answer-2
 enum-known-answer-2 c =
     search needs
 
--- src/lib.rt:402:24
 cast-over : tie.Need-cast-over
 cast-over c =
     let a = c .before .before .before .before .before .before .before .before .before .before .before .args in
@@ -93,32 +81,26 @@ cast-over c =
     let p = c .before .answer2 .given .0 .0 in
     omega (arith, ends-near (a .limit) room l (a .k) (a .at) (c .before .before .before .before .before .before .before .before .before .before .before .pre .0) values 24 p (laid-over _ _ _ _ _ lays (a .at) p (c .before .answer2 .given .1)), c .before .before .before .before .before .before .before .before .before .before .before .pre .1 .0 .short)
 
--- src/lib.rt:405:26
 enum-told : tie.Need-enum-told
 enum-told c =
     search needs
 
--- src/lib.rt:407:17
 enum-told-2 : tie.Need-enum-told-2
 enum-told-2 c =
     search needs
 
--- src/lib.rt:407:17
 body-start-requires : tie.Need-body-start-requires
 body-start-requires c κs =
     search needs
 
--- src/lib.rt:408:17
 top-mode-requires : tie.Need-top-mode-requires
 top-mode-requires c κs =
     search needs
 
--- src/lib.rt:411:13
 once-requires : tie.Need-once-requires
 once-requires c κs =
     ((rw (c .before .before .before .before .before .before .before .before .before .before .before .before .before .past .ensures) (c .before .before .before .before .before .body-start .ensures .high), rw (c .before .before .before .before .before .before .before .before .before .before .before .before .before .past .ensures) (c .before .before .before .before .before .before .before .before .before .before .before .before .before .before .before .before .pre .0 .within)), (rw (c .before .before .before .before .top-mode .ensures) (omega (arith, c .before .before .before .before .before .before .before .before .before .before .before .before .before .before .before .before .pre .1 .1)), rw (c .before .before .before .before .top-mode .ensures) (c .before .before .before .before .before .before .before .before .before .before .before .before .before .before .before .before .pre .1 .0)))
 
--- src/lib.rt:375:1
 returns : tie.Need-returns
 returns c =
     let a = c .before .before .before .before .before .before .before .before .before .before .before .args in
@@ -130,7 +112,6 @@ returns c =
     let p = c .before .answer .given .0 .0 in
     does-as _ _ _ _ _ run (instance-ends (a .limit) room l (a .k) (a .at) (c .before .before .before .before .before .before .before .before .before .before .before .pre .0) values 23 p (laid-past _ _ _ _ _ lays (a .at) p (c .before .answer .given .1))) (does-end (now (a .out)) started 23 p)
 
--- src/lib.rt:375:1
 returns-2 : tie.Need-returns-2
 returns-2 c =
     let a = c .before .before .before .before .before .before .before .before .before .before .before .args in
@@ -142,7 +123,6 @@ returns-2 c =
     let p = c .before .answer2 .given .0 .0 in
     does-as _ _ _ _ _ run (instance-ends (a .limit) room l (a .k) (a .at) (c .before .before .before .before .before .before .before .before .before .before .before .pre .0) values 24 p (laid-over _ _ _ _ _ lays (a .at) p (c .before .answer2 .given .1))) (does-end (now (a .out)) started 24 p)
 
--- src/lib.rt:375:1
 returns-3 : tie.Need-returns-3
 returns-3 c =
     let a = c .before .before .before .before .before .before .before .before .before .before .args in
@@ -153,12 +133,10 @@ returns-3 c =
     let run = instanceRun (familyWith (a .limit) room l (a .k) (a .at)) values in
     does-as _ _ _ _ _ run (instance-stuck (a .limit) room l (a .k) (a .at) (c .before .before .before .before .before .before .before .before .before .before .pre .0) values (laid-stuck _ _ _ _ _ lays (a .at) (c .enum-told .given .1))) (does-stuck (now (a .out)) started _)
 
--- src/lib.rt:375:1
 same-length : tie.Need-same-length
 same-length c =
     search needs
 
--- src/lib.rt:375:1
 returns-4 : tie.Need-returns-4
 unfolding directionOf conditionOf
 returns-4 c =

@@ -5,7 +5,6 @@ use Rattle.runs.proofs.register.Reads as reads
 use Rattle.runs.proofs.register.Lts as lts
 use Rattle.fields.proofs.two_bytes.Reads as two-bytes-reads
 use Rattle.operands.proofs.declare.Reads as declare-reads
-use borrow.Author.Needs.{needs}
 use Prim.Native.Nat.{_*_, _+_}
 use mathlib.Core.Path.{ap, _∙_}
 use mathlib.Core.List.{[], _∷_, _++_}
@@ -16,67 +15,55 @@ use Rattle.language.specs.Machine.{Meaning}
 use Rattle.operands.specs.Meanings.{registersOf}
 use Rattle.runs.proofs.Declarations.{quantum-fits, classical-fits, quantum-more, classical-more, quantum-row, classical-row}
 
--- src/lib.rt:48:9
 two-bytes-requires : tie.Need-two-bytes-requires
 two-bytes-requires c κs =
     search needs
 
--- src/lib.rt:50:21
 add-registers : tie.Need-add-registers
 add-registers c =
     search needs
 
--- src/lib.rt:53:43
 cast-declare : tie.Need-cast-declare
 cast-declare c =
     let a = c .before .before .before .before .args in
     omega (arith, quantum-fits (a .quantum) (a .t) (now (a .content)) (c .before .before .before .before .pre) (c .before .before .two-bytes .result) (c .before .before .two-bytes .ensures .0) (c .before .if1 .taken), c .before .before .two-bytes .ensures .1)
 
--- src/lib.rt:53:57
 cast-declare-2 : tie.Need-cast-declare-2
 cast-declare-2 c =
     search needs
 
--- src/lib.rt:53:9
 declare-requires : tie.Need-declare-requires
 declare-requires c κs =
     search needs
 
--- src/lib.rt:54:22
 add-qubits : tie.Need-add-qubits
 add-qubits c =
     let a = c .before .before .before .before .before .args in
     omega (arith, quantum-fits (a .quantum) (a .t) (now (a .content)) (c .before .before .before .before .before .pre) (c .before .before .before .two-bytes .result) (c .before .before .before .two-bytes .ensures .0) (c .before .before .if1 .taken), c .before .before .before .two-bytes .ensures .1)
 
--- src/lib.rt:55:9
 returns : tie.Need-returns
 returns c =
     let a = c .before .before .before .before .before .args in
     (quantum-more (a .quantum) (a .t) (now (a .content)) (c .before .before .before .before .before .pre) (c .before .before .before .two-bytes .result) (c .before .before .before .two-bytes .ensures .0) (c .before .before .if1 .taken), c .declare .ensures ∙ ap (λ (m : Meaning). registersOf (take (3 * a .t .registers) (now (a .regs))) ++ (m ∷ [])) (quantum-row (a .quantum) (a .t) (now (a .content)) (c .before .before .before .before .before .pre) (c .before .before .before .two-bytes .result) (c .before .before .before .two-bytes .ensures .0) (c .before .before .if1 .taken)))
 
--- src/lib.rt:63:39
 cast-declare-3 : tie.Need-cast-declare-3
 cast-declare-3 c =
     let a = c .before .before .before .before .args in
     omega (arith, classical-fits (a .quantum) (a .t) (now (a .content)) (c .before .before .before .before .pre) (c .before .before .two-bytes .result) (c .before .before .two-bytes .ensures .0) (c .before .if1 .left), c .before .before .two-bytes .ensures .1)
 
--- src/lib.rt:63:53
 cast-declare-4 : tie.Need-cast-declare-4
 cast-declare-4 c =
     search needs
 
--- src/lib.rt:63:5
 declare-requires-2 : tie.Need-declare-requires-2
 declare-requires-2 c κs =
     search needs
 
--- src/lib.rt:64:16
 add-bits : tie.Need-add-bits
 add-bits c =
     let a = c .before .before .before .before .before .args in
     omega (arith, classical-fits (a .quantum) (a .t) (now (a .content)) (c .before .before .before .before .before .pre) (c .before .before .before .two-bytes .result) (c .before .before .before .two-bytes .ensures .0) (c .before .before .if1 .left), c .before .before .before .two-bytes .ensures .1)
 
--- src/lib.rt:43:1
 returns-2 : tie.Need-returns-2
 returns-2 c =
     let a = c .before .before .before .before .before .args in

@@ -5,34 +5,28 @@ use Rattle.runs.proofs.run.Reads as reads
 use Rattle.runs.proofs.run.Lts as lts
 use Rattle.fields.proofs.families.Reads as families-reads
 use Rattle.runs.proofs.top_fields.Reads as top-fields-reads
-use borrow.Author.Needs.{needs}
 use denote.Ref.{now}
 use lib.ListN.{length}
 use Rattle.language.specs.Read.{read}
 use Rattle.language.specs.Machine.{runTops, runProgram, nothingYet}
 use Rattle.runs.proofs.Conclusions.{does-all}
 
--- src/lib.rt:370:31
 slice-aggregate-families : tie.Need-slice-aggregate-families
 slice-aggregate-families c =
     search needs
 
--- src/lib.rt:370:5
 families-requires : tie.Need-families-requires
 families-requires c κs =
     search needs
 
--- src/lib.rt:371:5
 top-fields-requires : tie.Need-top-fields-requires
 top-fields-requires c κs =
     search needs
 
--- src/lib.rt:364:1
 same-length : tie.Need-same-length
 same-length c =
     search needs
 
--- src/lib.rt:364:1
 returns : tie.Need-returns
 unfolding runProgram
 returns c =

@@ -6,7 +6,6 @@ use Rattle.runs.proofs.sized.Lts as lts
 use Rattle.fields.proofs.wide.Reads as wide-reads
 use Rattle.layout.proofs.read_sizes.Reads as read-sizes-reads
 use Rattle.runs.proofs.placed.Reads as placed-reads
-use borrow.Author.Needs.{needs}
 use Prim.Native.Nat.{_+_, _-_}
 use mathlib.Core.Path.{refl, sym, _∙_}
 use denote.Ref.{now}
@@ -17,47 +16,38 @@ use Rattle.layout.proofs.Instances.{sizes-fit, sizes-wrong, sizes-large}
 use Rattle.runs.specs.Whole.{familyWith}
 use Rattle.runs.proofs.Conclusions.{does-all, concluded-early}
 
--- src/lib.rt:442:24
 add-many : tie.Need-add-many
 add-many c =
     search needs
 
--- src/lib.rt:442:16
 shared-slice-read-many : tie.Need-shared-slice-read-many
 shared-slice-read-many c =
     search needs
 
--- src/lib.rt:443:9
 wide-requires : tie.Need-wide-requires
 wide-requires c κs =
     search needs
 
--- src/lib.rt:445:11
 read-sizes-requires : tie.Need-read-sizes-requires
 read-sizes-requires c κs =
     search needs
 
--- src/lib.rt:446:31
 enum-told : tie.Need-enum-told
 enum-told c =
     search needs
 
--- src/lib.rt:447:28
 enum-told-2 : tie.Need-enum-told-2
 enum-told-2 c =
     search needs
 
--- src/lib.rt:448:53
 enum-told-3 : tie.Need-enum-told-3
 enum-told-3 c =
     search needs
 
--- src/lib.rt:448:23
 placed-requires : tie.Need-placed-requires
 placed-requires c κs =
     search needs
 
--- src/lib.rt:428:1
 returns : tie.Need-returns
 unfolding meaning
 returns c =
@@ -68,7 +58,6 @@ returns c =
     let m = getD l (a .at + 3) 0 in
     concluded-early (now (a .out)) 21 ∙ sym (sizes-wrong f (now (a .sizes)) (now (a .out)) m _ (c .before .before .read-sizes .result) refl (rw (c .before .before .before .before .wide .ensures .0) at (c .before .before .read-sizes .ensures)) (c .enum-told .given .1))
 
--- src/lib.rt:428:1
 returns-2 : tie.Need-returns-2
 unfolding meaning
 returns-2 c =
@@ -79,12 +68,10 @@ returns-2 c =
     let m = getD l (a .at + 3) 0 in
     concluded-early (now (a .out)) 22 ∙ sym (sizes-large f (now (a .sizes)) (now (a .out)) m _ (c .before .before .read-sizes .result) refl (rw (c .before .before .before .before .wide .ensures .0) at (c .before .before .read-sizes .ensures)) (c .enum-told2 .given .1))
 
--- src/lib.rt:428:1
 same-length : tie.Need-same-length
 same-length c =
     search needs
 
--- src/lib.rt:428:1
 returns-3 : tie.Need-returns-3
 unfolding meaning runInstance
 returns-3 c =

@@ -25,28 +25,23 @@ abbrev μ-loop : tie.MeasureT-loop
 μ-loop program table regs₀ limit out₀ to at₀ t₀ s₀ regs out at t s =
     length program - at
 
--- src/lib.rt:326:5
 loop-holds : tie.Need-loop-holds Inv-loop μ-loop
 loop-holds c =
     let a = c .before .before .args in
     at-start (a .limit) (now (a .program)) (now (a .out)) (now (a .regs)) (c .before .before .pre .0)
 
--- src/lib.rt:327:15
 header-at-requires : tie.Need-header-at-requires Inv-loop μ-loop
 header-at-requires c κs =
     omega arith
 
--- src/lib.rt:328:28
 enum-told : tie.Need-enum-told Inv-loop μ-loop
 enum-told c =
     search needs
 
--- src/lib.rt:328:28
 same-length : tie.Need-same-length Inv-loop μ-loop
 same-length c =
     c .before .before .before .loop .inv .same
 
--- src/lib.rt:328:28
 returns : tie.Need-returns Inv-loop μ-loop
 returns c =
     let a = c .before .before .before .before .before .before .args in
@@ -54,17 +49,14 @@ returns c =
     let i = c .before .before .before .loop in
     ends-here (a .limit) l (now (a .out)) (i .regs) (i .out) (i .at) (i .t) (i .s) (i .inv) (sym (c .before .before .header-at .ensures) ∙ c .enum-told .given .1)
 
--- src/lib.rt:329:28
 enum-told-2 : tie.Need-enum-told-2 Inv-loop μ-loop
 enum-told-2 c =
     search needs
 
--- src/lib.rt:329:28
 same-length-2 : tie.Need-same-length-2 Inv-loop μ-loop
 same-length-2 c =
     c .before .before .before .loop .inv .same
 
--- src/lib.rt:329:28
 returns-2 : tie.Need-returns-2 Inv-loop μ-loop
 returns-2 c =
     let a = c .before .before .before .before .before .before .args in
@@ -72,12 +64,10 @@ returns-2 c =
     let i = c .before .before .before .loop in
     cut-here (a .limit) l (now (a .out)) (i .regs) (i .out) (i .at) (i .t) (i .s) (i .inv) (sym (c .before .before .header-at .ensures) ∙ c .enum-told2 .given .1)
 
--- src/lib.rt:330:27
 enum-known-tag : tie.Need-enum-known-tag Inv-loop μ-loop
 enum-known-tag c =
     search needs
 
--- src/lib.rt:331:28
 add-from : tie.Need-add-from Inv-loop μ-loop
 add-from c =
     let a = c .before .before .before .before .before .before .before .args in
@@ -89,7 +79,6 @@ add-from c =
     let w = when-whole l (i .at) (length l) tag next (omega arith) e in
     omega (arith, w .low, w .high)
 
--- src/lib.rt:332:25
 sub-content : tie.Need-sub-content Inv-loop μ-loop
 sub-content c =
     let a = c .before .before .before .before .before .before .before .args in
@@ -101,7 +90,6 @@ sub-content c =
     let w = when-whole l (i .at) (length l) tag next (omega arith) e in
     omega (arith, w .low, w .high)
 
--- src/lib.rt:332:25
 part-content-start : tie.Need-part-content-start Inv-loop μ-loop
 part-content-start c =
     let a = c .before .before .before .before .before .before .before .args in
@@ -113,7 +101,6 @@ part-content-start c =
     let w = when-whole l (i .at) (length l) tag next (omega arith) e in
     omega (arith, w .low, w .high)
 
--- src/lib.rt:332:25
 part-content-end : tie.Need-part-content-end Inv-loop μ-loop
 part-content-end c =
     let a = c .before .before .before .before .before .before .before .args in
@@ -125,12 +112,10 @@ part-content-end c =
     let w = when-whole l (i .at) (length l) tag next (omega arith) e in
     omega (arith, w .low, w .high)
 
--- src/lib.rt:333:20
 is-declaring-requires : tie.Need-is-declaring-requires Inv-loop μ-loop
 is-declaring-requires c κs =
     search needs
 
--- src/lib.rt:334:21
 declare-requires : tie.Need-declare-requires Inv-loop μ-loop
 declare-requires c κs =
     let a = c .before .before .before .before .before .before .before .before .before .before .before .args in
@@ -144,7 +129,6 @@ declare-requires c κs =
     let d = declare-ready (a .limit) l (now (a .out)) (i .regs) (i .out) (i .at) (i .t) (i .s) (i .inv) tag next e (c .before .before .is-declaring .ensures .yes (c .before .if1 .taken)) in
     subst (λ (p : List ℕ). DeclareReady tag p (i .t)) (sym k) d
 
--- src/lib.rt:326:5
 loop-less : tie.Need-loop-less Inv-loop μ-loop
 loop-less c =
     let a = c .before .before .before .before .before .before .before .before .before .before .before .before .args in
@@ -156,7 +140,6 @@ loop-less c =
     let w = when-whole l (i .at) (length l) tag next (omega arith) e in
     omega (arith, w .low, w .high)
 
--- src/lib.rt:326:5
 loop-again : tie.Need-loop-again Inv-loop μ-loop
 loop-again c =
     let a = c .before .before .before .before .before .before .before .before .before .before .before .before .args in
@@ -169,7 +152,6 @@ loop-again c =
     let k = part-slice (i .at + 3) next l (w .low) in
     declared-on (a .limit) l (now (a .out)) (i .regs) (i .out) (i .at) (i .t) (i .s) (i .inv) tag next e _ _ (c .before .before .before .is-declaring .ensures .yes (c .before .before .if1 .taken)) (rw k at (c .declare .ensures))
 
--- src/lib.rt:338:21
 act-top-requires : tie.Need-act-top-requires Inv-loop μ-loop
 act-top-requires c κs =
     let a = c .before .before .before .before .before .before .before .before .before .before .before .before .args in
@@ -180,17 +162,14 @@ act-top-requires c κs =
     let next = c .before .before .before .before .before .before .tag .given .0 .1 .0 in
     ((acts-ready (a .limit) l (now (a .out)) (i .regs) (i .out) (i .at) (i .t) (i .s) (i .inv) tag next e (c .before .before .before .is-declaring .ensures .no (c .before .before .if1 .left)), field-within l (i .at) tag next e (c .before .before .before .before .before .before .before .before .before .before .before .before .pre .0 .short)), (field-alone l (i .at) tag next e, ((i .inv .few, few-families (a .limit) l (now (a .out)) (i .regs) (i .out) (i .at) (i .t) (i .s) (i .inv) (now (a .table)) (c .before .before .before .before .before .before .before .before .before .before .before .before .pre .0) (c .before .before .before .before .before .before .before .before .before .before .before .before .pre .1)), tabled-here (a .limit) l (now (a .out)) (i .regs) (i .out) (i .at) (i .t) (i .s) (i .inv) (now (a .table)) (c .before .before .before .before .before .before .before .before .before .before .before .before .pre .0) (c .before .before .before .before .before .before .before .before .before .before .before .before .pre .1))))
 
--- src/lib.rt:339:35
 enum-known-r : tie.Need-enum-known-r Inv-loop μ-loop
 enum-known-r c =
     search needs
 
--- src/lib.rt:340:21
 same-length-3 : tie.Need-same-length-3 Inv-loop μ-loop
 same-length-3 c =
     omega (arith, c .before .before .before .before .before .before .before .before .before .before .before .before .before .loop .inv .same)
 
--- src/lib.rt:340:21
 returns-3 : tie.Need-returns-3 Inv-loop μ-loop
 returns-3 c =
     let a = c .before .before .before .before .before .before .before .before .before .before .before .before .before .before .before .before .args in
@@ -201,7 +180,6 @@ returns-3 c =
     let next = c .before .before .before .before .before .before .before .before .before .before .tag .given .0 .1 .0 in
     acted-last (a .limit) l (now (a .out)) (i .regs) (i .out) (i .at) (i .t) (i .s) (i .inv) tag next e (c .before .before .before .before .before .before .before .is-declaring .ensures .no (c .before .before .before .before .before .before .if1 .left)) _ (c .before .before .before .act-top .result) (c .before .before .before .act-top .ensures) (c .match2 .keys2)
 
--- src/lib.rt:326:5
 loop-less-2 : tie.Need-loop-less-2 Inv-loop μ-loop
 loop-less-2 c =
     let a = c .before .before .before .before .before .before .before .before .before .before .before .before .before .before .before .before .before .before .args in
@@ -213,7 +191,6 @@ loop-less-2 c =
     let w = when-whole l (i .at) (length l) tag next (omega arith) e in
     omega (arith, w .low, w .high)
 
--- src/lib.rt:326:5
 loop-again-2 : tie.Need-loop-again-2 Inv-loop μ-loop
 loop-again-2 c =
     let a = c .before .before .before .before .before .before .before .before .before .before .before .before .before .before .before .before .before .before .args in

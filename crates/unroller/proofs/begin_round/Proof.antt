@@ -7,7 +7,6 @@ use Rattle.fields.proofs.wide.Reads as wide-reads
 use Rattle.gates.proofs.turn.Reads as turn-reads
 use Rattle.indexes.proofs.tell_values.Reads as tell-values-reads
 use Rattle.records.proofs.take_step.Reads as take-step-reads
-use borrow.Author.Needs.{needs}
 use mathlib.Core.Path.{_≡_, refl, _∙_}
 use native.Mathlib.Omega.{arith}
 use denote.Ref.{now}
@@ -20,63 +19,52 @@ use Rattle.gates.specs.Gates.{turnOf}
 use Rattle.gates.proofs.RoundValues.{narrow}
 use Rattle.unroller.proofs.Rounds.{not-true, not-false, turned-once, turned-none, turns-are, turned-goes}
 
--- src/lib.rt:54:9
 returns : tie.Need-returns
 returns c =
     let a = c .before .args in
     turned-once (a .looping) (a .mode) (a .place) (a .start) (a .i) (now (a .vars)) (a .st) (not-true (a .looping) (c .if1 .taken))
 
--- src/lib.rt:56:9
 take-step-requires : tie.Need-take-step-requires
 take-step-requires c κs =
     search needs
 
--- src/lib.rt:57:23
 enum-known-r : tie.Need-enum-known-r
 enum-known-r c =
     search needs
 
--- src/lib.rt:58:9
 returns-2 : tie.Need-returns-2
 returns-2 c =
     let a = c .before .before .before .args in
     turned-none (a .looping) (a .mode) (a .place) (a .start) (a .i) (now (a .vars)) (a .st) (not-false (a .looping) (c .before .before .if1 .left)) (c .before .take-step .result) (c .before .take-step .ensures) (c .match .keys2)
 
--- src/lib.rt:60:16
 wide-requires : tie.Need-wide-requires
 wide-requires c κs =
     search needs
 
--- src/lib.rt:60:16
 sub-last : tie.Need-sub-last
 sub-last c =
     let a = c .before .before .before .before .before .before .args in
     let w = turns-are (a .looping) (a .mode) (a .place) (a .start) (a .i) (now (a .vars)) (a .st) (not-false (a .looping) (c .before .before .before .before .before .if1 .left)) (c .before .before .before .before .before .before .pre .1) in
     omega (arith, w .0, c .wide .ensures)
 
--- src/lib.rt:61:5
 tell-values-requires : tie.Need-tell-values-requires
 tell-values-requires c κs =
     search needs
 
--- src/lib.rt:62:18
 turn-requires : tie.Need-turn-requires
 turn-requires c κs =
     let a = c .before .before .before .before .before .before .before .before .args in
     let w = turns-are (a .looping) (a .mode) (a .place) (a .start) (a .i) (now (a .vars)) (a .st) (not-false (a .looping) (c .before .before .before .before .before .before .before .if1 .left)) (c .before .before .before .before .before .before .before .before .pre .1) in
     rw (range-back {z = a .start} (w .1)) (w .1, w .2)
 
--- src/lib.rt:62:5
 mul-t12 : tie.Need-mul-t12
 mul-t12 c =
     search needs
 
--- src/lib.rt:62:5
 element-set-from-vars : tie.Need-element-set-from-vars
 element-set-from-vars c =
     search needs
 
--- src/lib.rt:40:1
 returns-3 : tie.Need-returns-3
 returns-3 c =
     let a = c .before .before .before .before .before .before .before .before .before .args in

@@ -25,38 +25,31 @@ abbrev μ-loop : tie.MeasureT-loop
 μ-loop p base to r₀ r =
     to - r .from
 
--- src/lib.rt:95:5
 loop-holds : tie.Need-loop-holds Inv-loop μ-loop
 loop-holds c =
     let a = c .before .args in
     inside-self (now (a .bytes)) (a .base) (a .to) (a .e) (c .before .pre)
 
--- src/lib.rt:97:40
 header-at-requires : tie.Need-header-at-requires Inv-loop μ-loop
 header-at-requires c κs =
     c .before .before .loop .inv .able .ready .within
 
--- src/lib.rt:97:27
 enum-known-tag : tie.Need-enum-known-tag Inv-loop μ-loop
 enum-known-tag c =
     search needs
 
--- src/lib.rt:98:13
 returns : tie.Need-returns Inv-loop μ-loop
 returns c =
     c .before .before .before .before .loop .inv
 
--- src/lib.rt:101:13
 returns-2 : tie.Need-returns-2 Inv-loop μ-loop
 returns-2 c =
     c .before .before .before .before .before .before .before .loop .inv
 
--- src/lib.rt:104:13
 returns-3 : tie.Need-returns-3 Inv-loop μ-loop
 returns-3 c =
     c .before .before .before .before .before .before .before .before .loop .inv
 
--- src/lib.rt:106:20
 add-from : tie.Need-add-from Inv-loop μ-loop
 add-from c =
     let a = c .before .before .before .before .before .before .before .before .before .before .args in
@@ -65,7 +58,6 @@ add-from c =
     let w = content (now (a .bytes)) (a .base) (a .to) (a .e) (i .r) (i .inv) (c .before .before .before .before .before .before .if1 .taken) _ _ is in
     omega (arith, w .low, w .near, w .few, w .deep)
 
--- src/lib.rt:107:21
 add-place : tie.Need-add-place Inv-loop μ-loop
 add-place c =
     let a = c .before .before .before .before .before .before .before .before .before .before .args in
@@ -74,7 +66,6 @@ add-place c =
     let w = content (now (a .bytes)) (a .base) (a .to) (a .e) (i .r) (i .inv) (c .before .before .before .before .before .before .if1 .taken) _ _ is in
     omega (arith, w .low, w .near, w .few, w .deep)
 
--- src/lib.rt:108:20
 sub-size : tie.Need-sub-size Inv-loop μ-loop
 sub-size c =
     let a = c .before .before .before .before .before .before .before .before .before .before .args in
@@ -83,7 +74,6 @@ sub-size c =
     let w = content (now (a .bytes)) (a .base) (a .to) (a .e) (i .r) (i .inv) (c .before .before .before .before .before .before .if1 .taken) _ _ is in
     omega (arith, w .low, w .near, w .few, w .deep)
 
--- src/lib.rt:109:13
 inner-requires : tie.Need-inner-requires Inv-loop μ-loop
 inner-requires c κs =
     let a = c .before .before .before .before .before .before .before .before .before .before .args in
@@ -92,7 +82,6 @@ inner-requires c κs =
     let w = content (now (a .bytes)) (a .base) (a .to) (a .e) (i .r) (i .inv) (c .before .before .before .before .before .before .if1 .taken) _ _ is in
     omega (arith, w .low, w .near, w .few, w .deep)
 
--- src/lib.rt:110:33
 enter-requires : tie.Need-enter-requires Inv-loop μ-loop
 enter-requires c κs =
     let a = c .before .before .before .before .before .before .before .before .before .before .before .args in
@@ -101,17 +90,14 @@ enter-requires c κs =
     let w = content (now (a .bytes)) (a .base) (a .to) (a .e) (i .r) (i .inv) (c .before .before .before .before .before .before .before .if1 .taken) _ _ is in
     omega (arith, w .near)
 
--- src/lib.rt:110:27
 enum-known-st : tie.Need-enum-known-st Inv-loop μ-loop
 enum-known-st c =
     search needs
 
--- src/lib.rt:111:13
 returns-4 : tie.Need-returns-4 Inv-loop μ-loop
 returns-4 c =
     c .before .before .before .before .before .before .before .before .before .before .before .loop .inv
 
--- src/lib.rt:95:5
 loop-less : tie.Need-loop-less Inv-loop μ-loop
 loop-less c =
     let a = c .before .before .before .before .before .before .before .before .before .before .before .before .before .before .before .args in
@@ -120,7 +106,6 @@ loop-less c =
     let w = content (now (a .bytes)) (a .base) (a .to) (a .e) (i .r) (i .inv) (c .before .before .before .before .before .before .before .before .before .before .before .if1 .taken) _ _ is in
     omega (arith, w .low)
 
--- src/lib.rt:95:5
 loop-again : tie.Need-loop-again Inv-loop μ-loop
 loop-again c =
     let a = c .before .before .before .before .before .before .before .before .before .before .before .before .before .before .before .args in
@@ -131,7 +116,6 @@ loop-again c =
     let q : StepTaken n (c .before .before .before .before .before .before .before .before .tag .given .0 .0) (a .to - (i .r .from + 3)) (i .r .st) s = one-steps n (c .before .before .before .before .before .before .before .before .tag .given .0 .0) (a .to - (i .r .from + 3)) _ (i .r .st) s (c .before .before .before .enter .result) (rw (c .before .before .before .before .inner .ensures) at (c .before .before .before .enter .ensures)) (c .before .st .given .1) in
     rw (c .before .before .before .before .inner .ensures) (inside-more (now (a .bytes)) (a .base) (a .to) (a .e) (i .r) (i .inv) (c .before .before .before .before .before .before .before .before .before .before .before .if1 .taken) _ _ is (c .before .before .before .before .before .before .if2 .left) (c .before .before .before .before .before .if3 .left) s q)
 
--- src/lib.rt:90:1
 returns-5 : tie.Need-returns-5 Inv-loop μ-loop
 returns-5 c =
     c .before .before .loop .inv

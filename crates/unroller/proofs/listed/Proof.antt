@@ -11,32 +11,26 @@ use mathlib.Core.Path.{ap, _∙_}
 use lib.ListN.{getD}
 use denote.Ref.{now}
 
--- src/lib.rt:41:5
 tell-table-requires : tie.Need-tell-table-requires
 tell-table-requires c κs =
     search needs
 
--- src/lib.rt:42:16
 wide-requires : tie.Need-wide-requires
 wide-requires c κs =
     search needs
 
--- src/lib.rt:42:10
 mul-long : tie.Need-mul-long
 mul-long c =
     search needs
 
--- src/lib.rt:42:10
 element-copy-out-long : tie.Need-element-copy-out-long
 element-copy-out-long c =
     search needs
 
--- src/lib.rt:42:5
 long-requires : tie.Need-long-requires
 long-requires c κs =
     search needs
 
--- src/lib.rt:37:1
 returns : tie.Need-returns
 returns c =
     c .long .ensures .0 ∙ ap (λ (i : ℕ). getD (now (c .before .before .before .before .before .args .table)) i 0) (c .before .before .wide .ensures .0)

@@ -17,37 +17,30 @@ use Rattle.check_index.proofs.Forms.{index-end, index-cut, index-deep, 
 use Rattle.check_index.proofs.Answers.{form-passes-refused, form-passes-upto, form-ends-passes}
 
 module _ (t : ℕ) where
-  -- src/lib.rt:162:11
   pub header-at-requires : lts.Need-header-at-requires (calls t) (at t) Post
   header-at-requires c κs =
       search needs
 
-  -- src/lib.rt:163:24
   pub enum-told : lts.Need-enum-told (calls t) (at t) Post
   enum-told c =
       search needs
 
-  -- src/lib.rt:164:24
   pub enum-told-2 : lts.Need-enum-told-2 (calls t) (at t) Post
   enum-told-2 c =
       search needs
 
-  -- src/lib.rt:165:23
   pub enum-known-tag : lts.Need-enum-known-tag (calls t) (at t) Post
   enum-known-tag c =
       search needs
 
-  -- src/lib.rt:166:17
   pub index-tag-requires : lts.Need-index-tag-requires (calls t) (at t) Post
   index-tag-requires c κs =
       search needs
 
-  -- src/lib.rt:168:17
   pub too-deep-requires : lts.Need-too-deep-requires (calls t) (at t) Post
   too-deep-requires c κs =
       search needs
 
-  -- src/lib.rt:168:17
   pub returns : lts.Need-returns (calls t) (at t) Post
   unfolding checkedForm
   returns c =
@@ -58,12 +51,10 @@ module _ (t : ℕ) where
       let w = when-whole program (a .at) (a .to) tag next (c .before .before .before .before .before .before .before .before .pre .1 .0) (sym (c .before .before .before .before .before .before .header-at .ensures) ∙ c .before .before .before .before .tag .given .1) in
       (index-deep program (a .at) (a .to) (a .parent) (a .levels) (a .variables) tag next w (c .too-deep .result) (c .too-deep .ensures (a .at) (slice (a .at + 3) next program)) (c .before .if1 .taken), tt)
 
-  -- src/lib.rt:170:25
   pub sub-below : lts.Need-sub-below (calls t) (at t) Post
   sub-below c =
       search needs
 
-  -- src/lib.rt:171:24
   pub add-from : lts.Need-add-from (calls t) (at t) Post
   add-from c =
       let a = c .before .before .before .before .before .before .before .args in
@@ -76,17 +67,14 @@ module _ (t : ℕ) where
       let q = c .before .before .before .before .before .before .before .pre .1 .0 in
       omega arith
 
-  -- src/lib.rt:173:36
   pub enum-told-3 : lts.Need-enum-told-3 (calls t) (at t) Post
   enum-told-3 c =
       search needs
 
-  -- src/lib.rt:174:65
   pub enum-told-4 : lts.Need-enum-told-4 (calls t) (at t) Post
   enum-told-4 c =
       search needs
 
-  -- src/lib.rt:174:38
   pub literal-requires : lts.Need-literal-requires (calls t) (at t) Post
   literal-requires c κs =
       let a = c .before .before .before .before .before .before .before .before .before .before .args in
@@ -98,12 +86,10 @@ module _ (t : ℕ) where
       let q = c .before .before .before .before .before .before .before .before .before .before .pre .1 .0 in
       (w .low, omega arith)
 
-  -- src/lib.rt:175:78
   pub enum-told-5 : lts.Need-enum-told-5 (calls t) (at t) Post
   enum-told-5 c =
       search needs
 
-  -- src/lib.rt:175:39
   pub variable-requires : lts.Need-variable-requires (calls t) (at t) Post
   variable-requires c κs =
       let a = c .before .before .before .before .before .before .before .before .before .before .args in
@@ -115,12 +101,10 @@ module _ (t : ℕ) where
       let q = c .before .before .before .before .before .before .before .before .before .before .pre .1 .0 in
       ((w .low, omega arith), c .before .before .before .before .before .before .before .before .before .before .pre .1 .1)
 
-  -- src/lib.rt:176:32
   pub enum-known-kind : lts.Need-enum-known-kind (calls t) (at t) Post
   enum-known-kind c =
       search needs
 
-  -- src/lib.rt:177:25
   pub index-requires : lts.Need-index-requires (calls t) (at t) Post
   index-requires c κs =
       let a = c .before .before .before .before .before .before .before .before .before .before .before .args in
@@ -133,17 +117,14 @@ module _ (t : ℕ) where
       let z = c .before .before .before .before .if1 .left in
       (omega (arith, c .before .before .before .before .before .before .before .before .before .before .before .pre .0), (omega arith, c .before .before .before .before .before .before .before .before .before .before .before .pre .1 .1))
 
-  -- src/lib.rt:178:36
   pub enum-known-left : lts.Need-enum-known-left (calls t) (at t) Post
   enum-known-left c =
       search needs
 
-  -- src/lib.rt:179:25
   pub enum-told-6 : lts.Need-enum-told-6 (calls t) (at t) Post
   enum-told-6 c =
       search needs
 
-  -- src/lib.rt:179:25
   pub returns-2 : lts.Need-returns-2 (calls t) (at t) Post
   returns-2 c =
       let a = c .before .before .before .before .before .before .before .before .before .before .before .before .before .before .args in
@@ -157,7 +138,6 @@ module _ (t : ℕ) where
       let l = c .before .before .index .last .1 .1 .1 .1 .1 .1 .0 in
       (both-left program (a .at) next (a .variables) (a .levels - 1) op r l (c .before .before .index .ensures .0) (c .before .match3 .keys2) ∙ acts, form-passes-refused program (a .at) (a .to) r l (c .before .match3 .keys2))
 
-  -- src/lib.rt:182:25
   pub index-requires-2 : lts.Need-index-requires-2 (calls t) (at t) Post
   index-requires-2 c κs =
       let a = c .before .before .before .before .before .before .before .before .before .before .before .before .before .before .before .before .args in
@@ -170,17 +150,14 @@ module _ (t : ℕ) where
       let z = c .before .before .before .before .before .before .before .before .before .if1 .left in
       (omega (arith, c .before .before .before .before .before .before .before .before .before .before .before .before .before .before .before .before .pre .0), (omega arith, c .before .before .before .before .before .before .before .before .before .before .before .before .before .before .before .before .pre .1 .1))
 
-  -- src/lib.rt:183:36
   pub enum-known-right : lts.Need-enum-known-right (calls t) (at t) Post
   enum-known-right c =
       search needs
 
-  -- src/lib.rt:184:25
   pub enum-told-7 : lts.Need-enum-told-7 (calls t) (at t) Post
   enum-told-7 c =
       search needs
 
-  -- src/lib.rt:184:25
   pub returns-3 : lts.Need-returns-3 (calls t) (at t) Post
   returns-3 c =
       let a = c .before .before .before .before .before .before .before .before .before .before .before .before .before .before .before .before .before .before .before .args in
@@ -198,7 +175,6 @@ module _ (t : ℕ) where
       let k = c .before .before .index2 .last .1 .1 .1 .1 .1 .1 .0 in
       (both-right program (a .at) next (a .variables) (a .levels - 1) op r l (c .before .before .before .before .before .before .before .index .ensures .0) mid (c .before .before .before .before .before .left .given .1) (v .0) s k (c .before .before .index2 .ensures .0) l (c .before .match4 .keys2) ∙ acts, form-passes-refused program (a .at) (a .to) s l (c .before .match4 .keys2))
 
-  -- src/lib.rt:187:25
   pub returns-4 : lts.Need-returns-4 (calls t) (at t) Post
   unfolding checkedForm
   returns-4 c =
@@ -221,7 +197,6 @@ module _ (t : ℕ) where
       let q = c .before .before .before .before .before .before .before .before .before .before .before .before .before .before .before .before .before .before .before .before .before .pre .1 .0 in
       (both-leftover program (a .at) next (a .variables) (a .levels - 1) op r l (c .before .before .before .before .before .before .before .before .before .index .ensures .0) mid (c .before .before .before .before .before .before .before .left .given .1) (v .0) s k (c .before .before .before .before .index2 .ensures .0) end (c .before .before .right .given .1) (u .0) (c .if2 .taken) (omega arith) ∙ acts, tt)
 
-  -- src/lib.rt:189:21
   pub combine-requires : lts.Need-combine-requires (calls t) (at t) Post
   combine-requires c κs =
       let a = c .before .before .before .before .before .before .before .before .before .before .before .before .before .before .before .before .before .before .before .before .before .before .before .args in
@@ -241,21 +216,18 @@ module _ (t : ℕ) where
       let u = form-passes-upto program mid next s k end (c .before .before .before .before .right .given .1) (c .before .before .before .before .before .before .index2 .ensures .1) in
       (v .1, u .1)
 
-  -- src/lib.rt:148:1
   pub returns-5 : lts.Need-returns-5 (calls t) (at t) Post
   unfolding checkedForm
   returns-5 c =
       let a = c .before .before .before .before .args in
       (index-end (now (a .program)) (a .at) (a .to) (a .parent) (a .levels) (a .variables) (when-end (now (a .program)) (a .at) (a .to) (c .before .before .before .before .pre .1 .0) (sym (c .before .before .header-at .ensures) ∙ c .enum-told .given .1)), tt)
 
-  -- src/lib.rt:148:1
   pub returns-6 : lts.Need-returns-6 (calls t) (at t) Post
   unfolding checkedForm
   returns-6 c =
       let a = c .before .before .before .before .args in
       (index-cut (now (a .program)) (a .at) (a .to) (a .parent) (a .levels) (a .variables) (when-cut (now (a .program)) (a .at) (a .to) (c .before .before .before .before .pre .1 .0) (sym (c .before .before .header-at .ensures) ∙ c .enum-told2 .given .1)), tt)
 
-  -- src/lib.rt:148:1
   pub returns-7 : lts.Need-returns-7 (calls t) (at t) Post
   unfolding checkedForm formOf
   returns-7 c =
@@ -266,7 +238,6 @@ module _ (t : ℕ) where
       let w = when-whole program (a .at) (a .to) tag next (c .before .before .before .before .before .before .before .before .before .pre .1 .0) (sym (c .before .before .before .before .before .before .before .header-at .ensures) ∙ c .before .before .before .before .before .tag .given .1) in
       (index-acts program (a .at) (a .to) (a .parent) (a .levels) (a .variables) tag next w Other (c .before .before .if1 .left) (c .before .before .before .index-tag .result) (c .before .before .before .index-tag .ensures) (c .enum-told3 .given .1), tt)
 
-  -- src/lib.rt:148:1
   pub returns-8 : lts.Need-returns-8 (calls t) (at t) Post
   returns-8 c =
       let a = c .before .before .before .before .before .before .before .before .before .before .before .args in
@@ -276,7 +247,6 @@ module _ (t : ℕ) where
       let w = when-whole program (a .at) (a .to) tag next (c .before .before .before .before .before .before .before .before .before .before .before .pre .1 .0) (sym (c .before .before .before .before .before .before .before .before .before .header-at .ensures) ∙ c .before .before .before .before .before .before .before .tag .given .1) in
       (c .literal .ensures .0 (a .variables) ∙ index-acts program (a .at) (a .to) (a .parent) (a .levels) (a .variables) tag next w Literal (c .before .before .before .before .if1 .left) (c .before .before .before .before .before .index-tag .result) (c .before .before .before .before .before .index-tag .ensures) (c .before .before .enum-told4 .given .1), form-ends-passes program (a .at) (a .to) tag next (c .literal .result) (c .literal .last .1 .1 .1 .0) w (c .literal .ensures .1))
 
-  -- src/lib.rt:148:1
   pub returns-9 : lts.Need-returns-9 (calls t) (at t) Post
   returns-9 c =
       let a = c .before .before .before .before .before .before .before .before .before .before .before .args in
@@ -286,7 +256,6 @@ module _ (t : ℕ) where
       let w = when-whole program (a .at) (a .to) tag next (c .before .before .before .before .before .before .before .before .before .before .before .pre .1 .0) (sym (c .before .before .before .before .before .before .before .before .before .header-at .ensures) ∙ c .before .before .before .before .before .before .before .tag .given .1) in
       (c .variable .ensures .0 ∙ index-acts program (a .at) (a .to) (a .parent) (a .levels) (a .variables) tag next w Variable (c .before .before .before .before .if1 .left) (c .before .before .before .before .before .index-tag .result) (c .before .before .before .before .before .index-tag .ensures) (c .before .before .enum-told5 .given .1), form-ends-passes program (a .at) (a .to) tag next (c .variable .result) (c .variable .last .1 .1 .1 .1 .0) w (c .variable .ensures .1))
 
-  -- src/lib.rt:148:1
   pub returns-10 : lts.Need-returns-10 (calls t) (at t) Post
   returns-10 c =
       let a = c .before .before .before .before .before .before .before .before .before .before .before .before .before .before .before .before .before .before .before .before .before .before .before .before .args in

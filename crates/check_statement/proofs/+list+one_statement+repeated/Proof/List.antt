@@ -26,22 +26,18 @@ abbrev pub μ-loop : lts.MeasureT-loop
     to - at
 
 module _ (t : ℕ) where
-  -- src/lib.rt:182:5
   pub loop-holds : lts.Need-loop-holds (calls t) (at t) Post Inv-loop μ-loop
   loop-holds c =
       refl
 
-  -- src/lib.rt:183:15
   pub header-at-requires : lts.Need-header-at-requires (calls t) (at t) Post Inv-loop μ-loop
   header-at-requires c κs =
       c .before .before .before .pre .1 .0
 
-  -- src/lib.rt:184:28
   pub enum-told : lts.Need-enum-told (calls t) (at t) Post Inv-loop μ-loop
   enum-told c =
       search needs
 
-  -- src/lib.rt:184:28
   pub returns : lts.Need-returns (calls t) (at t) Post Inv-loop μ-loop
   unfolding checkedPart
   returns c =
@@ -51,12 +47,10 @@ module _ (t : ℕ) where
       let fs = tabulated (signatureAt (now (a .families)) (now (a .kinds)) (now (a .sizes))) (a .s .families) 0 in
       list-end (a .levels) program (c .before .before .before .loop .at) (a .to) s (when-end program (c .before .before .before .loop .at) (a .to) (c .before .before .before .before .before .before .pre .1 .0) (sym (c .before .before .header-at .ensures) ∙ c .enum-told .given .1)) ∙ sym (c .before .before .before .loop .inv)
 
-  -- src/lib.rt:185:28
   pub enum-told-2 : lts.Need-enum-told-2 (calls t) (at t) Post Inv-loop μ-loop
   enum-told-2 c =
       search needs
 
-  -- src/lib.rt:185:28
   pub returns-2 : lts.Need-returns-2 (calls t) (at t) Post Inv-loop μ-loop
   unfolding checkedPart
   returns-2 c =
@@ -66,12 +60,10 @@ module _ (t : ℕ) where
       let fs = tabulated (signatureAt (now (a .families)) (now (a .kinds)) (now (a .sizes))) (a .s .families) 0 in
       list-cut (a .levels) program (c .before .before .before .loop .at) (a .to) s (when-cut program (c .before .before .before .loop .at) (a .to) (c .before .before .before .before .before .before .pre .1 .0) (sym (c .before .before .header-at .ensures) ∙ c .enum-told2 .given .1)) ∙ sym (c .before .before .before .loop .inv)
 
-  -- src/lib.rt:186:27
   pub enum-known-tag : lts.Need-enum-known-tag (calls t) (at t) Post Inv-loop μ-loop
   enum-known-tag c =
       search needs
 
-  -- src/lib.rt:187:21
   pub one-statement-requires : lts.Need-one-statement-requires (calls t) (at t) Post Inv-loop μ-loop
   one-statement-requires c κs =
       let a = c .before .before .before .before .before .before .before .args in
@@ -91,12 +83,10 @@ module _ (t : ℕ) where
   enum-told-3 c =
       search needs
 
-  -- src/lib.rt:201:21
   pub enum-told-4 : lts.Need-enum-told-4 (calls t) (at t) Post Inv-loop μ-loop
   enum-told-4 c =
       search needs
 
-  -- src/lib.rt:201:21
   pub returns-3 : lts.Need-returns-3 (calls t) (at t) Post Inv-loop μ-loop
   returns-3 c =
       let a = c .before .before .before .before .before .before .before .before .before .before .args in
@@ -112,7 +102,6 @@ module _ (t : ℕ) where
       let rest = checkStatements (statementsBy (readStatement (a .levels)) (fieldsAt program next (a .to))) s in
       part-stops (c .before .before .one-statement .result) (stated (a .levels) (c .before .before .before .before .before .before .before .loop .at) tag next program s) rest (c .before .before .one-statement .ensures) (c .before .match2 .keys2) ∙ sym (list-next (a .levels) program (c .before .before .before .before .before .before .before .loop .at) (a .to) s tag next w) ∙ sym (c .before .before .before .before .before .before .before .loop .inv)
 
-  -- src/lib.rt:182:5
   pub loop-less : lts.Need-loop-less (calls t) (at t) Post Inv-loop μ-loop
   loop-less c =
       let a = c .before .before .before .before .before .before .before .before .before .before .args in
@@ -127,7 +116,6 @@ module _ (t : ℕ) where
       let q = c .before .before .before .before .before .before .before .before .before .before .pre .1 .0 in
       omega arith
 
-  -- src/lib.rt:182:5
   pub loop-again : lts.Need-loop-again (calls t) (at t) Post Inv-loop μ-loop
   loop-again c =
       let a = c .before .before .before .before .before .before .before .before .before .before .args in

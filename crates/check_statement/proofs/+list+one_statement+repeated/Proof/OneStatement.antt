@@ -19,12 +19,10 @@ use lib.Seq.{slice}
 use Rattle.check_statement.specs.declared.StatementTag.the-variants as S
 
 module _ (t : ℕ) where
-  -- src/lib.rt:123:30
   pub too-deep-requires : lts.Need-too-deep-requires (calls t) (at t) Post
   too-deep-requires c κs =
       search needs
 
-  -- src/lib.rt:123:9
   pub returns : lts.Need-returns (calls t) (at t) Post
   unfolding checkedPart
   returns c =
@@ -34,79 +32,64 @@ module _ (t : ℕ) where
       let fs = tabulated (signatureAt (now (a .families)) (now (a .kinds)) (now (a .sizes))) (a .s .families) 0 in
       statement-deep (a .levels) (a .at) (a .tag) (a .next) program s (c .too-deep .result) (c .too-deep .ensures (a .at) (slice (a .at + 3) (a .next) program)) (c .before .if1 .taken)
 
-  -- src/lib.rt:125:17
   pub sub-below : lts.Need-sub-below (calls t) (at t) Post
   sub-below c =
       search needs
 
-  -- src/lib.rt:126:16
   pub add-from : lts.Need-add-from (calls t) (at t) Post
   add-from c =
       omega (arith, c .before .before .before .pre .1 .0)
 
-  -- src/lib.rt:127:11
   pub statement-tag-requires : lts.Need-statement-tag-requires (calls t) (at t) Post
   statement-tag-requires c κs =
       search needs
 
-  -- src/lib.rt:128:73
   pub enum-told : lts.Need-enum-told (calls t) (at t) Post
   enum-told c =
       search needs
 
-  -- src/lib.rt:128:31
   pub one-wire-requires : lts.Need-one-wire-requires (calls t) (at t) Post
   one-wire-requires c κs =
       (c .before .before .before .before .before .before .before .before .pre .1 .0, c .before .before .before .before .before .before .before .before .pre .1 .1 .0)
 
-  -- src/lib.rt:129:74
   pub enum-told-2 : lts.Need-enum-told-2 (calls t) (at t) Post
   enum-told-2 c =
       search needs
 
-  -- src/lib.rt:129:29
   pub two-wires-requires : lts.Need-two-wires-requires (calls t) (at t) Post
   two-wires-requires c κs =
       (c .before .before .before .before .before .before .before .before .pre .1 .0, c .before .before .before .before .before .before .before .before .pre .1 .1 .0)
 
-  -- src/lib.rt:130:76
   pub enum-told-3 : lts.Need-enum-told-3 (calls t) (at t) Post
   enum-told-3 c =
       search needs
 
-  -- src/lib.rt:130:31
   pub call-requires : lts.Need-call-requires (calls t) (at t) Post
   call-requires c κs =
       (c .before .before .before .before .before .before .before .before .pre .1 .0, (c .before .before .before .before .before .before .before .before .pre .1 .1 .0, c .before .before .before .before .before .before .before .before .pre .1 .1 .1))
 
-  -- src/lib.rt:132:13
   pub enum-told-4 : lts.Need-enum-told-4 (calls t) (at t) Post
   enum-told-4 c =
       search needs
 
-  -- src/lib.rt:132:13
   pub list-requires : lts.Need-list-requires (calls t) (at t) Post
   list-requires c κs =
       let z = c .before .before .before .if1 .left in
       (omega (arith, c .before .before .before .before .before .before .pre .0), (c .before .before .before .before .before .before .pre .1 .0 .1, (c .before .before .before .before .before .before .pre .1 .1 .0, c .before .before .before .before .before .before .pre .1 .1 .1)))
 
-  -- src/lib.rt:146:13
   pub enum-told-5 : lts.Need-enum-told-5 (calls t) (at t) Post
   enum-told-5 c =
       search needs
 
-  -- src/lib.rt:146:13
   pub repeated-requires : lts.Need-repeated-requires (calls t) (at t) Post
   repeated-requires c κs =
       let z = c .before .before .before .if1 .left in
       (omega (arith, c .before .before .before .before .before .before .pre .0), (c .before .before .before .before .before .before .pre .1 .0, (c .before .before .before .before .before .before .pre .1 .1 .0, c .before .before .before .before .before .before .pre .1 .1 .1)))
 
-  -- src/lib.rt:159:32
   pub enum-told-6 : lts.Need-enum-told-6 (calls t) (at t) Post
   enum-told-6 c =
       search needs
 
-  -- src/lib.rt:104:1
   pub returns-2 : lts.Need-returns-2 (calls t) (at t) Post
   unfolding checkStatement gateOf fieldsAt
   returns-2 c =
@@ -116,7 +99,6 @@ module _ (t : ℕ) where
       let fs = tabulated (signatureAt (now (a .families)) (now (a .kinds)) (now (a .sizes))) (a .s .families) 0 in
       c .one-wire .ensures .0 fs ∙ statement-acts (a .levels) (a .at) (a .tag) (a .next) program s Gate (c .before .before .before .before .before .before .if1 .left) (c .before .before .before .before .before .statement-tag .result) (c .before .before .before .before .before .statement-tag .ensures) (c .before .before .before .enum-told .given .1)
 
-  -- src/lib.rt:104:1
   pub returns-3 : lts.Need-returns-3 (calls t) (at t) Post
   unfolding checkStatement cxOf fieldsAt
   returns-3 c =
@@ -126,7 +108,6 @@ module _ (t : ℕ) where
       let fs = tabulated (signatureAt (now (a .families)) (now (a .kinds)) (now (a .sizes))) (a .s .families) 0 in
       c .two-wires .ensures fs ∙ statement-acts (a .levels) (a .at) (a .tag) (a .next) program s Cx (c .before .before .before .before .before .before .if1 .left) (c .before .before .before .before .before .statement-tag .result) (c .before .before .before .before .before .statement-tag .ensures) (c .before .before .before .enum-told2 .given .1)
 
-  -- src/lib.rt:104:1
   pub returns-4 : lts.Need-returns-4 (calls t) (at t) Post
   returns-4 c =
       let a = c .before .before .before .before .before .before .before .before .before .args in
@@ -135,7 +116,6 @@ module _ (t : ℕ) where
       let fs = tabulated (signatureAt (now (a .families)) (now (a .kinds)) (now (a .sizes))) (a .s .families) 0 in
       c .call .ensures ∙ statement-acts (a .levels) (a .at) (a .tag) (a .next) program s Call (c .before .before .before .before .before .before .if1 .left) (c .before .before .before .before .before .statement-tag .result) (c .before .before .before .before .before .statement-tag .ensures) (c .before .before .before .enum-told3 .given .1)
 
-  -- src/lib.rt:104:1
   pub returns-5 : lts.Need-returns-5 (calls t) (at t) Post
   unfolding checkStatement fieldsAt
   returns-5 c =
@@ -145,7 +125,6 @@ module _ (t : ℕ) where
       let fs = tabulated (signatureAt (now (a .families)) (now (a .kinds)) (now (a .sizes))) (a .s .families) 0 in
       c .list .ensures ∙ statement-acts (a .levels) (a .at) (a .tag) (a .next) program s Reverse (c .before .before .before .before .if1 .left) (c .before .before .before .statement-tag .result) (c .before .before .before .statement-tag .ensures) (c .before .enum-told4 .given .1)
 
-  -- src/lib.rt:104:1
   pub returns-6 : lts.Need-returns-6 (calls t) (at t) Post
   unfolding fieldsAt
   returns-6 c =
@@ -155,7 +134,6 @@ module _ (t : ℕ) where
       let fs = tabulated (signatureAt (now (a .families)) (now (a .kinds)) (now (a .sizes))) (a .s .families) 0 in
       c .repeated .ensures ∙ statement-acts (a .levels) (a .at) (a .tag) (a .next) program s For (c .before .before .before .before .if1 .left) (c .before .before .before .statement-tag .result) (c .before .before .before .statement-tag .ensures) (c .before .enum-told5 .given .1)
 
-  -- src/lib.rt:104:1
   pub returns-7 : lts.Need-returns-7 (calls t) (at t) Post
   unfolding checkedPart checkStatement
   returns-7 c =

@@ -21,7 +21,6 @@ use Rattle.check_operand.proofs.Tables.{length-loops, rows-set}
 use Rattle.check_statement.proofs.Loops.{for-many, for-stops, for-good, loops-more, bounds-same, bounds-upto}
 
 module _ (t : ℕ) where
-  -- src/lib.rt:229:9
   pub returns : lts.Need-returns (calls t) (at t) Post
   unfolding checkedPart
   returns c =
@@ -33,36 +32,30 @@ module _ (t : ℕ) where
       let long = length-loops n (now (a .lows)) (now (a .highs)) in
       for-many (readStatement (a .levels)) s program (a .at) (a .at + 3) (a .next) (let z = c .if1 .taken in omega arith)
 
-  -- src/lib.rt:231:17
   pub add-loops : lts.Need-add-loops (calls t) (at t) Post
   add-loops c =
       search needs
 
-  -- src/lib.rt:232:21
   pub add-variables : lts.Need-add-variables (calls t) (at t) Post
   add-variables c =
       let q = c .before .before .before .before .pre .1 .1 .0 .few in
       let z = c .before .if1 .left in
       omega arith
 
-  -- src/lib.rt:235:9
   pub loop-bounds-requires : lts.Need-loop-bounds-requires (calls t) (at t) Post
   loop-bounds-requires c κs =
       let q = c .before .before .before .before .before .before .pre .1 .1 .0 .few in
       let z = c .before .before .before .if1 .left in
       (c .before .before .before .before .before .before .pre .1 .0, omega arith)
 
-  -- src/lib.rt:236:20
   pub enum-known-r : lts.Need-enum-known-r (calls t) (at t) Post
   enum-known-r c =
       search needs
 
-  -- src/lib.rt:237:9
   pub enum-told : lts.Need-enum-told (calls t) (at t) Post
   enum-told c =
       search needs
 
-  -- src/lib.rt:237:9
   pub returns-2 : lts.Need-returns-2 (calls t) (at t) Post
   returns-2 c =
       let a = c .before .before .before .before .before .before .before .before .before .args in
@@ -78,27 +71,22 @@ module _ (t : ℕ) where
       let few : length (loopsOf n (now (a .lows)) (now (a .highs))) < 8 = (let z = c .before .before .before .before .before .before .if1 .left in omega arith) in
       for-stops (readStatement (a .levels)) s program (a .at) (a .at + 3) (a .next) few (c .before .before .loop-bounds .result) l h e (c .before .match .keys2)
 
-  -- src/lib.rt:240:5
   pub mul-inner-lows : lts.Need-mul-inner-lows (calls t) (at t) Post
   mul-inner-lows c =
       search needs
 
-  -- src/lib.rt:240:5
   pub array-set-from-inner-lows : lts.Need-array-set-from-inner-lows (calls t) (at t) Post
   array-set-from-inner-lows c =
       search needs
 
-  -- src/lib.rt:242:5
   pub mul-inner-highs : lts.Need-mul-inner-highs (calls t) (at t) Post
   mul-inner-highs c =
       search needs
 
-  -- src/lib.rt:242:5
   pub array-set-from-inner-highs : lts.Need-array-set-from-inner-highs (calls t) (at t) Post
   array-set-from-inner-highs c =
       search needs
 
-  -- src/lib.rt:250:5
   pub list-requires : lts.Need-list-requires (calls t) (at t) Post
   list-requires c κs =
       let a = c .before .before .before .before .before .before .before .before .before .before .before .before .before .before .args in
@@ -127,7 +115,6 @@ module _ (t : ℕ) where
         ),
       )
 
-  -- src/lib.rt:210:1
   pub returns-3 : lts.Need-returns-3 (calls t) (at t) Post
   unfolding inLoop
   returns-3 c =

@@ -25,7 +25,6 @@ use Rattle.unroller.proofs.Statements.{nameless-not}
 use Rattle.unroller.proofs.Bodies.{call-none, call-over, call-stuck, call-begins, call-all}
 
 module _ (t : ℕ) where
-  -- src/lib.rt:339:13
   pub shared-slice-read-n : lts.Need-shared-slice-read-n (calls t) (at t) Post
   shared-slice-read-n c =
       let a = c .before .before .before .before .args in
@@ -41,12 +40,10 @@ module _ (t : ℕ) where
       let k = getD l (a .from) 0 in
       omega (arith, low, ready .within)
 
-  -- src/lib.rt:340:9
   pub wider-requires : lts.Need-wider-requires (calls t) (at t) Post
   wider-requires c κs =
       search needs
 
-  -- src/lib.rt:342:9
   pub returns : lts.Need-returns (calls t) (at t) Post
   returns c =
       let a = c .before .before .before .before .before .before .before .args in
@@ -62,7 +59,6 @@ module _ (t : ℕ) where
       let k = getD l (a .from) 0 in
       (λ s q. does-as _ _ _ _ _ (oneRun (a .mode) room (a .place) 36 (slice (a .from) (a .to) l) g (frameIn (a .mode) vs (a .scope) (now (a .regs)))) (call-none (a .mode) room (a .from) (a .to) (a .place) l g vs (a .scope) (now (a .regs)) (en .deep) low (ready .within) (omega (arith, c .if1 .taken, c .before .before .wider .ensures))) (step-taken (a .mode .limit) room (now (a .out)) s (a .st) (a .place) _ _ _ (q .step .left) (q .step .same) (q .step .more) (does-stuck (now (a .out)) (a .st) _)))
 
-  -- src/lib.rt:344:9
   pub listed-requires : lts.Need-listed-requires (calls t) (at t) Post
   listed-requires c κs =
       let a = c .before .before .before .before .before .before .before .args in
@@ -79,12 +75,10 @@ module _ (t : ℕ) where
       let below : k < a .mode .«families_visible» = omega (arith, c .if1 .left, c .before .before .wider .ensures) in
       omega (arith, tb .many)
 
-  -- src/lib.rt:345:9
   pub wide-requires : lts.Need-wide-requires (calls t) (at t) Post
   wide-requires c κs =
       search needs
 
-  -- src/lib.rt:348:17
   pub add-first : lts.Need-add-first (calls t) (at t) Post
   add-first c =
       let a = c .before .before .before .before .before .before .before .before .before .args in
@@ -100,7 +94,6 @@ module _ (t : ℕ) where
       let k = getD l (a .from) 0 in
       omega (arith, low, ready .within, ready .near)
 
-  -- src/lib.rt:349:11
   pub arguments-requires : lts.Need-arguments-requires (calls t) (at t) Post
   arguments-requires c κs =
       let a = c .before .before .before .before .before .before .before .before .before .before .before .args in
@@ -119,27 +112,22 @@ module _ (t : ℕ) where
       let e : Entry g k at = rw (c .before .before .before .listed .ensures) (tb .each k below) in
       (ready .within, (omega (arith, ready .few, c .before .before .wide .ensures .0), head-of e))
 
-  -- src/lib.rt:362:42
   pub enum-told : lts.Need-enum-told (calls t) (at t) Post
   enum-told c =
       search needs
 
-  -- src/lib.rt:362:42
   pub cast-t33 : lts.Need-cast-t33 (calls t) (at t) Post
   cast-t33 c =
       search needs
 
-  -- src/lib.rt:363:25
   pub enum-told-2 : lts.Need-enum-told-2 (calls t) (at t) Post
   enum-told-2 c =
       search needs
 
-  -- src/lib.rt:364:20
   pub enum-known-count : lts.Need-enum-known-count (calls t) (at t) Post
   enum-known-count c =
       search needs
 
-  -- src/lib.rt:365:17
   pub body-of-requires : lts.Need-body-of-requires (calls t) (at t) Post
   body-of-requires c κs =
       let a = c .before .before .before .before .before .before .before .before .before .before .before .before .before .before .before .args in
@@ -162,7 +150,6 @@ module _ (t : ℕ) where
       let bf = call-begins (a .mode) room (a .from) (a .to) (a .place) l g vs (a .scope) (now (a .regs)) (en .deep) low (ready .within) at below e _ _ (c .before .before .before .arguments .result) ar n start (c .before .count .given .1) in
       (head-of e, bf)
 
-  -- src/lib.rt:367:59
   pub add-entered : lts.Need-add-entered (calls t) (at t) Post
   add-entered c =
       let a = c .before .before .before .before .before .before .before .before .before .before .before .before .before .before .before .before .args in
@@ -181,7 +168,6 @@ module _ (t : ℕ) where
       let e : Entry g k at = rw (c .before .before .before .before .before .before .before .before .listed .ensures) (tb .each k below) in
       omega (arith, e .long, e .within)
 
-  -- src/lib.rt:367:51
   pub shared-slice-read-entered : lts.Need-shared-slice-read-entered (calls t) (at t) Post
   shared-slice-read-entered c =
       let a = c .before .before .before .before .before .before .before .before .before .before .before .before .before .before .before .before .before .args in
@@ -200,17 +186,14 @@ module _ (t : ℕ) where
       let e : Entry g k at = rw (c .before .before .before .before .before .before .before .before .before .listed .ensures) (tb .each k below) in
       omega (arith, e .long, e .within)
 
-  -- src/lib.rt:367:17
   pub entered-requires : lts.Need-entered-requires (calls t) (at t) Post
   entered-requires c κs =
       search needs
 
-  -- src/lib.rt:378:17
   pub scope-of-requires : lts.Need-scope-of-requires (calls t) (at t) Post
   scope-of-requires c κs =
       search needs
 
-  -- src/lib.rt:368:13
   pub run-list-requires : lts.Need-run-list-requires (calls t) (at t) Post
   unfolding Often
   run-list-requires c κs =
@@ -236,7 +219,6 @@ module _ (t : ℕ) where
       let long : length (now (c .before .before .before .before .before .before .body-of .result)) ≡ pastOf g at - start = ap (λ (x : List ℕ). length x) part-is ∙ length-slice start (pastOf g at) g (e .within) in
       rw (c .before .before .before .before .entered .ensures, c .before .before .before .before .before .before .before .before .before .before .before .before .before .before .before .before .before .wider .ensures) (omega (arith, c .before .before .before .before .before .before .before .before .before .before .before .before .before .before .before .before .before .before .before .before .before .before .pre .0, below, long, tb .short, e .within), (record { few = omega (arith, e .variables); order = omega arith; within = omega arith; near = omega (arith, long, bf .high, e .within, tb .short); here = ready .here }, (tabled-fewer g (now (a .table)) (a .mode .«families_visible») k (omega (arith, below)) tb, refl)))
 
-  -- src/lib.rt:318:1
   pub returns-2 : lts.Need-returns-2 (calls t) (at t) Post
   returns-2 c =
       let a = c .before .before .before .before .before .before .before .before .before .before .before .before .before .before .args in
@@ -256,7 +238,6 @@ module _ (t : ℕ) where
       let ar : Arguments (slice (a .from + 1) (a .to) l) g at vs (operandsOf (a .scope) (now (a .regs))) _ _ (c .before .before .arguments .result) = rw (c .before .before .before .before .before .wide .ensures .0) at (c .before .before .arguments .ensures) in
       (λ s q. does-as _ _ _ _ _ (oneRun (a .mode) room (a .place) 36 (slice (a .from) (a .to) l) g (frameIn (a .mode) vs (a .scope) (now (a .regs)))) (call-over (a .mode) room (a .from) (a .to) (a .place) l g vs (a .scope) (now (a .regs)) (en .deep) low (ready .within) at below e _ _ (c .before .before .arguments .result) ar (c .enum-told .given .1)) (step-taken (a .mode .limit) room (now (a .out)) s (a .st) (a .place) _ _ _ (q .step .left) (q .step .same) (q .step .more) (does-end (now (a .out)) (a .st) 24 (a .place))))
 
-  -- src/lib.rt:318:1
   pub returns-3 : lts.Need-returns-3 (calls t) (at t) Post
   returns-3 c =
       let a = c .before .before .before .before .before .before .before .before .before .before .before .before .before .before .args in
@@ -276,12 +257,10 @@ module _ (t : ℕ) where
       let ar : Arguments (slice (a .from + 1) (a .to) l) g at vs (operandsOf (a .scope) (now (a .regs))) _ _ (c .before .before .arguments .result) = rw (c .before .before .before .before .before .wide .ensures .0) at (c .before .before .arguments .ensures) in
       (λ s q. does-as _ _ _ _ _ (oneRun (a .mode) room (a .place) 36 (slice (a .from) (a .to) l) g (frameIn (a .mode) vs (a .scope) (now (a .regs)))) (call-stuck (a .mode) room (a .from) (a .to) (a .place) l g vs (a .scope) (now (a .regs)) (en .deep) low (ready .within) at below e _ _ (c .before .before .arguments .result) ar (c .enum-told2 .given .1)) (step-taken (a .mode .limit) room (now (a .out)) s (a .st) (a .place) _ _ _ (q .step .left) (q .step .same) (q .step .more) (does-stuck (now (a .out)) (a .st) _)))
 
-  -- src/lib.rt:318:1
   pub same-length : lts.Need-same-length (calls t) (at t) Post
   same-length c =
       omega arith
 
-  -- src/lib.rt:318:1
   pub returns-4 : lts.Need-returns-4 (calls t) (at t) Post
   returns-4 c =
       let a = c .before .before .before .before .before .before .before .before .before .before .before .before .before .before .before .before .before .before .before .before .before .before .before .before .before .args in

@@ -32,12 +32,10 @@ abbrev pub μ-loop : lts.MeasureT-loop
     (total - i) * 65536 + (w .to - w .at)
 
 module _ (t : ℕ) where
-  -- src/lib.rt:265:9
   pub whole-requires : lts.Need-whole-requires (calls t) (at t) Post Inv-loop μ-loop
   whole-requires c κs =
       search needs
 
-  -- src/lib.rt:268:5
   pub loop-holds : lts.Need-loop-holds (calls t) (at t) Post Inv-loop μ-loop
   loop-holds c =
       let a = c .before .before .before .before .args in
@@ -49,12 +47,10 @@ module _ (t : ℕ) where
       let often = subst (λ (z : ℤ). Often (a .looping) (a .mode) z (a .total)) reversed (c .before .before .before .before .pre .1 .1 .1) in
       rw (c .whole .ensures) (M.starts (a .looping) (a .mode) (a .base) (a .from) (a .to) (a .place) X (a .total) l g (now (a .vars)) (a .scope) (now (a .regs)) (now (a .out)) (a .st) often (ready .order) (ready .within) _)
 
-  -- src/lib.rt:271:17
   pub same-length : lts.Need-same-length (calls t) (at t) Post Inv-loop μ-loop
   same-length c =
       omega (arith, c .before .before .before .loop .inv .same-length)
 
-  -- src/lib.rt:271:17
   pub returns : lts.Need-returns (calls t) (at t) Post Inv-loop μ-loop
   returns c =
       let a = c .before .before .before .before .before .before .before .before .args in
@@ -67,7 +63,6 @@ module _ (t : ℕ) where
       let i = c .before .before .before .loop in
       (does-as _ _ _ _ _ (timesRun (a .looping) (a .mode) (length (now (a .out))) (a .base) (a .from) (a .to) (a .place) (a .start) (a .total) l g (frameIn (a .mode) (take (keptIn (a .mode) (a .looping)) (now (a .vars))) (a .scope) (now (a .regs)))) (ap (λ (z : ℤ). (timesRun (a .looping) (a .mode) (length (now (a .out))) (a .base) (a .from) (a .to) (a .place) z (a .total) l g (frameIn (a .mode) (take (keptIn (a .mode) (a .looping)) (now (a .vars))) (a .scope) (now (a .regs))))) reversed) (M.ends (a .looping) (a .mode) (a .base) (a .from) (a .to) (a .place) X (a .total) l g (now (a .vars)) (a .scope) (now (a .regs)) (now (a .out)) (a .st) (i .vars) (i .out) (i .cuts) (i .w) (i .i) (i .s) (i .inv) (c .before .if1 .taken) (c .if2 .taken)), i .inv .kept)
 
-  -- src/lib.rt:273:17
   pub begin-round-requires : lts.Need-begin-round-requires (calls t) (at t) Post Inv-loop μ-loop
   begin-round-requires c κs =
       let a = c .before .before .before .before .before .before .before .before .before .args in
@@ -80,17 +75,14 @@ module _ (t : ℕ) where
       let i = c .before .before .before .before .loop in
       ((omega (arith, ready .here, ready .near), omega (arith, ready .few)), round-turns (a .looping) (a .mode) X (a .total) (i .i) often (c .before .if2 .left))
 
-  -- src/lib.rt:274:31
   pub enum-known-r : lts.Need-enum-known-r (calls t) (at t) Post Inv-loop μ-loop
   enum-known-r c =
       search needs
 
-  -- src/lib.rt:275:17
   pub same-length-2 : lts.Need-same-length-2 (calls t) (at t) Post Inv-loop μ-loop
   same-length-2 c =
       omega (arith, c .before .before .before .before .before .before .loop .inv .same-length)
 
-  -- src/lib.rt:275:17
   pub returns-2 : lts.Need-returns-2 (calls t) (at t) Post Inv-loop μ-loop
   returns-2 c =
       let a = c .before .before .before .before .before .before .before .before .before .before .before .args in
@@ -103,7 +95,6 @@ module _ (t : ℕ) where
       let i = c .before .before .before .before .before .before .loop in
       (does-as _ _ _ _ _ (timesRun (a .looping) (a .mode) (length (now (a .out))) (a .base) (a .from) (a .to) (a .place) (a .start) (a .total) l g (frameIn (a .mode) (take (keptIn (a .mode) (a .looping)) (now (a .vars))) (a .scope) (now (a .regs)))) (ap (λ (z : ℤ). (timesRun (a .looping) (a .mode) (length (now (a .out))) (a .base) (a .from) (a .to) (a .place) z (a .total) l g (frameIn (a .mode) (take (keptIn (a .mode) (a .looping)) (now (a .vars))) (a .scope) (now (a .regs))))) reversed) (M.refuses (a .looping) (a .mode) (a .base) (a .from) (a .to) (a .place) X (a .total) l g (now (a .vars)) (a .scope) (now (a .regs)) (now (a .out)) (a .st) (i .vars) (i .out) (i .cuts) (i .w) (i .i) (i .s) (i .inv) (c .before .before .before .before .if1 .taken) (c .before .before .before .if2 .left) _ (c .before .begin-round .result) (c .before .begin-round .ensures) (c .match .keys2)), M.stays (a .looping) (a .mode) (a .base) (a .from) (a .to) (a .place) X (a .total) l g (now (a .vars)) (a .scope) (now (a .regs)) (now (a .out)) (a .st) (i .vars) (i .out) (i .cuts) (i .w) (i .i) (i .s) (i .inv) (c .before .before .before .before .if1 .taken) (c .before .before .before .if2 .left) _ (c .before .begin-round .result) (c .before .begin-round .ensures))
 
-  -- src/lib.rt:277:44
   pub begin-requires : lts.Need-begin-requires (calls t) (at t) Post Inv-loop μ-loop
   begin-requires c κs =
       let a = c .before .before .before .before .before .before .before .before .before .before .before .before .before .before .args in
@@ -115,22 +106,18 @@ module _ (t : ℕ) where
       let often = subst (λ (z : ℤ). Often (a .looping) (a .mode) z (a .total)) reversed (c .before .before .before .before .before .before .before .before .before .before .before .before .before .before .pre .1 .1 .1) in
       (ready .order, ready .within, omega (arith, ready .within, ready .near))
 
-  -- src/lib.rt:277:29
   pub enum-known-depth : lts.Need-enum-known-depth (calls t) (at t) Post Inv-loop μ-loop
   enum-known-depth c =
       search needs
 
-  -- src/lib.rt:278:17
   pub enum-told : lts.Need-enum-told (calls t) (at t) Post Inv-loop μ-loop
   enum-told c =
       search needs
 
-  -- src/lib.rt:278:17
   pub same-length-3 : lts.Need-same-length-3 (calls t) (at t) Post Inv-loop μ-loop
   same-length-3 c =
       omega (arith, c .before .before .before .before .before .before .before .before .before .before .before .before .loop .inv .same-length)
 
-  -- src/lib.rt:278:17
   pub returns-3 : lts.Need-returns-3 (calls t) (at t) Post Inv-loop μ-loop
   returns-3 c =
       let a = c .before .before .before .before .before .before .before .before .before .before .before .before .before .before .before .before .before .args in
@@ -143,17 +130,14 @@ module _ (t : ℕ) where
       let i = c .before .before .before .before .before .before .before .before .before .before .before .before .loop in
       (does-as _ _ _ _ _ (timesRun (a .looping) (a .mode) (length (now (a .out))) (a .base) (a .from) (a .to) (a .place) (a .start) (a .total) l g (frameIn (a .mode) (take (keptIn (a .mode) (a .looping)) (now (a .vars))) (a .scope) (now (a .regs)))) (ap (λ (z : ℤ). (timesRun (a .looping) (a .mode) (length (now (a .out))) (a .base) (a .from) (a .to) (a .place) z (a .total) l g (frameIn (a .mode) (take (keptIn (a .mode) (a .looping)) (now (a .vars))) (a .scope) (now (a .regs))))) reversed) (M.breaks (a .looping) (a .mode) (a .base) (a .from) (a .to) (a .place) X (a .total) l g (now (a .vars)) (a .scope) (now (a .regs)) (now (a .out)) (a .st) (i .vars) (i .out) (i .cuts) (i .w) (i .i) (i .s) (i .inv) (c .before .before .before .before .before .before .before .before .before .before .if1 .taken) (c .before .before .before .before .before .before .before .before .before .if2 .left) _ (c .before .before .before .before .before .before .before .begin-round .result) (c .before .before .before .before .before .before .before .begin-round .ensures) often (c .before .before .before .before .before .r .given .0 .0) (c .before .before .before .before .before .r .given .1) _ (c .before .before .begin .result) (c .before .before .begin .ensures) (c .enum-told .given .1) _), M.stays (a .looping) (a .mode) (a .base) (a .from) (a .to) (a .place) X (a .total) l g (now (a .vars)) (a .scope) (now (a .regs)) (now (a .out)) (a .st) (i .vars) (i .out) (i .cuts) (i .w) (i .i) (i .s) (i .inv) (c .before .before .before .before .before .before .before .before .before .before .if1 .taken) (c .before .before .before .before .before .before .before .before .before .if2 .left) _ (c .before .before .before .before .before .before .before .begin-round .result) (c .before .before .before .before .before .before .before .begin-round .ensures))
 
-  -- src/lib.rt:281:13
   pub whole-requires-2 : lts.Need-whole-requires-2 (calls t) (at t) Post Inv-loop μ-loop
   whole-requires-2 c κs =
       search needs
 
-  -- src/lib.rt:282:13
   pub add-i : lts.Need-add-i (calls t) (at t) Post Inv-loop μ-loop
   add-i c =
       omega (arith, c .before .before .before .before .before .before .before .before .before .before .before .if2 .left, c .before .before .before .before .before .before .before .before .before .before .before .before .before .before .before .before .before .before .before .fits .total)
 
-  -- src/lib.rt:268:5
   pub loop-less : lts.Need-loop-less (calls t) (at t) Post Inv-loop μ-loop
   unfolding wholeOf
   loop-less c =
@@ -167,7 +151,6 @@ module _ (t : ℕ) where
       let i = c .before .before .before .before .before .before .before .before .before .before .before .before .before .before .loop in
       rw (c .whole2 .ensures) (omega (arith, c .before .before .before .before .before .before .before .before .before .before .before .before .if1 .taken, c .before .before .before .before .before .before .before .before .before .before .before .if2 .left, ready .near, ready .within))
 
-  -- src/lib.rt:268:5
   pub loop-again : lts.Need-loop-again (calls t) (at t) Post Inv-loop μ-loop
   loop-again c =
       let a = c .before .before .before .before .before .before .before .before .before .before .before .before .before .before .before .before .before .before .before .args in
@@ -180,7 +163,6 @@ module _ (t : ℕ) where
       let i = c .before .before .before .before .before .before .before .before .before .before .before .before .before .before .loop in
       rw (c .whole2 .ensures) (M.begins (a .looping) (a .mode) (a .base) (a .from) (a .to) (a .place) X (a .total) l g (now (a .vars)) (a .scope) (now (a .regs)) (now (a .out)) (a .st) (i .vars) (i .out) (i .cuts) (i .w) (i .i) (i .s) (i .inv) (c .before .before .before .before .before .before .before .before .before .before .before .before .if1 .taken) (c .before .before .before .before .before .before .before .before .before .before .before .if2 .left) _ (c .before .before .before .before .before .before .before .before .before .begin-round .result) (c .before .before .before .before .before .before .before .before .before .begin-round .ensures) often (c .before .before .before .before .before .before .before .r .given .0 .0) (c .before .before .before .before .before .before .before .r .given .1) _ (c .before .before .before .before .begin .result) (c .before .before .before .before .begin .ensures) (ready .order) _ _ (c .before .before .depth .given .1))
 
-  -- src/lib.rt:285:9
   pub seek-requires : lts.Need-seek-requires (calls t) (at t) Post Inv-loop μ-loop
   seek-requires c κs =
       let a = c .before .before .before .before .before .before .before .before .args in
@@ -193,7 +175,6 @@ module _ (t : ℕ) where
       let i = c .before .before .before .loop in
       (i .inv .walking, c .before .if1 .left, omega (arith, i .inv .high, ready .within, ready .near))
 
-  -- src/lib.rt:288:40
   pub header-at-requires : lts.Need-header-at-requires (calls t) (at t) Post Inv-loop μ-loop
   header-at-requires c κs =
       let a = c .before .before .before .before .before .before .before .before .before .args in
@@ -205,17 +186,14 @@ module _ (t : ℕ) where
       let often = subst (λ (z : ℤ). Often (a .looping) (a .mode) z (a .total)) reversed (c .before .before .before .before .before .before .before .before .before .pre .1 .1 .1) in
       next-within l (a .mode .reversed) (c .seek .result) _ (c .seek .ensures .next)
 
-  -- src/lib.rt:288:27
   pub enum-known-tag : lts.Need-enum-known-tag (calls t) (at t) Post Inv-loop μ-loop
   enum-known-tag c =
       search needs
 
-  -- src/lib.rt:289:13
   pub same-length-4 : lts.Need-same-length-4 (calls t) (at t) Post Inv-loop μ-loop
   same-length-4 c =
       omega (arith, c .before .before .before .before .before .before .loop .inv .same-length)
 
-  -- src/lib.rt:289:13
   pub returns-4 : lts.Need-returns-4 (calls t) (at t) Post Inv-loop μ-loop
   returns-4 c =
       let a = c .before .before .before .before .before .before .before .before .before .before .before .args in
@@ -228,7 +206,6 @@ module _ (t : ℕ) where
       let i = c .before .before .before .before .before .before .loop in
       (does-as _ _ _ _ _ (timesRun (a .looping) (a .mode) (length (now (a .out))) (a .base) (a .from) (a .to) (a .place) (a .start) (a .total) l g (frameIn (a .mode) (take (keptIn (a .mode) (a .looping)) (now (a .vars))) (a .scope) (now (a .regs)))) (ap (λ (z : ℤ). (timesRun (a .looping) (a .mode) (length (now (a .out))) (a .base) (a .from) (a .to) (a .place) z (a .total) l g (frameIn (a .mode) (take (keptIn (a .mode) (a .looping)) (now (a .vars))) (a .scope) (now (a .regs))))) reversed) (M.cut (a .looping) (a .mode) (a .base) (a .from) (a .to) (a .place) X (a .total) l g (now (a .vars)) (a .scope) (now (a .regs)) (now (a .out)) (a .st) (i .vars) (i .out) (i .cuts) (i .w) (i .i) (i .s) (i .inv) (c .before .before .before .before .if1 .left) (c .before .before .seek .result) _ (c .before .before .seek .ensures) (rw (c .before .header-at .ensures) at (c .match3 .keys2)) _), i .inv .kept)
 
-  -- src/lib.rt:291:23
   pub add-content : lts.Need-add-content (calls t) (at t) Post Inv-loop μ-loop
   add-content c =
       let a = c .before .before .before .before .before .before .before .before .before .before .before .before .before .args in
@@ -246,7 +223,6 @@ module _ (t : ℕ) where
       let spot = M.spot (a .looping) (a .mode) (a .base) (a .from) (a .to) (a .place) X (a .total) l g (now (a .vars)) (a .scope) (now (a .regs)) (now (a .out)) (a .st) (i .vars) (i .out) (i .cuts) (i .w) (i .i) (i .s) (i .inv) (c .before .before .before .before .before .before .if1 .left) (c .before .before .before .before .seek .result) _ (c .before .before .before .before .seek .ensures) tag end is in
       omega (arith, spot .inside, spot .within, ready .near)
 
-  -- src/lib.rt:292:18
   pub add-at : lts.Need-add-at (calls t) (at t) Post Inv-loop μ-loop
   add-at c =
       let a = c .before .before .before .before .before .before .before .before .before .before .before .before .before .args in
@@ -264,7 +240,6 @@ module _ (t : ℕ) where
       let spot = M.spot (a .looping) (a .mode) (a .base) (a .from) (a .to) (a .place) X (a .total) l g (now (a .vars)) (a .scope) (now (a .regs)) (now (a .out)) (a .st) (i .vars) (i .out) (i .cuts) (i .w) (i .i) (i .s) (i .inv) (c .before .before .before .before .before .before .if1 .left) (c .before .before .before .before .seek .result) _ (c .before .before .before .before .seek .ensures) tag end is in
       omega (arith, spot .inside, spot .within, ready .near)
 
-  -- src/lib.rt:293:13
   pub run-statement-requires : lts.Need-run-statement-requires (calls t) (at t) Post Inv-loop μ-loop
   run-statement-requires c κs =
       let a = c .before .before .before .before .before .before .before .before .before .before .before .before .before .before .before .args in
@@ -282,17 +257,14 @@ module _ (t : ℕ) where
       let spot = M.spot (a .looping) (a .mode) (a .base) (a .from) (a .to) (a .place) X (a .total) l g (now (a .vars)) (a .scope) (now (a .regs)) (now (a .out)) (a .st) (i .vars) (i .out) (i .cuts) (i .w) (i .i) (i .s) (i .inv) (c .before .before .before .before .before .before .before .before .if1 .left) (c .before .before .before .before .before .before .seek .result) _ (c .before .before .before .before .before .before .seek .ensures) tag end is in
       (omega (arith, c .before .before .before .before .before .before .before .before .before .before .before .before .before .before .before .pre .0, spot .inside, spot .past, spot .sooner), (record { few = ready .few; order = spot .inside; within = spot .within; near = ready .near; here = omega (arith, spot .inside, spot .within, ready .near) }, (omega arith, c .before .before .before .before .before .before .before .before .before .before .before .before .before .before .before .pre .1 .1 .0)))
 
-  -- src/lib.rt:309:27
   pub enum-known-r-2 : lts.Need-enum-known-r-2 (calls t) (at t) Post Inv-loop μ-loop
   enum-known-r-2 c =
       search needs
 
-  -- src/lib.rt:310:13
   pub same-length-5 : lts.Need-same-length-5 (calls t) (at t) Post Inv-loop μ-loop
   same-length-5 c =
       omega (arith, c .before .before .before .before .before .before .before .before .before .before .before .before .before .before .loop .inv .same-length)
 
-  -- src/lib.rt:310:13
   pub returns-5 : lts.Need-returns-5 (calls t) (at t) Post Inv-loop μ-loop
   returns-5 c =
       let a = c .before .before .before .before .before .before .before .before .before .before .before .before .before .before .before .before .before .before .before .args in
@@ -309,12 +281,10 @@ module _ (t : ℕ) where
       let is : headerOf (v .here) (fieldsAt l (v .here) (v .to)) ≡ Whole tag end = sym (c .before .before .before .before .before .before .before .before .before .header-at .ensures) ∙ c .before .before .before .before .before .before .before .tag .given .1 in
       (does-as _ _ _ _ _ (timesRun (a .looping) (a .mode) (length (now (a .out))) (a .base) (a .from) (a .to) (a .place) (a .start) (a .total) l g (frameIn (a .mode) (take (keptIn (a .mode) (a .looping)) (now (a .vars))) (a .scope) (now (a .regs)))) (ap (λ (z : ℤ). (timesRun (a .looping) (a .mode) (length (now (a .out))) (a .base) (a .from) (a .to) (a .place) z (a .total) l g (frameIn (a .mode) (take (keptIn (a .mode) (a .looping)) (now (a .vars))) (a .scope) (now (a .regs))))) reversed) (M.other (a .looping) (a .mode) (a .base) (a .from) (a .to) (a .place) X (a .total) l g (now (a .vars)) (a .scope) (now (a .regs)) (now (a .out)) (a .st) (i .vars) (i .out) (i .cuts) (i .w) (i .i) (i .s) (i .inv) (c .before .before .before .before .before .before .before .before .before .before .before .before .if1 .left) (c .before .before .before .before .before .before .before .before .before .before .seek .result) _ (c .before .before .before .before .before .before .before .before .before .before .seek .ensures) tag end is _ (c .before .before .before .run-statement .result) (c .before .before .before .run-statement .ensures .0) (c .match4 .keys2)), kept-still (a .looping) (a .mode) _ _ (c .before .before .before .run-statement .ensures .1) ∙ i .inv .kept)
 
-  -- src/lib.rt:313:9
   pub passed-requires : lts.Need-passed-requires (calls t) (at t) Post Inv-loop μ-loop
   passed-requires c κs =
       search needs
 
-  -- src/lib.rt:268:5
   pub loop-less-2 : lts.Need-loop-less-2 (calls t) (at t) Post Inv-loop μ-loop
   loop-less-2 c =
       let a = c .before .before .before .before .before .before .before .before .before .before .before .before .before .before .before .before .before .before .before .before .before .before .args in
@@ -332,7 +302,6 @@ module _ (t : ℕ) where
       let spot = M.spot (a .looping) (a .mode) (a .base) (a .from) (a .to) (a .place) X (a .total) l g (now (a .vars)) (a .scope) (now (a .regs)) (now (a .out)) (a .st) (i .vars) (i .out) (i .cuts) (i .w) (i .i) (i .s) (i .inv) (c .before .before .before .before .before .before .before .before .before .before .before .before .before .before .before .if1 .left) (c .before .before .before .before .before .before .before .before .before .before .before .before .before .seek .result) _ (c .before .before .before .before .before .before .before .before .before .before .before .before .before .seek .ensures) tag end is in
       rw (c .passed .ensures) (omega (arith, spot .less))
 
-  -- src/lib.rt:268:5
   pub loop-again-2 : lts.Need-loop-again-2 (calls t) (at t) Post Inv-loop μ-loop
   loop-again-2 c =
       let a = c .before .before .before .before .before .before .before .before .before .before .before .before .before .before .before .before .before .before .before .before .before .before .args in

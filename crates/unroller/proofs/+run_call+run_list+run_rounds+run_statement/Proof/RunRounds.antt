@@ -20,7 +20,6 @@ use Rattle.unroller.proofs.Loops.{inner-seen, inner-few, inner-stays, l
 use Rattle.unroller.proofs.InnerReverses.{inside-does, inside-stays}
 
 module _ (t : ℕ) where
-  -- src/lib.rt:206:9
   pub inmost-requires : lts.Need-inmost-requires (calls t) (at t) Post
   inmost-requires c κs =
       let a = c .before .before .before .args in
@@ -33,24 +32,20 @@ module _ (t : ℕ) where
         bodied = c .before .before .before .pre .1 .1 .1 .1 .1;
       }
 
-  -- src/lib.rt:209:16
   pub add-past : lts.Need-add-past (calls t) (at t) Post
   add-past c =
       let a = c .before .before .before .before .before .before .before .args in
       let w = c .before .before .before .inmost .ensures .able .ready in
       omega (arith, w .order, w .within, w .near)
 
-  -- src/lib.rt:210:16
   pub sub-here : lts.Need-sub-here (calls t) (at t) Post
   sub-here c =
       omega (arith, c .before .before .before .inmost .ensures .able .behind)
 
-  -- src/lib.rt:211:9
   pub wide-requires : lts.Need-wide-requires (calls t) (at t) Post
   wide-requires c κs =
       search needs
 
-  -- src/lib.rt:212:11
   pub repeats-of-requires : lts.Need-repeats-of-requires (calls t) (at t) Post
   repeats-of-requires c κs =
       let a = c .before .before .before .before .before .before .before .before .before .args in
@@ -67,27 +62,22 @@ module _ (t : ℕ) where
       let at : a .base + e .from ≡ here + 3 = omega (arith, w .able .behind) in
       (ready .within, omega (arith, ready .few, c .before .wide .ensures .0))
 
-  -- src/lib.rt:213:44
   pub enum-told : lts.Need-enum-told (calls t) (at t) Post
   enum-told c =
       search needs
 
-  -- src/lib.rt:213:44
   pub cast-t29 : lts.Need-cast-t29 (calls t) (at t) Post
   cast-t29 c =
       omega (arith, c .before .before .before .before .before .before .before .before .inmost .ensures .able .ready .here)
 
-  -- src/lib.rt:214:27
   pub enum-told-2 : lts.Need-enum-told-2 (calls t) (at t) Post
   enum-told-2 c =
       search needs
 
-  -- src/lib.rt:215:22
   pub enum-known-start : lts.Need-enum-known-start (calls t) (at t) Post
   enum-known-start c =
       search needs
 
-  -- src/lib.rt:216:17
   pub inner-requires : lts.Need-inner-requires (calls t) (at t) Post
   inner-requires c κs =
       let a = c .before .before .before .before .before .before .before .before .before .before .before .before .before .args in
@@ -104,7 +94,6 @@ module _ (t : ℕ) where
       let at : a .base + e .from ≡ here + 3 = omega (arith, w .able .behind) in
       (omega (arith, en .deep), omega (arith, ready .few, en .deep))
 
-  -- src/lib.rt:217:13
   pub run-list-requires : lts.Need-run-list-requires (calls t) (at t) Post
   run-list-requires c κs =
       let a = c .before .before .before .before .before .before .before .before .before .before .before .before .before .before .before .before .before .args in
@@ -126,7 +115,6 @@ module _ (t : ℕ) where
       let o = loop-opens (e .mode) room (a .base) (e .from) (a .to) here (e .tag) l g vs (a .scope) (now (a .regs)) en past at (c .before .before .before .before .before .before .before .repeats-of .result) rep (ready .order) st0 total body (c .before .before .before .before .before .start .given .1) in
       rw (c .before .before .before .inner .ensures, range-back {z = st0} (o .ranged)) (omega (arith, c .before .before .before .before .before .before .before .before .before .before .before .before .before .before .before .before .before .pre .0, o .low, w .later, w .visible, inner-seen (e .mode) (e .tag)), (record { few = inner-few (e .mode) (e .tag) (ready .few) (en .deep); order = o .high; within = ready .within; near = ready .near; here = ready .here }, (tabled-fewer g (now (a .table)) (a .mode .«families_visible») (innerOf (e .mode) (e .tag) .«families_visible») (omega (arith, w .visible, inner-seen (e .mode) (e .tag))) (c .before .before .before .before .before .before .before .before .before .before .before .before .before .before .before .before .before .pre .1 .1 .1 .0), o .often)))
 
-  -- src/lib.rt:184:1
   pub returns : lts.Need-returns (calls t) (at t) Post
   returns c =
       let a = c .before .before .before .before .before .before .before .before .before .before .before .before .args in
@@ -144,7 +132,6 @@ module _ (t : ℕ) where
       let rep : Repeated l (e .from) (a .to) (e .tag) (take (e .mode .variables) vs) (e .mode .reversed) (c .before .before .repeats-of .result) = rw (c .before .before .before .before .wide .ensures .0) at (c .before .before .repeats-of .ensures) in
       (inside-does l (a .base) (a .to) _ e w (a .place) (c .before .before .before .before .before .before .before .before .before .before .before .before .pre .1 .1 .0) room g vs (a .scope) (now (a .regs)) (now (a .out)) _ _ (λ s q. does-as _ _ _ _ _ (oneRun (e .mode) room here (e .tag) (slice (e .from) (a .to) l) g (frameIn (e .mode) (take (e .mode .variables) vs) (a .scope) (now (a .regs)))) (loop-over (e .mode) room (a .base) (e .from) (a .to) here (e .tag) l g vs (a .scope) (now (a .regs)) en past at (c .before .before .repeats-of .result) rep (c .enum-told .given .1)) (step-taken (e .mode .limit) room (now (a .out)) s (e .st) here _ _ _ (q .step .left) (q .step .same) (q .step .more) (does-end (now (a .out)) (e .st) 24 here))), refl)
 
-  -- src/lib.rt:184:1
   pub returns-2 : lts.Need-returns-2 (calls t) (at t) Post
   returns-2 c =
       let a = c .before .before .before .before .before .before .before .before .before .before .before .before .args in
@@ -162,12 +149,10 @@ module _ (t : ℕ) where
       let rep : Repeated l (e .from) (a .to) (e .tag) (take (e .mode .variables) vs) (e .mode .reversed) (c .before .before .repeats-of .result) = rw (c .before .before .before .before .wide .ensures .0) at (c .before .before .repeats-of .ensures) in
       (inside-does l (a .base) (a .to) _ e w (a .place) (c .before .before .before .before .before .before .before .before .before .before .before .before .pre .1 .1 .0) room g vs (a .scope) (now (a .regs)) (now (a .out)) _ _ (λ s q. does-as _ _ _ _ _ (oneRun (e .mode) room here (e .tag) (slice (e .from) (a .to) l) g (frameIn (e .mode) (take (e .mode .variables) vs) (a .scope) (now (a .regs)))) (loop-stuck (e .mode) room (a .base) (e .from) (a .to) here (e .tag) l g vs (a .scope) (now (a .regs)) en past at (c .before .before .repeats-of .result) rep (c .enum-told2 .given .1)) (step-taken (e .mode .limit) room (now (a .out)) s (e .st) here _ _ _ (q .step .left) (q .step .same) (q .step .more) (does-stuck (now (a .out)) (e .st) _))), refl)
 
-  -- src/lib.rt:184:1
   pub same-length : lts.Need-same-length (calls t) (at t) Post
   same-length c =
       omega arith
 
-  -- src/lib.rt:184:1
   pub returns-3 : lts.Need-returns-3 (calls t) (at t) Post
   returns-3 c =
       let a = c .before .before .before .before .before .before .before .before .before .before .before .before .before .before .before .before .before .before .before .before .args in

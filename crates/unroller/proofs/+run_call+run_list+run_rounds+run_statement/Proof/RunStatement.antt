@@ -17,22 +17,18 @@ use Rattle.unroller.specs.Runs.{oneRun}
 use Rattle.unroller.proofs.Statements.{one-stops, one-steps, one-acts}
 
 module _ (t : ℕ) where
-  -- src/lib.rt:140:16
   pub sub-size : lts.Need-sub-size (calls t) (at t) Post
   sub-size c =
       omega (arith, c .before .before .before .pre .1 .0 .order)
 
-  -- src/lib.rt:141:9
   pub enter-requires : lts.Need-enter-requires (calls t) (at t) Post
   enter-requires c κs =
       c .before .before .before .pre .1 .0 .here
 
-  -- src/lib.rt:142:23
   pub enum-known-r : lts.Need-enum-known-r (calls t) (at t) Post
   enum-known-r c =
       search needs
 
-  -- src/lib.rt:143:9
   pub returns : lts.Need-returns (calls t) (at t) Post
   returns c =
       let a = c .before .before .before .before .before .args in
@@ -44,7 +40,6 @@ module _ (t : ℕ) where
       let en : Entered (a .mode) (a .tag) (length l) (a .place) (a .st) (c .before .enter .result) = subst (λ (n : ℕ). Entered (a .mode) (a .tag) n (a .place) (a .st) (c .before .enter .result)) (sym (length-slice (a .from) (a .to) (now (a .bytes)) (ready .within))) (c .before .enter .ensures) in
       (one-stops (a .mode) room (a .place) (a .tag) l g f (now (a .out)) (a .st) (c .before .enter .result) en (c .match .keys2), refl)
 
-  -- src/lib.rt:146:9
   pub write-gate-requires : lts.Need-write-gate-requires (calls t) (at t) Post
   write-gate-requires c κs =
       let a = c .before .before .before .before .before .before .before .before .before .before .args in
@@ -55,12 +50,10 @@ module _ (t : ℕ) where
       let ready = c .before .before .before .before .before .before .before .before .before .before .pre .1 .0 in
       (ready .within, (omega (arith, ready .few), ready .here))
 
-  -- src/lib.rt:146:9
   pub same-length : lts.Need-same-length (calls t) (at t) Post
   same-length c =
       omega arith
 
-  -- src/lib.rt:146:9
   pub returns-2 : lts.Need-returns-2 (calls t) (at t) Post
   returns-2 c =
       let a = c .before .before .before .before .before .before .before .before .before .before .before .before .before .args in
@@ -77,7 +70,6 @@ module _ (t : ℕ) where
         refl,
       )
 
-  -- src/lib.rt:149:9
   pub run-call-requires : lts.Need-run-call-requires (calls t) (at t) Post
   run-call-requires c κs =
       let a = c .before .before .before .before .before .before .before .before .before .before .before .args in
@@ -91,12 +83,10 @@ module _ (t : ℕ) where
       let w = q .enterable in
       (omega (arith, c .before .before .before .before .before .before .before .before .before .before .before .pre .0), (ready, (c .before .before .before .before .before .before .before .before .before .before .before .pre .1 .1 .0, (c .before .before .before .before .before .before .before .before .before .before .before .pre .1 .1 .1, rw (c .before .before .if2 .taken) at w))))
 
-  -- src/lib.rt:149:9
   pub same-length-2 : lts.Need-same-length-2 (calls t) (at t) Post
   same-length-2 c =
       omega arith
 
-  -- src/lib.rt:149:9
   pub returns-3 : lts.Need-returns-3 (calls t) (at t) Post
   returns-3 c =
       let a = c .before .before .before .before .before .before .before .before .before .before .before .before .before .before .args in
@@ -110,7 +100,6 @@ module _ (t : ℕ) where
       let w = q .enterable in
       (rw (c .before .before .before .before .before .if2 .taken) (c .before .before .run-call .ensures (a .st) (rw (c .before .before .before .before .before .if2 .taken) at q)), refl)
 
-  -- src/lib.rt:165:5
   pub run-rounds-requires : lts.Need-run-rounds-requires (calls t) (at t) Post
   run-rounds-requires c κs =
       let a = c .before .before .before .before .before .before .before .before .before .before .before .args in
@@ -124,12 +113,10 @@ module _ (t : ℕ) where
       let w = q .enterable in
       (omega (arith, c .before .before .before .before .before .before .before .before .before .before .before .pre .0), (ready, (c .before .before .before .before .before .before .before .before .before .before .before .pre .1 .1 .0, (c .before .before .before .before .before .before .before .before .before .before .before .pre .1 .1 .1, (w, omega (arith, c .before .before .before .if1 .left, c .before .before .if2 .left))))))
 
-  -- src/lib.rt:119:1
   pub same-length-3 : lts.Need-same-length-3 (calls t) (at t) Post
   same-length-3 c =
       omega arith
 
-  -- src/lib.rt:119:1
   pub returns-4 : lts.Need-returns-4 (calls t) (at t) Post
   returns-4 c =
       let a = c .before .before .before .before .before .before .before .before .before .before .before .before .before .before .args in
