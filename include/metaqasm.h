@@ -52,7 +52,7 @@ extern "C" {
  * and what a check alone needs. On less, a deep program may end the process at the guard page below the stack. Both are
  * measured with the deepest programs (`cargo run --release -p compare --bin stack` in tests prints the need beside these
  * figures, and a test holds the library to them). */
-#define METAQASM_STACK_KIB 3392
+#define METAQASM_STACK_KIB 3520
 #define METAQASM_CHECK_STACK_KIB 160
 
 /* Limits of a program; what goes past one is refused. */
