@@ -4,24 +4,25 @@ use mathlib.Core.Path.{_≡_, refl, sym, ap, _∙_}
 use mathlib.Core.Bool.{Bool, true, false}
 use mathlib.Core.List.{List, [], _∷_, _++_, append-assoc, append-nil}
 use native.Mathlib.Nat.{one-le-pow, pow-suc, pow-le-pow-right}
-use native.Mathlib.Numerals.{add-one, sub-one}
+use native.Mathlib.Numerals.{sub-one}
 use native.Mathlib.Omega.{arith}
-use borrow.Author.Tests.{leb-true, leb-false, lt-ltb, le-ltb, ne-eqb}
+use borrow.Author.Tests.{leb-true, leb-false, lt-ltb, ne-eqb}
 use lib.Dec.{leb}
-use lib.ListN.{length, take, drop, getD, set}
-use lib.Seq.{take-suc, take-suc-set}
-use Rattle.io.specs.Digits.{digits, glyph, Fewest}
-use Rattle.list_text.specs.Lines.{digitsOf, numberText, gateText, conditionText, lineText, linesText, Put}
+use lib.ListN.{length, take, drop, length-append, length-take}
+use lib.Seq.{sets-eq, take-at}
+use Rattle.io.specs.Digits.{digits, Fewest}
+use Rattle.text_bytes.specs.Decimal.{ascii, digit, decimal}
+use Rattle.text_bytes.specs.Buffers.{Room, Puts}
+use Rattle.text_bytes.proofs.DecimalLaws.{decimal-digit, decimal-next}
+use Rattle.list_text.specs.Lines.{numberText, gateText, conditionText, lineText, linesText, Put}
 
--- one byte more of a word
-pub more : (before after word : List ℕ) (from at i : ℕ) → at < length after → i < length word → take at after ≡ take from before ++ take i word
-    → take (at + 1) (set after at (getD word i 0)) ≡ take from before ++ take (i + 1) word
-more before after word from at i h k e =
-    rw (add-one at, add-one i)
-    (take-suc-set after at (getD word i 0) h
-    ∙ ap (λ (l : List ℕ). l ++ (getD word i 0 ∷ [])) e
-    ∙ append-assoc (take from before) (take i word) (getD word i 0 ∷ [])
-    ∙ ap (λ (l : List ℕ). take from before ++ l) (sym (take-suc word i 0 k)))
+-- a word that was put, as the text up to its end
+pub word-put : {before word after : List ℕ} {from to : ℕ} → Room before from word → Puts before from word after to → Put before from after to word (length word)
+word-put {before} {word} {after} {from} {to} r p =
+    let h = r .fits in
+    let n : length (take from before ++ word) ≡ to = length-append (take from before) word ∙ omega (arith, length-take from before, p .past) in
+    let s : after ≡ take from before ++ word ++ drop (from + length word) before = p .stored ∙ sets-eq word before from h in
+    record { text = rw s (take-at (take from before ++ word) (drop (from + length word) before) to n); bound = omega (arith, p .past) }
 
 -- a word, and then another
 pub then : {before middle after : List ℕ} {from at to : ℕ} {word other : List ℕ} {few many : ℕ} (whole : List ℕ) (most : ℕ)
@@ -43,22 +44,21 @@ wider {before} {after} {from} whole most p e h =
     record { text = p .text ∙ ap (λ (l : List ℕ). take from before ++ l) e; bound = omega arith }
 
 -- the fewest digits of a number are all that it has
-pub digits-are : (k most n : ℕ) → k ≤ most → Fewest 10 1 n k → digits 10 k n ≡ digitsOf most n
-unfolding digitsOf
-digits-are zero most n h f = absurd (omega arith)
-digits-are (suc k) zero n h f = absurd (omega arith)
-digits-are (suc zero) (suc most) n h f =
+pub digits-are : (k n : ℕ) → Fewest 10 1 n k → digits 10 k n ≡ decimal n
+digits-are zero n f = absurd (omega arith)
+digits-are (suc zero) n f =
     let small : n < 10 = f .1 in
-    rw (lt-ltb n 10 small)
-digits-are (suc (suc k)) (suc most) n h f =
+    let e : n % 10 ≡ n = omega arith in
+    rw (e, lt-ltb n 10 small, decimal-digit n small)
+digits-are (suc (suc k)) n f =
     let p : 1 ≤ 10 ^ k = one-le-pow k 10 (omega arith) in
     let large : 10 ^ suc k ≤ n = rw sub-one at (f .2 (omega arith)) in
     let tens : 10 ^ suc k ≡ 10 ^ k * 10 = pow-suc 10 k in
     let above : n < 10 ^ suc (suc k) = f .1 in
     let hundreds : 10 ^ suc (suc k) ≡ 10 ^ suc k * 10 = pow-suc 10 (suc k) in
     let ten : 10 ≤ n = omega arith in
-    let rest : digits 10 (suc k) (n / 10) ≡ digitsOf most (n / 10) = digits-are (suc k) most (n / 10) (omega arith) (omega arith, omega arith, (λ _. simp sub-one (omega arith))) in
-    rw (le-ltb n 10 ten) (ap (λ (l : List ℕ). l ++ (glyph (n % 10) ∷ [])) rest)
+    let rest : digits 10 (suc k) (n / 10) ≡ decimal (n / 10) = digits-are (suc k) (n / 10) (omega arith, omega arith, (λ _. simp sub-one (omega arith))) in
+    rw (lt-ltb (n % 10) 10 (omega arith), decimal-next n ten) (ap (λ (l : List ℕ). l ++ (digit (n % 10) ∷ [])) rest)
 
 -- 20 digits hold a number of 64 bits
 pub digits-fit : (k n : ℕ) → n < 18446744073709551616 → Fewest 10 1 n k → k ≤ 20
@@ -96,11 +96,11 @@ lines-together bytes first some (suc more) =
 
 -- an operation that no record has
 pub gate-other : (op first second : ℕ) → (op ≡ 1 → ⊥) → (op ≡ 2 → ⊥) → (op ≡ 3 → ⊥) → (op ≡ 4 → ⊥) → (op ≡ 5 → ⊥) → (op ≡ 6 → ⊥)
-    → (111 ∷ 112 ∷ []) ++ numberText op ≡ gateText op first second
+    → ascii "op" ++ numberText op ≡ gateText op first second
 unfolding gateText
 gate-other op first second a b c d e f = rw (ne-eqb op 1 a, ne-eqb op 2 b, ne-eqb op 3 c, ne-eqb op 4 d, ne-eqb op 5 e, ne-eqb op 6 f)
 
 -- a condition that there is
-pub condition-is : (condition bit : ℕ) → (condition ≡ 0 → ⊥) → (105 ∷ 102 ∷ []) ++ numberText bit ++ numberText (condition - 1) ++ (32 ∷ []) ≡ conditionText condition bit
+pub condition-is : (condition bit : ℕ) → (condition ≡ 0 → ⊥) → ascii "if" ++ numberText bit ++ numberText (condition - 1) ++ ascii " " ≡ conditionText condition bit
 unfolding conditionText
 condition-is condition bit h = rw (ne-eqb condition 0 h)

@@ -1,36 +1,31 @@
--- The text of a listing: a line for each record, and a last line for the result. A text is a list of ASCII codes. Assumes nothing.
-use Prim.Native.Nat.{ℕ, zero, suc, _+_, _*_, _-_, _/_, _%_, _≤_}
+-- The text of a listing: a line for each record, and a last line for the result. Assumes nothing.
+use Prim.Native.Nat.{ℕ, zero, suc, _+_, _*_, _-_, _≤_}
 use mathlib.Core.Path.{_≡_}
 use mathlib.Core.Bool.{cond}
-use mathlib.Core.List.{List, [], _∷_, _++_}
-use lib.Dec.{eqb, ltb}
+use mathlib.Core.List.{List, [], _++_}
+use lib.Dec.{eqb}
 use lib.ListN.{take, drop, getD}
-use Rattle.io.specs.Digits.{glyph}
+use Rattle.text_bytes.specs.Decimal.{ascii, decimal}
 use Rattle.language.specs.Result.{Answer}
 
--- the last digits of n in decimal, at most `most` of them, with no zeros in front
-unfoldable pub digitsOf : ℕ → ℕ → List ℕ
-digitsOf zero n = []
-digitsOf (suc most) n = cond (ltb n 10) [] (digitsOf most (n / 10)) ++ (glyph (n % 10) ∷ [])
-
--- a space and n in decimal: 20 digits hold every number of 64 bits
+-- a space and n in decimal
 unfoldable pub numberText : ℕ → List ℕ
-numberText n = 32 ∷ digitsOf 20 n
+numberText n = ascii " " ++ decimal n
 
 -- an operation on its numbers: `h`, `t`, `tdg`, `cx`, `measure`, `reset`, and `op` for a number that no record has
 unfoldable pub gateText : (op first second : ℕ) → List ℕ
 gateText op first second =
-    cond (eqb op 1) ((104 ∷ []) ++ numberText first)
-    (cond (eqb op 2) ((116 ∷ []) ++ numberText first)
-    (cond (eqb op 3) ((116 ∷ 100 ∷ 103 ∷ []) ++ numberText first)
-    (cond (eqb op 4) ((99 ∷ 120 ∷ []) ++ numberText first ++ numberText second)
-    (cond (eqb op 5) ((109 ∷ 101 ∷ 97 ∷ 115 ∷ 117 ∷ 114 ∷ 101 ∷ []) ++ numberText first ++ numberText second)
-    (cond (eqb op 6) ((114 ∷ 101 ∷ 115 ∷ 101 ∷ 116 ∷ []) ++ numberText first)
-    ((111 ∷ 112 ∷ []) ++ numberText op))))))
+    cond (eqb op 1) (ascii "h" ++ numberText first)
+    (cond (eqb op 2) (ascii "t" ++ numberText first)
+    (cond (eqb op 3) (ascii "tdg" ++ numberText first)
+    (cond (eqb op 4) (ascii "cx" ++ numberText first ++ numberText second)
+    (cond (eqb op 5) (ascii "measure" ++ numberText first ++ numberText second)
+    (cond (eqb op 6) (ascii "reset" ++ numberText first)
+    (ascii "op" ++ numberText op))))))
 
 -- `if`, the bit, its value and a space, or nothing where there is no condition: 1 asks for the value 0 and 2 for the value 1
 unfoldable pub conditionText : (condition bit : ℕ) → List ℕ
-conditionText condition bit = cond (eqb condition 0) [] ((105 ∷ 102 ∷ []) ++ numberText bit ++ numberText (condition - 1) ++ (32 ∷ []))
+conditionText condition bit = cond (eqb condition 0) [] (ascii "if" ++ numberText bit ++ numberText (condition - 1) ++ ascii " ")
 
 -- two bytes as a number, low byte first
 unfoldable pub twoBytesAt : List ℕ → ℕ → ℕ
@@ -38,7 +33,7 @@ twoBytesAt bytes at = getD bytes at 0 + 256 * getD bytes (at + 1) 0
 
 -- the line of a record of 8 bytes: op, condition, first and second number, condition bit
 unfoldable pub lineText : List ℕ → List ℕ
-lineText bytes = conditionText (getD bytes 1 0) (twoBytesAt bytes 6) ++ gateText (getD bytes 0 0) (twoBytesAt bytes 2) (twoBytesAt bytes 4) ++ (10 ∷ [])
+lineText bytes = conditionText (getD bytes 1 0) (twoBytesAt bytes 6) ++ gateText (getD bytes 0 0) (twoBytesAt bytes 2) (twoBytesAt bytes 4) ++ ascii "\n"
 
 -- the lines of `count` records from the record `first` on
 unfoldable pub linesText : (bytes : List ℕ) (first count : ℕ) → List ℕ
@@ -47,7 +42,7 @@ linesText bytes first (suc count) = linesText bytes first count ++ lineText (tak
 
 -- the last line: `end`, number, place, records, steps
 unfoldable pub endText : (number place records steps : ℕ) → List ℕ
-endText number place records steps = (101 ∷ 110 ∷ 100 ∷ []) ++ numberText number ++ numberText place ++ numberText records ++ numberText steps ++ (10 ∷ [])
+endText number place records steps = ascii "end" ++ numberText number ++ numberText place ++ numberText records ++ numberText steps ++ ascii "\n"
 
 -- the whole listing of an answer, which is printed part by part: the lines of all its records, and the last line
 unfoldable pub listingText : Answer → List ℕ

@@ -27,14 +27,7 @@ fn put(word: &[u8], text: &mut [u8], from: usize) -> usize
     requires { ⌜ from + length (now word) ≤ length (now text) ⌝ }
     ensures { λ r. ⌜ Put (now (text .entry)) from (now (text .exit)) r (now (word .entry)) (length (now (word .entry))) ⌝ }
 {
-    let mut at = from;
-    let mut i = 0;
-    while i < word.len() {
-        text[at] = word[i];
-        at += 1;
-        i += 1;
-    }
-    at
+    text_bytes::put(word, text, from)
 }
 
 // Puts a space and a number in decimal.

@@ -8,11 +8,12 @@ use mathlib.Core.List.{[], _∷_, _++_, append-nil}
 use native.Mathlib.Omega.{arith}
 use lib.ListN.{take}
 use denote.Ref.{now}
+use Rattle.text_bytes.specs.Decimal.{ascii}
 use Rattle.list_text.specs.Lines.{conditionText, numberText}
 use Rattle.list_text.proofs.Texts.{then, condition-is}
 
 returns : tie.Need-returns
-unfolding conditionText
+unfolding conditionText ascii
 returns c =
     let e : c .before .before .args .kind ≡ 0 = omega arith in
     record {
@@ -42,9 +43,10 @@ same-length : tie.Need-same-length
 same-length c = search needs
 
 returns-2 : tie.Need-returns-2
+unfolding ascii
 returns-2 c =
     then _ _ (c .before .before .before .before .before .before .before .paired .ensures) (c .before .before .put .ensures)
-    (ap (λ (k : ℕ). (105 ∷ 102 ∷ []) ++ numberText (c .before .before .before .before .before .before .before .before .before .before .before .before .before .args .bit) ++ numberText (k - 1) ++ (32 ∷ [])) (c .before .before .before .before .before .before .before .before .before .wide .ensures) ∙ condition-is (c .before .before .before .before .before .before .before .before .before .before .before .before .before .args .kind) (c .before .before .before .before .before .before .before .before .before .before .before .before .before .args .bit) (c .before .before .before .before .before .before .before .before .before .before .before .if1 .left))
+    (ap (λ (k : ℕ). ascii "if" ++ numberText (c .before .before .before .before .before .before .before .before .before .before .before .before .before .args .bit) ++ numberText (k - 1) ++ ascii " ") (c .before .before .before .before .before .before .before .before .before .wide .ensures) ∙ condition-is (c .before .before .before .before .before .before .before .before .before .before .before .before .before .args .kind) (c .before .before .before .before .before .before .before .before .before .before .before .before .before .args .bit) (c .before .before .before .before .before .before .before .before .before .before .before .if1 .left))
     (omega arith)
 
 pub condition-spec : {M : Type 1} → statement M

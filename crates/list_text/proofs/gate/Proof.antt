@@ -6,6 +6,7 @@ use Prim.Native.Nat.{ℕ}
 use mathlib.Core.Path.{sym, ap, _∙_}
 use mathlib.Core.List.{_++_, _∷_, []}
 use native.Mathlib.Omega.{arith}
+use Rattle.text_bytes.specs.Decimal.{ascii}
 use Rattle.list_text.specs.Lines.{gateText, numberText}
 use Rattle.list_text.proofs.Texts.{wider, gate-other}
 
@@ -58,7 +59,7 @@ same-length : tie.Need-same-length
 same-length c = search needs
 
 returns : tie.Need-returns
-unfolding gateText
+unfolding gateText ascii
 returns c =
     wider _ _ (c .before .before .named .ensures) (sym (ap (λ (k : ℕ). gateText k (c .before .before .before .before .before .before .before .args .first) (c .before .before .before .before .before .before .before .args .second)) (c .before .before .before .before .before .match .keys1))) (omega arith)
 
@@ -66,7 +67,7 @@ same-length-2 : tie.Need-same-length-2
 same-length-2 c = search needs
 
 returns-2 : tie.Need-returns-2
-unfolding gateText
+unfolding gateText ascii
 returns-2 c =
     wider _ _ (c .before .before .named2 .ensures) (sym (ap (λ (k : ℕ). gateText k (c .before .before .before .before .before .before .before .args .first) (c .before .before .before .before .before .before .before .args .second)) (c .before .before .before .before .before .match .keys2))) (omega arith)
 
@@ -74,7 +75,7 @@ same-length-3 : tie.Need-same-length-3
 same-length-3 c = search needs
 
 returns-3 : tie.Need-returns-3
-unfolding gateText
+unfolding gateText ascii
 returns-3 c =
     wider _ _ (c .before .before .named3 .ensures) (sym (ap (λ (k : ℕ). gateText k (c .before .before .before .before .before .before .before .args .first) (c .before .before .before .before .before .before .before .args .second)) (c .before .before .before .before .before .match .keys3))) (omega arith)
 
@@ -82,7 +83,7 @@ same-length-4 : tie.Need-same-length-4
 same-length-4 c = search needs
 
 returns-4 : tie.Need-returns-4
-unfolding gateText
+unfolding gateText ascii
 returns-4 c =
     wider _ _ (c .before .before .paired .ensures) (sym (ap (λ (k : ℕ). gateText k (c .before .before .before .before .before .before .before .args .first) (c .before .before .before .before .before .before .before .args .second)) (c .before .before .before .before .before .match .keys4))) (omega arith)
 
@@ -90,7 +91,7 @@ same-length-5 : tie.Need-same-length-5
 same-length-5 c = search needs
 
 returns-5 : tie.Need-returns-5
-unfolding gateText
+unfolding gateText ascii
 returns-5 c =
     wider _ _ (c .before .before .paired2 .ensures) (sym (ap (λ (k : ℕ). gateText k (c .before .before .before .before .before .before .before .args .first) (c .before .before .before .before .before .before .before .args .second)) (c .before .before .before .before .before .match .keys5))) (omega arith)
 
@@ -98,7 +99,7 @@ same-length-6 : tie.Need-same-length-6
 same-length-6 c = search needs
 
 returns-6 : tie.Need-returns-6
-unfolding gateText
+unfolding gateText ascii
 returns-6 c =
     wider _ _ (c .before .before .named4 .ensures) (sym (ap (λ (k : ℕ). gateText k (c .before .before .before .before .before .before .before .args .first) (c .before .before .before .before .before .before .before .args .second)) (c .before .before .before .before .before .match .keys6))) (omega arith)
 
@@ -106,9 +107,10 @@ same-length-7 : tie.Need-same-length-7
 same-length-7 c = search needs
 
 returns-7 : tie.Need-returns-7
+unfolding ascii
 returns-7 c =
     let r = c .before .before .before .before .before .before .match .rest in
-    wider _ _ (c .before .before .named5 .ensures) (ap (λ (k : ℕ). (111 ∷ 112 ∷ []) ++ numberText k) (c .before .before .before .before .wide .ensures) ∙ gate-other (c .before .before .before .before .before .before .before .before .args .op) (c .before .before .before .before .before .before .before .before .args .first) (c .before .before .before .before .before .before .before .before .args .second) (r .0 .0 .0 .0 .0 .1) (r .0 .0 .0 .0 .1) (r .0 .0 .0 .1) (r .0 .0 .1) (r .0 .1) (r .1)) (omega arith)
+    wider _ _ (c .before .before .named5 .ensures) (ap (λ (k : ℕ). ascii "op" ++ numberText k) (c .before .before .before .before .wide .ensures) ∙ gate-other (c .before .before .before .before .before .before .before .before .args .op) (c .before .before .before .before .before .before .before .before .args .first) (c .before .before .before .before .before .before .before .before .args .second) (r .0 .0 .0 .0 .0 .1) (r .0 .0 .0 .0 .1) (r .0 .0 .0 .1) (r .0 .0 .1) (r .0 .1) (r .1)) (omega arith)
 
 pub gate-spec : {M : Type 1} → statement M
 gate-spec =

@@ -4,6 +4,7 @@ use Rattle.list_text.proofs.last_line.Statement.{statement}
 use Rattle.list_text.proofs.last_line.Tie as tie
 use mathlib.Core.Path.{refl}
 use native.Mathlib.Omega.{arith}
+use Rattle.text_bytes.specs.Decimal.{ascii}
 use Rattle.list_text.specs.Lines.{endText}
 use Rattle.list_text.proofs.Texts.{then}
 use Prim.Native.Nat.{_≤_}
@@ -31,7 +32,7 @@ same-length : tie.Need-same-length
 same-length c = search needs
 
 returns : tie.Need-returns
-unfolding endText
+unfolding endText ascii
 returns c =
     let p = then _ 112 (then _ 91 (then _ 70 (c .before .before .before .before .before .before .before .before .before .before .before .before .before .before .before .paired .ensures) (c .before .before .before .before .before .before .before .before .before .before .before .number .ensures) refl (omega arith)) (c .before .before .before .before .before .before .before .number2 .ensures) refl (omega arith)) (c .before .before .put .ensures) refl (omega arith) in
     let b : c .before .before .put .result ≤ 112 = p .bound in

@@ -7,6 +7,7 @@ use mathlib.Core.List.{[], _∷_, _++_}
 use native.Mathlib.Omega.{arith}
 use lib.ListN.{getD}
 use denote.Ref.{now}
+use Rattle.text_bytes.specs.Decimal.{ascii}
 use Rattle.list_text.specs.Lines.{lineText, conditionText, gateText}
 use Rattle.list_text.proofs.Texts.{then}
 
@@ -41,11 +42,11 @@ same-length : tie.Need-same-length
 same-length c = search needs
 
 returns : tie.Need-returns
-unfolding lineText
+unfolding lineText ascii
 returns c =
     let b = now (c .before .before .before .before .before .before .before .before .before .before .before .before .before .before .before .before .before .before .before .before .args .bytes) in
     then _ _ (then _ 99 (c .before .before .before .before .before .before .before .before .before .before .before .before .before .before .condition .ensures) (c .before .before .before .before .before .before .before .gate .ensures) refl (omega arith)) (c .before .before .put .ensures)
-    (λ j. conditionText (getD b 1 0) (c .before .before .before .before .before .before .before .before .before .before .before .before .before .before .before .before .two-bytes .ensures j) ++ gateText (getD b 0 0) (c .before .before .before .before .before .before .before .before .before .before .two-bytes2 .ensures j) (c .before .before .before .before .before .before .before .before .before .two-bytes3 .ensures j) ++ (10 ∷ []))
+    (λ j. conditionText (getD b 1 0) (c .before .before .before .before .before .before .before .before .before .before .before .before .before .before .before .before .two-bytes .ensures j) ++ gateText (getD b 0 0) (c .before .before .before .before .before .before .before .before .before .before .two-bytes2 .ensures j) (c .before .before .before .before .before .before .before .before .before .two-bytes3 .ensures j) ++ ascii "\n")
     (omega arith)
 
 pub line-spec : {M : Type 1} → statement M

@@ -8,6 +8,7 @@ use Prim.Native.Nat.{ℕ, _+_, _≤_}
 use native.Mathlib.Omega.{arith}
 use lib.ListN.{length, take}
 use denote.Ref.{now}
+use Rattle.text_bytes.specs.Decimal.{ascii}
 use Rattle.list_text.specs.Lines.{numberText}
 use Rattle.list_text.proofs.Texts.{then, digits-are, digits-fit}
 
@@ -39,11 +40,11 @@ same-length : tie.Need-same-length
 same-length c = search needs
 
 returns : tie.Need-returns
-unfolding numberText
+unfolding numberText ascii
 returns c =
     let fit : c .before .before .before .before .before .before .before .before .before .before .decimal .result ≤ 20 = digits-fit (c .before .before .before .before .before .before .before .before .before .before .decimal .result) (c .before .before .before .before .before .before .before .before .before .before .before .before .before .args .n) (omega arith) (c .before .before .before .before .before .before .before .before .before .before .decimal .ensures .1 .0) in
     let size : c .before .before .before .before .before .before .before .before .before .before .decimal .result ≡ length (take (c .before .before .before .before .before .before .before .before .before .before .decimal .result) (c .before .before .before .before .before .before .before .before .before .before .decimal .last .1 .0)) = c .before .before .before .before .before .before .before .before .before .before .decimal .ensures .0 .1 in
-    then _ 21 (c .before .before .before .before .before .before .before .put .ensures) (c .before .before .put2 .ensures) (ap (λ (l : List ℕ). 32 ∷ l) (c .before .before .before .before .before .before .before .before .before .before .decimal .ensures .1 .1 ∙ digits-are (c .before .before .before .before .before .before .before .before .before .before .decimal .result) 20 (c .before .before .before .before .before .before .before .before .before .before .before .before .before .args .n) fit (c .before .before .before .before .before .before .before .before .before .before .decimal .ensures .1 .0))) (omega arith)
+    then _ 21 (c .before .before .before .before .before .before .before .put .ensures) (c .before .before .put2 .ensures) (ap (λ (l : List ℕ). 32 ∷ l) (c .before .before .before .before .before .before .before .before .before .before .decimal .ensures .1 .1 ∙ digits-are (c .before .before .before .before .before .before .before .before .before .before .decimal .result) (c .before .before .before .before .before .before .before .before .before .before .before .before .before .args .n) (c .before .before .before .before .before .before .before .before .before .before .decimal .ensures .1 .0))) (omega arith)
 
 pub number-spec : {M : Type 1} → statement M
 number-spec =
