@@ -1,0 +1,4 @@
+pub mod TextLength
+pub mod TextBack
+pub mod RecordsBack
+pub mod TextSoundness

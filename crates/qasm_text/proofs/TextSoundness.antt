@@ -1,0 +1,325 @@
+-- THE THEOREM for the calls with text: an accepted program's runs and instances are never stuck, and their answers are TextSound.
+use mathlib.Core.Path.{_≡_, refl, sym, ap, subst, _∙_}
+use mathlib.Core.Logic.{_⊎_, inl, inr}
+use mathlib.Core.List.{List, [], map}
+use mathlib.Core.Bool.{Bool, true, false, cond}
+use mathlib.Core.Option.{Option, none, some}
+use Prim.Native.Nat.{ℕ, zero, suc, _*_, _^_, _≤_, _<_}
+use native.Mathlib.Omega.{arith}
+use lib.IntN.{pos}
+use lib.Dec.{leb, eqb}
+use borrow.Author.Tests.{leb-true, leb-false}
+use lib.ListN.{length, take, drop, getElem?, length-append, length-drop}
+use lib.Seq.{take-append-seam, drop-append-seam}
+use Rattle.language.specs.Read.{read}
+use Rattle.language.specs.Check.{Checked, good, refused}
+use Rattle.language.specs.Machine.{Record, Outcome, going, ended, stuck, Family, allDeclared, runProgram, runInstance}
+use Rattle.language.specs.Result.{Answer, Conclusion, finished, gotStuck, writtenInto, resultOf, untouched, conclusionOf, checkProgram, verdict, checkResult, ifAccepted, runOutcome, fourBytes, allSizesFit, instanceOf, instanceOutcome}
+use Rattle.language.specs.Sound.{qubitsDeclared, bitsDeclared, wiresLaidOut, AllName, Sound, Finishes, Suits}
+use Rattle.qasm_text.specs.Text.{textOf, textLength, enoughFor}
+use Rattle.qasm_text.specs.TextResult.{TextAnswer, textFinished, textStuck, textInto, unprinted, fullyPrinted, printed, byNumber, textConclusion, recordsOf, runRecords, recordsAt, instanceRecords, runText, runTextOutcome, instanceText, instanceTextOutcome}
+use Rattle.qasm_text.specs.TextSound.{Listed, TextSound, TextFinishes, RunTextTheorem, InstanceTextTheorem}
+use Rattle.qasm_text.specs.RecordsIn.{recordsIn}
+use Rattle.language.proofs.Refusals.{accepted}
+use Rattle.language.proofs.Soundness.{run-sound, instance-sound, run-refused, instance-refused, run-never-stuck, instance-never-stuck}
+use Rattle.qasm_text.proofs.TextLength.{text-length, text-most, text-small}
+use Rattle.qasm_text.proofs.TextBack.{text-injective}
+use Rattle.qasm_text.proofs.RecordsBack.{records-written}
+
+-- ---- the buffer
+
+pub into-size : (buffer text : List ℕ) → length text ≤ length buffer → length (textInto buffer text) ≡ length buffer
+unfolding textInto
+into-size buffer text h = omega (arith, length-append text (drop (length text) buffer), length-drop (length text) buffer)
+
+into-text : (buffer text : List ℕ) → take (length text) (textInto buffer text) ≡ text
+unfolding textInto
+into-text buffer text = take-append-seam text (drop (length text) buffer)
+
+into-rest : (buffer text : List ℕ) → drop (length text) (textInto buffer text) ≡ drop (length text) buffer
+unfolding textInto
+into-rest buffer text = drop-append-seam text (drop (length text) buffer)
+
+-- ---- an answer printed
+
+module _ (least limit q b : ℕ) (list : List Record) (lent buffer : List ℕ) (run : Answer) (s : Sound least limit q b lent run) (l : run .result .number ≡ 0 → Listed q b lent list run) where
+  enough-text : run .result .number ≡ 0 → textLength q b list ≤ enoughFor b (run .result .records)
+  enough-text z = rw (← l z .count) (text-most q b list (s .few .0) (s .few .1) (l z .named))
+
+  small-text : run .result .number ≡ 0 → length lent < 2 ^ 60 → textLength q b list < 2 ^ 63
+  small-text z h = text-small q b list (length lent) (s .few .0) (s .few .1) (l z .named) (omega (arith, l z .count, s .fits)) h
+
+  end-number : (n : ℕ) → run .result .number ≡ suc n → (run .result .number ≡ 0) ⊎ ((least ≤ run .result .number) × (run .result .number ≤ 27)) → (least ≤ suc n) × (suc n ≤ 27)
+  end-number n e (inl z) = absurd (omega arith)
+  end-number n e (inr h) = rw e at h
+
+  other-sound : (n : ℕ) → run .result .number ≡ suc n → TextSound least limit q b list lent buffer (unprinted (suc n) (run .result .place) buffer run)
+  unfolding unprinted
+  other-sound n e = record {
+    run = run;
+    sound = s;
+    records = refl;
+    steps = refl;
+    output = refl;
+    number = inr (inr (end-number n e (s .number)));
+    other = λ h. (sym e, refl);
+    listed = l;
+    printed = λ z. absurd (omega arith);
+    full = λ z. absurd (omega arith);
+    place = λ z. absurd (omega arith);
+    refused = λ h. (refl, refl);
+    fits = omega arith;
+    size = refl;
+    rest = refl;
+    enough = enough-text;
+    small = small-text;
+  }
+
+  full-sound : run .result .number ≡ 0 → length buffer < length (textOf q b list) → TextSound least limit q b list lent buffer (unprinted 30 0 buffer run)
+  unfolding unprinted
+  full-sound z t = record {
+    run = run;
+    sound = s;
+    records = refl;
+    steps = refl;
+    output = refl;
+    number = inr (inl refl);
+    other = λ h. absurd (omega arith);
+    listed = l;
+    printed = λ y h. absurd (omega (arith, text-length q b list));
+    full = λ y h. refl;
+    place = λ y. refl;
+    refused = λ h. (refl, refl);
+    fits = omega arith;
+    size = refl;
+    rest = refl;
+    enough = enough-text;
+    small = small-text;
+  }
+
+  printed-sound : run .result .number ≡ 0 → length (textOf q b list) ≤ length buffer → TextSound least limit q b list lent buffer (fullyPrinted buffer (textOf q b list) run)
+  unfolding fullyPrinted
+  printed-sound z t = record {
+    run = run;
+    sound = s;
+    records = refl;
+    steps = refl;
+    output = refl;
+    number = inl refl;
+    other = λ h. absurd (omega arith);
+    listed = l;
+    printed = λ y h. (refl, text-length q b list, into-text buffer (textOf q b list));
+    full = λ y h. absurd (omega (arith, text-length q b list));
+    place = λ y. refl;
+    refused = λ h. absurd (omega arith);
+    fits = t;
+    size = into-size buffer (textOf q b list) t;
+    rest = into-rest buffer (textOf q b list);
+    enough = enough-text;
+    small = small-text;
+  }
+
+  answer-sound : (n : ℕ) → run .result .number ≡ n → TextSound least limit q b list lent buffer (byNumber n buffer (textOf q b list) run)
+  unfolding byNumber printed
+  answer-sound zero e = go (leb (length (textOf q b list)) (length buffer)) refl
+    where
+      go : (t : Bool) → leb (length (textOf q b list)) (length buffer) ≡ t → TextSound least limit q b list lent buffer (cond t (fullyPrinted buffer (textOf q b list) run) (unprinted 30 0 buffer run))
+      go true t = printed-sound e (leb-true (length (textOf q b list)) (length buffer) t)
+      go false t = full-sound e (leb-false (length (textOf q b list)) (length buffer) t)
+  answer-sound (suc n) e = other-sound n e
+
+-- ---- the list behind an answer
+
+-- an answer with number 0 holds the list
+pub record Holds (lent : List ℕ) (list : List Record) (c : Conclusion) : Type 0 where
+  pub held : (a : Answer) → c ≡ finished a → a .result .number ≡ 0 → (a .result .records ≡ length list) × (a .output ≡ writtenInto lent list)
+
+same-answer : {x a : Answer} → finished x ≡ finished a → x ≡ a
+same-answer e = cc
+
+outcome-holds : {A : Type 0} (lent : List ℕ) (o : Outcome A) → Holds lent (recordsOf o) (conclusionOf lent o)
+unfolding recordsOf conclusionOf resultOf
+outcome-holds lent (going x s) = record { held = λ a e z. let f = sym (same-answer e) in (ap (λ (y : Answer). y .result .records) f, ap (λ (y : Answer). y .output) f) }
+outcome-holds lent (ended n p s) = record { held = λ a e z. let f = sym (same-answer e) in (ap (λ (y : Answer). y .result .records) f, ap (λ (y : Answer). y .output) f) }
+outcome-holds lent stuck = record { held = λ a e z. absurd (let k : _≡_ {A = ℕ} 0 1 = cc in omega arith) }
+
+-- an answer with another number holds nothing
+refused-holds : (lent : List ℕ) (list : List Record) (n p : ℕ) → 1 ≤ n → Holds lent list (untouched lent n p)
+refused-holds lent list n p h = record { held = λ a e z. absurd (omega (arith, ap (λ (y : Answer). y .result .number) (same-answer e))) }
+
+holds-if : (lent : List ℕ) (list : List Record) (t : Bool) (c d : Conclusion) → Holds lent list c → Holds lent list d → Holds lent list (cond t c d)
+holds-if lent list true c d x y = x
+holds-if lent list false c d x y = y
+
+instance-holds : (o : Option Family) (sizes output : List ℕ) → Holds output (recordsAt o sizes) (instanceOf o sizes output)
+unfolding recordsAt instanceOf
+instance-holds none sizes output = refused-holds output [] 20 0 (omega arith)
+instance-holds (some f) sizes output =
+    let list = recordsOf (runInstance f (map pos (fourBytes sizes))) in
+    holds-if output list (eqb (length sizes) (4 * f .variables)) _ _
+    (holds-if output list (allSizesFit (fourBytes sizes)) _ _ (outcome-holds output (runInstance f (map pos (fourBytes sizes)))) (refused-holds output list 22 0 (omega arith)))
+    (refused-holds output list 21 0 (omega arith))
+
+-- ---- the calls
+
+text-finishes : (least limit q b : ℕ) (list : List Record) (lent buffer : List ℕ) (c : Conclusion) → Finishes least limit q b lent c → Holds lent list c
+    → TextFinishes least limit q b list lent buffer (textConclusion c buffer (textOf q b list))
+unfolding textConclusion
+text-finishes least limit q b list lent buffer c f h =
+    let run = f .answer in
+    let s = f .sound in
+    let back : recordsIn (run .result .records) (run .output) ≡ s .written = rw (← s .count, s .output) (records-written lent (s .written)) in
+    let read : (z : run .result .number ≡ 0) → recordsIn (run .result .records) (run .output) ≡ list = λ z. rw (h .held run (f .is) z .0, h .held run (f .is) z .1) (records-written lent list) in
+    rw (f .is) (record {
+      answer = _;
+      is = refl;
+      sound = answer-sound least limit q b list lent buffer run s (λ z. record {
+        count = sym (h .held run (f .is) z .0);
+        output = h .held run (f .is) z .1;
+        named = subst (AllName q b) (sym back ∙ read z) (s .named);
+        read = read z;
+      }) (run .result .number) refl;
+    })
+
+run-holds : (program : List ℕ) (limit : ℕ) (output : List ℕ) → checkResult program .number ≡ 0 → Holds output (runRecords program limit output) (runOutcome program limit output)
+unfolding runOutcome ifAccepted runRecords
+run-holds program limit output e = rw (accepted program e .1) (outcome-holds output (runProgram limit (length output) (read program)))
+
+family-holds : (program : List ℕ) (family : ℕ) (sizes : List ℕ) (limit : ℕ) (output : List ℕ) → checkResult program .number ≡ 0
+    → Holds output (instanceRecords program family sizes limit output) (instanceOutcome program family sizes limit output)
+unfolding instanceOutcome ifAccepted instanceRecords
+family-holds program family sizes limit output e = rw (accepted program e .1) (instance-holds (getElem? (allDeclared limit (length output) (read program) []) family) sizes output)
+
+-- every whole run of an accepted program, at every limit, output and text buffer
+pub run-text-sound : RunTextTheorem
+unfolding runTextOutcome runText
+run-text-sound program limit output buffer e =
+    text-finishes 24 limit (qubitsDeclared program) (bitsDeclared program) (runRecords program limit output) output buffer (runOutcome program limit output)
+    (run-sound program limit output e) (run-holds program limit output e)
+
+-- every instance of an accepted program
+pub instance-text-sound : InstanceTextTheorem
+unfolding instanceTextOutcome instanceText
+instance-text-sound program family sizes limit output buffer e =
+    let h = family-holds program family sizes limit output e in
+    let i = instance-sound program family sizes limit output e in
+    let q = wiresLaidOut program family sizes in
+    let list = instanceRecords program family sizes limit output in
+    let c = instanceOutcome program family sizes limit output in
+    (text-finishes 20 limit q 0 list output buffer c (i .0) h, λ s. text-finishes 23 limit q 0 list output buffer c (i .1 s) h)
+
+-- ---- different lists print differently
+
+-- number 0 comes of a run with number 0 whose text fits
+module _ {least limit q b : ℕ} {list : List Record} {lent buffer : List ℕ} {a : TextAnswer} (x : TextSound least limit q b list lent buffer a) (z : a .result .number ≡ 0) where
+  run-done : x .run .result .number ≡ 0
+  run-done = go (x .run .result .number) refl
+    where
+      go : (n : ℕ) → x .run .result .number ≡ n → x .run .result .number ≡ 0
+      go zero e = e
+      go (suc n) e = absurd (omega (arith, x .other (omega arith) .0))
+
+  printed-fits : textLength q b list ≤ length buffer
+  printed-fits = go (leb (textLength q b list) (length buffer)) refl
+    where
+      go : (t : Bool) → leb (textLength q b list) (length buffer) ≡ t → textLength q b list ≤ length buffer
+      go true t = leb-true (textLength q b list) (length buffer) t
+      go false t = absurd (omega (arith, x .full run-done (leb-false (textLength q b list) (length buffer) t)))
+
+  -- the buffer begins with the list's text
+  pub text-printed : take (a .result .length) (a .text) ≡ textOf q b list
+  text-printed = x .printed run-done printed-fits .2
+
+-- equal texts printed over the same wires and bits are those of equal lists, and so of outputs with the same records
+pub printed-injective : {least limit least′ limit′ q b : ℕ} {list list′ : List Record} {lent buffer lent′ buffer′ : List ℕ} {a a′ : TextAnswer}
+    → TextSound least limit q b list lent buffer a → TextSound least′ limit′ q b list′ lent′ buffer′ a′ → a .result .number ≡ 0 → a′ .result .number ≡ 0
+    → take (a .result .length) (a .text) ≡ take (a′ .result .length) (a′ .text) → list ≡ list′
+printed-injective {q = q} {b = b} {list = list} {list′ = list′} x y z w e = text-injective q b list list′ (sym (text-printed x z) ∙ e ∙ text-printed y w)
+
+-- ---- a program that is turned down
+
+-- the check's number and place, nothing counted, output and buffer as lent
+abbrev pub turnedDownText : (program output buffer : List ℕ) → TextAnswer
+turnedDownText program output buffer = record {
+  result = record { number = checkResult program .number; place = checkResult program .place; records = 0; steps = 0; length = 0 };
+  output = output;
+  text = buffer;
+}
+
+pub not-printed : (n : ℕ) (buffer text : List ℕ) (a : Answer) → 1 ≤ n → byNumber n buffer text a ≡ unprinted n (a .result .place) buffer a
+unfolding byNumber
+not-printed zero buffer text a h = absurd (omega arith)
+not-printed (suc n) buffer text a h = refl
+
+no-counts : {A : Type 0} (c : Checked A) → (verdict c .records ≡ 0) × (verdict c .steps ≡ 0)
+unfolding verdict
+no-counts (good a) = (refl, refl)
+no-counts (refused n p) = (refl, refl)
+
+refused-text : (program output buffer text : List ℕ) → 1 ≤ checkResult program .number
+    → textConclusion (finished (record { result = checkResult program; output = output })) buffer text ≡ textFinished (turnedDownText program output buffer)
+unfolding textConclusion unprinted checkResult
+refused-text program output buffer text h =
+    let c = no-counts (checkProgram program) in
+    ap textFinished (not-printed (checkResult program .number) buffer text _ h ∙ rw (c .0, c .1))
+
+pub run-text-refused : (program : List ℕ) (limit : ℕ) (output buffer : List ℕ) → 1 ≤ checkResult program .number
+    → runTextOutcome program limit output buffer ≡ textFinished (turnedDownText program output buffer)
+unfolding runTextOutcome
+run-text-refused program limit output buffer h = rw (run-refused program limit output h) (refused-text program output buffer (runText program limit output) h)
+
+pub instance-text-refused : (program : List ℕ) (family : ℕ) (sizes : List ℕ) (limit : ℕ) (output buffer : List ℕ) → 1 ≤ checkResult program .number
+    → instanceTextOutcome program family sizes limit output buffer ≡ textFinished (turnedDownText program output buffer)
+unfolding instanceTextOutcome
+instance-text-refused program family sizes limit output buffer h =
+    rw (instance-refused program family sizes limit output h) (refused-text program output buffer (instanceText program family sizes limit output) h)
+
+-- ---- so no call is ever stuck, whatever the program
+
+stuck-behind : (c : Conclusion) (buffer text : List ℕ) → textConclusion c buffer text ≡ textStuck → c ≡ gotStuck
+unfolding textConclusion
+stuck-behind (finished a) buffer text e = absurd (let z : _≡_ {A = ℕ} 0 1 = cc in omega arith)
+stuck-behind gotStuck buffer text e = refl
+
+pub run-text-never-stuck : (program : List ℕ) (limit : ℕ) (output buffer : List ℕ) → runTextOutcome program limit output buffer ≡ textStuck → ⊥
+unfolding runTextOutcome
+run-text-never-stuck program limit output buffer e = run-never-stuck program limit output (stuck-behind (runOutcome program limit output) buffer (runText program limit output) e)
+
+pub instance-text-never-stuck : (program : List ℕ) (family : ℕ) (sizes : List ℕ) (limit : ℕ) (output buffer : List ℕ) → instanceTextOutcome program family sizes limit output buffer ≡ textStuck → ⊥
+unfolding instanceTextOutcome
+instance-text-never-stuck program family sizes limit output buffer e =
+    instance-never-stuck program family sizes limit output (stuck-behind (instanceOutcome program family sizes limit output) buffer (instanceText program family sizes limit output) e)
+
+-- ---- as code has it: the run's answer, and the list read from its output
+
+by-bytes : (q b n : ℕ) (list : List Record) (buffer : List ℕ) (a : Answer) → a .result .number ≡ n → (a .result .number ≡ 0 → recordsIn (a .result .records) (a .output) ≡ list)
+    → byNumber n buffer (textOf q b list) a ≡ byNumber n buffer (textOf q b (recordsIn (a .result .records) (a .output))) a
+unfolding byNumber
+by-bytes q b zero list buffer a e h = rw (h e)
+by-bytes q b (suc n) list buffer a e h = refl
+
+read-back : (lent : List ℕ) (list : List Record) (c : Conclusion) (a : Answer) → Holds lent list c → c ≡ finished a → a .result .number ≡ 0 → recordsIn (a .result .records) (a .output) ≡ list
+read-back lent list c a h e z = rw (h .held a e z .0, h .held a e z .1) (records-written lent list)
+
+-- the text call's answer from the run call's, for every program
+pub run-text-by : (program : List ℕ) (limit : ℕ) (output buffer : List ℕ) (a : Answer) → runOutcome program limit output ≡ finished a
+    → runTextOutcome program limit output buffer
+    ≡ textFinished (byNumber (a .result .number) buffer (textOf (qubitsDeclared program) (bitsDeclared program) (recordsIn (a .result .records) (a .output))) a)
+unfolding runTextOutcome runText textConclusion
+run-text-by program limit output buffer a e =
+    rw e (ap textFinished (by-bytes (qubitsDeclared program) (bitsDeclared program) (a .result .number) (runRecords program limit output) buffer a refl (go (checkResult program .number) refl)))
+  where
+    go : (n : ℕ) → checkResult program .number ≡ n → a .result .number ≡ 0 → recordsIn (a .result .records) (a .output) ≡ runRecords program limit output
+    go zero c z = read-back output (runRecords program limit output) (runOutcome program limit output) a (run-holds program limit output c) e z
+    go (suc n) c z = absurd (omega (arith, ap (λ (y : Answer). y .result .number) (same-answer (sym (run-refused program limit output (omega arith)) ∙ e))))
+
+pub instance-text-by : (program : List ℕ) (family : ℕ) (sizes : List ℕ) (limit : ℕ) (output buffer : List ℕ) (a : Answer) → instanceOutcome program family sizes limit output ≡ finished a
+    → instanceTextOutcome program family sizes limit output buffer
+    ≡ textFinished (byNumber (a .result .number) buffer (textOf (wiresLaidOut program family sizes) 0 (recordsIn (a .result .records) (a .output))) a)
+unfolding instanceTextOutcome instanceText textConclusion
+instance-text-by program family sizes limit output buffer a e =
+    rw e (ap textFinished (by-bytes (wiresLaidOut program family sizes) 0 (a .result .number) (instanceRecords program family sizes limit output) buffer a refl (go (checkResult program .number) refl)))
+  where
+    go : (n : ℕ) → checkResult program .number ≡ n → a .result .number ≡ 0 → recordsIn (a .result .records) (a .output) ≡ instanceRecords program family sizes limit output
+    go zero c z = read-back output (instanceRecords program family sizes limit output) (instanceOutcome program family sizes limit output) a (family-holds program family sizes limit output c) e z
+    go (suc n) c z = absurd (omega (arith, ap (λ (y : Answer). y .result .number) (same-answer (sym (instance-refused program family sizes limit output (omega arith)) ∙ e))))

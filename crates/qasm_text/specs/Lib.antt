@@ -1,0 +1,5 @@
+pub mod Text
+pub mod RecordsIn
+pub mod TextResult
+pub mod TextSound
+pub mod TextExamples

@@ -1,0 +1,91 @@
+-- A list of records as OpenQASM 2.0 text: its lines, and its length as a plain sum.
+use mathlib.Core.List.{List, [], _∷_, _++_}
+use Prim.Native.Nat.{ℕ, zero, suc, _+_, _*_}
+use Rattle.text_bytes.specs.Decimal.{ascii, decimal, width}
+use Rattle.language.specs.Machine.{Wire, Bit, Condition, always, whenBit, Action, doH, doT, doTdg, doReset, doCx, doMeasure, Record}
+
+-- ---- the line of a record
+
+-- a wire is an element of the one quantum register, a bit a register of its own
+unfoldable pub wireText : Wire → List ℕ
+wireText w = ascii "q[" ++ decimal (w .number) ++ ascii "]"
+
+unfoldable pub bitText : Bit → List ℕ
+bitText b = ascii "c" ++ decimal (b .number)
+
+unfoldable pub actionText : Action → List ℕ
+actionText (doH w) = ascii "h " ++ wireText w
+actionText (doT w) = ascii "t " ++ wireText w
+actionText (doTdg w) = ascii "tdg " ++ wireText w
+actionText (doReset w) = ascii "reset " ++ wireText w
+actionText (doCx x y) = ascii "cx " ++ wireText x ++ ascii "," ++ wireText y
+actionText (doMeasure w b) = ascii "measure " ++ wireText w ++ ascii " -> " ++ bitText b ++ ascii "[0]"
+
+unfoldable pub conditionText : Condition → List ℕ
+conditionText always = []
+conditionText (whenBit b value) = ascii "if(" ++ bitText b ++ ascii "==" ++ decimal value ++ ascii ") "
+
+unfoldable pub line : Record → List ℕ
+line r = conditionText (r .condition) ++ actionText (r .action) ++ ascii ";\n"
+
+unfoldable pub lines : List Record → List ℕ
+lines [] = []
+lines (r ∷ rs) = line r ++ lines rs
+
+-- ---- the lines before them
+
+-- dropped where there is no wire
+unfoldable pub qregLine : (wireCount : ℕ) → List ℕ
+qregLine zero = []
+qregLine (suc n) = ascii "qreg q[" ++ decimal (suc n) ++ ascii "];\n"
+
+unfoldable pub cregLine : (bit : ℕ) → List ℕ
+cregLine k = ascii "creg c" ++ decimal k ++ ascii "[1];\n"
+
+-- rising
+unfoldable pub cregLines : (bitCount : ℕ) → List ℕ
+cregLines zero = []
+cregLines (suc k) = cregLines k ++ cregLine k
+
+unfoldable pub header : (wireCount bitCount : ℕ) → List ℕ
+header wireCount bitCount = ascii "OPENQASM 2.0;\n" ++ ascii "include \"qelib1.inc\";\n" ++ qregLine wireCount ++ cregLines bitCount
+
+-- the text of a list of records over so many wires and bits
+unfoldable pub textOf : (wireCount bitCount : ℕ) → List Record → List ℕ
+textOf wireCount bitCount rs = header wireCount bitCount ++ lines rs
+
+-- ---- its length
+
+unfoldable pub actionLength : Action → ℕ
+actionLength (doH w) = 5 + width (w .number)
+actionLength (doT w) = 5 + width (w .number)
+actionLength (doTdg w) = 7 + width (w .number)
+actionLength (doReset w) = 9 + width (w .number)
+actionLength (doCx x y) = 10 + width (x .number) + width (y .number)
+actionLength (doMeasure w b) = 19 + width (w .number) + width (b .number)
+
+unfoldable pub conditionLength : Condition → ℕ
+conditionLength always = 0
+conditionLength (whenBit b value) = 8 + width (b .number) + width value
+
+unfoldable pub lineLength : Record → ℕ
+lineLength r = conditionLength (r .condition) + actionLength (r .action) + 2
+
+unfoldable pub linesLength : List Record → ℕ
+linesLength [] = 0
+linesLength (r ∷ rs) = lineLength r + linesLength rs
+
+unfoldable pub qregLength : (wireCount : ℕ) → ℕ
+qregLength zero = 0
+qregLength (suc n) = 10 + width (suc n)
+
+unfoldable pub cregsLength : (bitCount : ℕ) → ℕ
+cregsLength zero = 0
+cregsLength (suc k) = cregsLength k + (11 + width k)
+
+unfoldable pub textLength : (wireCount bitCount : ℕ) → List Record → ℕ
+textLength wireCount bitCount rs = 36 + qregLength wireCount + cregsLength bitCount + linesLength rs
+
+-- bytes that are always enough for so many bits and records, however many wires there are
+abbrev pub enoughFor : (bitCount records : ℕ) → ℕ
+enoughFor bitCount records = 51 + 16 * bitCount + 45 * records
