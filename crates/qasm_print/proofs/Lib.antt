@@ -1,0 +1,3 @@
+pub mod TwoDigits
+pub mod Rows
+pub mod Printing
