@@ -1,0 +1,3 @@
+pub mod RegisterSums
+pub mod WireSums
+pub mod InstanceWires
