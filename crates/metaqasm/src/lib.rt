@@ -5,8 +5,14 @@ ghost use Prim.Native.Nat.{ℕ, _*_, _≤_};
 ghost use lib.ListN.{length};
 ghost use Rattle.language.specs.Result.{finished, checkResult, instanceOutcome, runOutcome};
 ghost use Rattle.runs.specs.Conclusions.{concluded, resultIn};
+ghost use Rattle.language.specs.Limits.{recordSize, mostWires, mostBits};
+ghost use Rattle.qasm_text.specs.Text.{textOf};
+ghost use Rattle.qasm_text.specs.RecordsIn.{recordsIn};
+ghost use Rattle.qasm_text.specs.TextResult.{textFinished, withoutText, printed, runTextOutcome, instanceTextOutcome};
 ghost use Rattle.metaqasm.specs.Answers.{answered, NotStuck, SoundRun, SoundInstance};
+ghost use Rattle.metaqasm.specs.TextAnswers.{textAnswered, SoundRunText, SoundInstanceText};
 use check_program::Outcome;
+use qasm_length::TextLength;
 use records::Answer;
 use records::State;
 
@@ -124,4 +130,100 @@ pub extern "C" fn metaqasm_instance(
         return first;
     }
     result_of_answer(runs::instance(program, wide(family), sizes, limit, output))
+}
+
+// The answer of a call that prints: that of the run, and the length of the text.
+#[repr(C)]
+pub struct MetaqasmTextResult {
+    pub number: u32,
+    pub place: u32,
+    pub records: u64,
+    pub steps: u64,
+    pub length: u64,
+}
+
+// A number and a place with the counts of a run: nothing is printed.
+fn unprinted(number: u32, place: u32, run: MetaqasmResult) -> MetaqasmTextResult
+    ensures { λ r. ⌜ textAnswered r ≡ withoutText number place (answered run) ⌝ }
+{
+    MetaqasmTextResult {
+        number,
+        place,
+        records: run.records,
+        steps: run.steps,
+        length: 0,
+    }
+}
+
+// Prints the list of a run that is complete, over so many wires and bits.
+fn printed(
+    run: MetaqasmResult,
+    wires: usize,
+    bits: usize,
+    output: &[u8],
+    text: &mut [u8],
+) -> MetaqasmTextResult
+    requires { ⌜ recordSize * run .records ≤ length (now output) ⌝ }
+    requires { ⌜ (wires ≤ mostWires) × (bits ≤ mostBits) ⌝ }
+    ensures { λ r. ⌜ record { result = textAnswered r; output = now (output .entry); text = now (text .exit) } ≡ printed (now (text .entry)) (textOf wires bits (recordsIn (run .records) (now (output .entry)))) (record { result = answered run; output = now (output .entry) }) ⌝ }
+{
+    let records = run.records as usize;
+    match qasm_print::print(output, records, wires as u16, bits as u16, text) {
+        TextLength::TooLong => unprinted(30, 0, run),
+        TextLength::Fits(n) => MetaqasmTextResult {
+            number: 0,
+            place: 0,
+            records: run.records,
+            steps: run.steps,
+            length: n as u64,
+        },
+    }
+}
+
+// Runs the whole program, and prints its list where it is complete. The first promise says what result, output and text are,
+// for all inputs. The second says, where the check gives 0, which ends are possible, that the text is that of the machine's own
+// list and which bytes are kept. The others are parts of it that hold for every program.
+#[no_mangle]
+pub extern "C" fn metaqasm_run_text(
+    program: &[u8],
+    limit: u64,
+    output: &mut [u8],
+    text: &mut [u8],
+) -> MetaqasmTextResult
+    ensures { λ r. ⌜ runTextOutcome (now (program .entry)) limit (now (output .entry)) (now (text .entry)) ≡ textFinished (record { result = textAnswered r; output = now (output .exit); text = now (text .exit) }) ⌝ }
+    ensures { λ r. ⌜ SoundRunText (now (program .entry)) limit (now (output .entry)) (now (text .entry)) (record { result = textAnswered r; output = now (output .exit); text = now (text .exit) }) ⌝ }
+    ensures { λ r. ⌜ 8 * r .records ≤ length (now (output .exit)) ⌝ }
+    ensures { λ r. ⌜ r .steps ≤ limit ⌝ }
+    ensures { λ r. ⌜ r .length ≤ length (now (text .exit)) ⌝ }
+{
+    let run = metaqasm_run(program, limit, output);
+    if run.number != 0 {
+        return unprinted(run.number, run.place, run);
+    }
+    let declared = laid_out::declared(program);
+    printed(run, declared.qubits, declared.bits, output, text)
+}
+
+// Runs one family at given sizes, and prints its list where it is complete, with the same promises.
+#[no_mangle]
+pub extern "C" fn metaqasm_instance_text(
+    program: &[u8],
+    family: u32,
+    sizes: &[u8],
+    limit: u64,
+    output: &mut [u8],
+    text: &mut [u8],
+) -> MetaqasmTextResult
+    ensures { λ r. ⌜ instanceTextOutcome (now (program .entry)) family (now (sizes .entry)) limit (now (output .entry)) (now (text .entry)) ≡ textFinished (record { result = textAnswered r; output = now (output .exit); text = now (text .exit) }) ⌝ }
+    ensures { λ r. ⌜ SoundInstanceText (now (program .entry)) family (now (sizes .entry)) limit (now (output .entry)) (now (text .entry)) (record { result = textAnswered r; output = now (output .exit); text = now (text .exit) }) ⌝ }
+    ensures { λ r. ⌜ 8 * r .records ≤ length (now (output .exit)) ⌝ }
+    ensures { λ r. ⌜ r .steps ≤ limit ⌝ }
+    ensures { λ r. ⌜ r .length ≤ length (now (text .exit)) ⌝ }
+{
+    let run = metaqasm_instance(program, family, sizes, limit, output);
+    if run.number != 0 {
+        return unprinted(run.number, run.place, run);
+    }
+    let wires = laid_out::wires(program, wide(family), sizes);
+    printed(run, wires, 0, output, text)
 }

@@ -1,0 +1,143 @@
+-- The calls that print, from the calls behind them: what they answer, and that a complete run or instance is one of an accepted program. Assumes nothing.
+use Prim.Native.Nat.{ℕ, zero, suc, _*_, _≤_}
+use native.Mathlib.Omega.{arith}
+use mathlib.Core.Path.{_≡_, refl, sym, ap, _∙_, subst}
+use mathlib.Core.List.{List}
+use mathlib.Core.Bool.{Bool, true, false}
+use mathlib.Core.Option.{Option, none, some}
+use borrow.Author.Tests.{le-leb, lt-leb, leb-true, eqb-true, eqb-false}
+use lib.Dec.{leb, eqb}
+use lib.ListN.{length}
+use Rattle.language.specs.Read.{read}
+use Rattle.language.specs.Result.{Answer as Reply, finished, turnedDown, untouched, checkResult, runOutcome, instanceOutcome, fourBytes, allSizesFit}
+use Rattle.language.specs.Theorem.{InstanceAnswers}
+use Rattle.language.specs.Lookup.{Declaration, familyIn}
+use Rattle.language.specs.Sound.{qubitsDeclared, bitsDeclared, wiresLaidOut, Suits}
+use Rattle.language.proofs.Soundness.{run-refused, instance-refused}
+use Rattle.language.proofs.Theorem.{instance-theorem}
+use Rattle.language.specs.Machine.{Record}
+use Rattle.qasm_text.specs.Text.{textOf}
+use Rattle.qasm_text.specs.RecordsIn.{recordsIn}
+use Rattle.qasm_text.specs.TextResult.{TextResult, TextAnswer, TextConclusion, textFinished, withoutText, unprinted, fullyPrinted, printed, byNumber, runTextOutcome, instanceTextOutcome}
+use Rattle.qasm_text.specs.TextSound.{TextSound, TextFinishes}
+use Rattle.qasm_text.proofs.TextSoundness.{not-printed, into-size, run-text-sound, instance-text-sound, run-text-by, instance-text-by}
+use Rattle.qasm_length.specs.declared.TextLength.{TextLength}
+use Rattle.qasm_length.specs.declared.TextLength.the-variants.{Fits, TooLong}
+use Rattle.qasm_print.specs.Prints.{Prints}
+use Rattle.metaqasm.specs.TextAnswers.{SoundRunText, SoundInstanceText}
+
+-- ---- what printing leaves, as an answer
+
+module _ (before text after : List ℕ) (a : Reply) (r : TextLength) (p : Prints before text after r) where
+  pub printed-not : r ≡ TooLong → record { result = withoutText 30 0 (a .result); output = a .output; text = after } ≡ printed before text a
+  unfolding printed unprinted
+  printed-not e =
+      let h = subst (Prints before text after) e p in
+      rw (lt-leb (length text) (length before) (h .0), h .1)
+
+  pub printed-fully : (n : ℕ) → r ≡ Fits n
+      → record { result = record { number = 0; place = 0; records = a .result .records; steps = a .result .steps; length = n }; output = a .output; text = after } ≡ printed before text a
+  unfolding printed fullyPrinted
+  printed-fully n e =
+      let h = subst (Prints before text after) e p in
+      rw (le-leb (length text) (length before) (h .1), h .0, h .2)
+
+-- ---- by the run's number
+
+pub by-other : (a : Reply) (x : TextResult) (buffer text : List ℕ) → (a .result .number ≡ 0 → ⊥) → x ≡ withoutText (a .result .number) (a .result .place) (a .result)
+    → record { result = x; output = a .output; text = buffer } ≡ byNumber (a .result .number) buffer text a
+unfolding unprinted
+by-other a x buffer text h e = ap (λ (y : TextResult). record { result = y; output = a .output; text = buffer }) e ∙ sym (not-printed (a .result .number) buffer text a (omega (arith, h)))
+
+pub by-done : (a : Reply) (buffer text : List ℕ) (b : TextAnswer) → a .result .number ≡ 0 → b ≡ printed buffer text a → b ≡ byNumber (a .result .number) buffer text a
+unfolding byNumber
+by-done a buffer text b z e = e ∙ ap (λ (n : ℕ). byNumber n buffer text a) (sym z)
+
+-- the counts are the run's, and the text is no longer than its buffer
+pub record Kept (a : Reply) (b : TextAnswer) : Type 0 where
+  pub records : b .result .records ≡ a .result .records
+  pub steps : b .result .steps ≡ a .result .steps
+  pub output : b .output ≡ a .output
+  pub fits : b .result .length ≤ length (b .text)
+
+by-keeps : (n : ℕ) (buffer text : List ℕ) (a : Reply) → Kept a (byNumber n buffer text a)
+unfolding byNumber printed unprinted fullyPrinted
+by-keeps zero buffer text a = go (leb (length text) (length buffer)) refl
+  where
+    go : (t : Bool) → leb (length text) (length buffer) ≡ t → Kept a (printed buffer text a)
+    go true e = rw e (record { records = refl; steps = refl; output = refl; fits = let h = leb-true (length text) (length buffer) e in omega (arith, into-size buffer text h) })
+    go false e = rw e (record { records = refl; steps = refl; output = refl; fits = omega arith })
+by-keeps (suc n) buffer text a = record { records = refl; steps = refl; output = refl; fits = omega arith }
+
+-- a conclusion that is an answer is that answer, soundly
+sound-of : {least limit q b : ℕ} {list : List Record} {lent buffer : List ℕ} {c : TextConclusion} {x : TextAnswer} → c ≡ textFinished x → TextFinishes least limit q b list lent buffer c
+    → TextSound least limit q b list lent buffer x
+sound-of {least} {limit} {q} {b} {list} {lent} {buffer} {c} {x} g f =
+    let i : f .answer ≡ x = cc in
+    subst (λ (y : TextAnswer). TextSound least limit q b list lent buffer y) i (f .sound)
+
+-- what holds of the answer to a call that prints, whatever the program
+pub record Within (limit : ℕ) (b : TextAnswer) : Type 0 where
+  pub records : 8 * b .result .records ≤ length (b .output)
+  pub steps : b .result .steps ≤ limit
+  pub fits : b .result .length ≤ length (b .text)
+
+within : (limit : ℕ) (a : Reply) (b : TextAnswer) → Kept a b → 8 * a .result .records ≤ length (a .output) → a .result .steps ≤ limit → Within limit b
+within limit a b k r s = record { records = omega (arith, k .records, ap length (k .output)); steps = omega (arith, k .steps); fits = k .fits }
+
+-- ---- whole runs
+
+module _ (l : List ℕ) (limit : ℕ) (lent : List ℕ) (a : Reply) (e : runOutcome l limit lent ≡ finished a) where
+  -- a complete run is one of an accepted program
+  pub run-accepted : a .result .number ≡ 0 → checkResult l .number ≡ 0
+  run-accepted z = go (checkResult l .number) refl
+    where
+      go : (n : ℕ) → checkResult l .number ≡ n → checkResult l .number ≡ 0
+      go zero h = h
+      go (suc n) h = absurd (let x : record { result = checkResult l; output = lent } ≡ a = cc (run-refused l limit lent (omega arith), e) in omega (arith, ap (λ (y : Reply). y .result .number) x))
+
+  pub run-text-promised : (buffer : List ℕ) (b : TextAnswer)
+      → b ≡ byNumber (a .result .number) buffer (textOf (qubitsDeclared l) (bitsDeclared l) (recordsIn (a .result .records) (a .output))) a
+      → 8 * a .result .records ≤ length (a .output) → a .result .steps ≤ limit
+      → (runTextOutcome l limit lent buffer ≡ textFinished b) × SoundRunText l limit lent buffer b × Within limit b
+  run-text-promised buffer b f r s =
+      let g = run-text-by l limit lent buffer a e ∙ ap textFinished (sym f) in
+      (g, (λ z. sound-of g (run-text-sound l limit lent buffer z)), within limit a b (subst (Kept a) (sym f) (by-keeps (a .result .number) buffer _ a)) r s)
+
+-- ---- instances
+
+module _ (l : List ℕ) (k : ℕ) (sizes : List ℕ) (limit : ℕ) (lent : List ℕ) (a : Reply) (e : instanceOutcome l k sizes limit lent ≡ finished a) where
+  pub instance-accepted : a .result .number ≡ 0 → checkResult l .number ≡ 0
+  instance-accepted z = go (checkResult l .number) refl
+    where
+      go : (n : ℕ) → checkResult l .number ≡ n → checkResult l .number ≡ 0
+      go zero h = h
+      go (suc n) h = absurd (let x : record { result = checkResult l; output = lent } ≡ a = cc (instance-refused l k sizes limit lent (omega arith), e) in omega (arith, ap (λ (y : Reply). y .result .number) x))
+
+  -- a call turned down for its family or sizes has another number
+  turned-down : (n : ℕ) → instanceOutcome l k sizes limit lent ≡ untouched lent (suc n) 0 → a .result .number ≡ 0 → ⊥
+  turned-down n h z = let x : a ≡ record { result = turnedDown (suc n) 0; output = lent } = cc in omega (arith, ap (λ (y : Reply). y .result .number) x)
+
+  -- a complete instance is one whose family is declared and whose sizes suit it
+  pub instance-suits : a .result .number ≡ 0 → Suits l k sizes
+  instance-suits z = by-family (familyIn (read l) k) refl
+    where
+      t : InstanceAnswers l k sizes limit lent
+      t = instance-theorem l k sizes limit lent (instance-accepted z)
+
+      by-sizes : (d : Declaration) → familyIn (read l) k ≡ some d → (n : Bool) → eqb (length sizes) (4 * d .variables) ≡ n → (m : Bool) → allSizesFit (fourBytes sizes) ≡ m → Suits l k sizes
+      by-sizes d i false c m s = absurd (turned-down 20 (t .miscounted d i (eqb-false (length sizes) (4 * d .variables) c)) z)
+      by-sizes d i true c false s = absurd (turned-down 21 (t .tooLarge d i (eqb-true (length sizes) (4 * d .variables) c) s) z)
+      by-sizes d i true c true s = record { called = d; declared = i; counted = eqb-true (length sizes) (4 * d .variables) c; small = s }
+
+      by-family : (o : Option Declaration) → familyIn (read l) k ≡ o → Suits l k sizes
+      by-family none i = absurd (turned-down 19 (t .noFamily i) z)
+      by-family (some d) i = by-sizes d i (eqb (length sizes) (4 * d .variables)) refl (allSizesFit (fourBytes sizes)) refl
+
+  pub instance-text-promised : (buffer : List ℕ) (b : TextAnswer)
+      → b ≡ byNumber (a .result .number) buffer (textOf (wiresLaidOut l k sizes) 0 (recordsIn (a .result .records) (a .output))) a
+      → 8 * a .result .records ≤ length (a .output) → a .result .steps ≤ limit
+      → (instanceTextOutcome l k sizes limit lent buffer ≡ textFinished b) × SoundInstanceText l k sizes limit lent buffer b × Within limit b
+  instance-text-promised buffer b f r s =
+      let g = instance-text-by l k sizes limit lent buffer a e ∙ ap textFinished (sym f) in
+      (g, (λ z. let i = instance-text-sound l k sizes limit lent buffer z in (sound-of g (i .0), λ suits. sound-of g (i .1 suits))), within limit a b (subst (Kept a) (sym f) (by-keeps (a .result .number) buffer _ a)) r s)

@@ -1,0 +1,25 @@
+-- What the answers of the calls that print stand for, and what is promised of them for an accepted program.
+use Prim.Native.Nat.{ℕ}
+use mathlib.Core.Path.{_≡_}
+use mathlib.Core.List.{List}
+use Rattle.language.specs.Result.{checkResult}
+use Rattle.language.specs.Sound.{qubitsDeclared, bitsDeclared, wiresLaidOut, Suits}
+use Rattle.qasm_text.specs.TextResult.{TextResult, TextAnswer, runRecords, instanceRecords}
+use Rattle.qasm_text.specs.TextSound.{TextSound}
+use Rattle.metaqasm.specs.declared.MetaqasmTextResult.{MetaqasmTextResult}
+
+-- the five numbers of a result
+abbrev pub textAnswered : MetaqasmTextResult → TextResult
+textAnswered r = record { number = r .number; place = r .place; records = r .records; steps = r .steps; length = r .length }
+
+-- Where the check gives 0, the answer of a run that prints is sound: that of the run, 0 with the text of the machine's list, or 30.
+abbrev pub SoundRunText : (program : List ℕ) (limit : ℕ) (lent buffer : List ℕ) → TextAnswer → Type 0
+SoundRunText program limit lent buffer a =
+    checkResult program .number ≡ 0 → TextSound 24 limit (qubitsDeclared program) (bitsDeclared program) (runRecords program limit lent) lent buffer a
+
+-- The same of an instance, with a number from 20 on; from 23 on where the family is declared and the sizes suit it.
+abbrev pub SoundInstanceText : (program : List ℕ) (family : ℕ) (sizes : List ℕ) (limit : ℕ) (lent buffer : List ℕ) → TextAnswer → Type 0
+SoundInstanceText program family sizes limit lent buffer a =
+    checkResult program .number ≡ 0
+    → TextSound 20 limit (wiresLaidOut program family sizes) 0 (instanceRecords program family sizes limit lent) lent buffer a
+    × (Suits program family sizes → TextSound 23 limit (wiresLaidOut program family sizes) 0 (instanceRecords program family sizes limit lent) lent buffer a)
