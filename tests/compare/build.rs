@@ -2,13 +2,13 @@
 //!
 //! The archive stands in the folder that METAQASM_LIB_DIR names, or else in
 //! target/staticlib of the repository. For each call found there, the cfg
-//! has_check, has_instance or has_run is set; nothing needs to be edited when
-//! a call arrives.
+//! has_check, has_instance, has_run, has_instance_text or has_run_text is set;
+//! nothing needs to be edited when a call arrives.
 
 use std::path::{Path, PathBuf};
 
 /// The calls that the archive may export.
-const CALLS: [&str; 3] = ["check", "instance", "run"];
+const CALLS: [&str; 5] = ["check", "instance", "run", "instance_text", "run_text"];
 /// An archive starts with 8 bytes of its own and the header of its symbol list.
 const LIST: usize = 8 + 60;
 

@@ -1,10 +1,12 @@
-//! Asking the reference or the library, with guarded output.
+//! Asking the reference or the library, with guarded output and text.
 
 use crate::library;
-use reference::Outcome;
+use reference::TextOutcome;
 
-/// Bytes before and after the output that no call may change.
+/// Bytes before and after a lent buffer that no call may change.
 const GUARD: usize = 32;
+const BEFORE: [u8; GUARD] = [0xC3; GUARD];
+const AFTER: [u8; GUARD] = [0x3C; GUARD];
 
 /// Who is asked.
 #[derive(Clone, Copy, Debug, PartialEq, Eq)]
@@ -29,14 +31,18 @@ pub struct Question<'a> {
     pub limit: u64,
     /// The number of output bytes.
     pub length: usize,
+    /// The number of text bytes of an instance or run that prints; none for one that only lists.
+    pub text: Option<usize>,
 }
 
-/// A result and the output bytes, those past the records too.
+/// A result, the output bytes and the text bytes, those that were not written too.
 #[derive(Clone, Debug, PartialEq, Eq)]
 pub struct Answer {
-    pub outcome: Outcome,
+    /// A call that prints nothing has length 0.
+    pub outcome: TextOutcome,
     pub output: Vec<u8>,
-    /// Whether the bytes around the output stayed as they were.
+    pub text: Vec<u8>,
+    /// Whether the bytes around output and text stayed as they were.
     pub guarded: bool,
 }
 
@@ -52,48 +58,80 @@ pub fn untouched(length: usize) -> Vec<u8> {
     bytes
 }
 
+/// A buffer that is lent to a call, between guard bytes.
+struct Lent(Vec<u8>);
+
+impl Lent {
+    /// So many bytes to lend.
+    fn new(length: usize) -> Lent {
+        Lent([&BEFORE[..], &untouched(length), &AFTER].concat())
+    }
+
+    /// The bytes that the call is given.
+    fn bytes(&mut self) -> &mut [u8] {
+        let end = self.0.len() - GUARD;
+        &mut self.0[GUARD..end]
+    }
+
+    /// Whether the guard bytes stayed as they were.
+    fn guarded(&self) -> bool {
+        self.0.starts_with(&BEFORE) && self.0.ends_with(&AFTER)
+    }
+
+    /// The bytes as the call left them.
+    fn back(mut self) -> Vec<u8> {
+        self.0.truncate(self.0.len() - GUARD);
+        self.0.split_off(GUARD)
+    }
+}
+
 /// Asks; none where the library lacks the call.
 pub fn ask(who: Who, question: &Question) -> Option<Answer> {
-    let length = match question.call {
-        Call::Check => 0,
-        _ => question.length,
+    let (length, text) = match question.call {
+        Call::Check => (0, 0),
+        _ => (question.length, question.text.unwrap_or(0)),
     };
-    let (before, after) = ([0xC3; GUARD], [0x3C; GUARD]);
-    let mut buffer = [&before[..], &untouched(length), &after].concat();
-    let output = &mut buffer[GUARD..GUARD + length];
+    let (mut output, mut text) = (Lent::new(length), Lent::new(text));
     let outcome = match who {
-        Who::Reference => Some(ask_reference(question, output)),
-        Who::Library => ask_library(question, output),
+        Who::Reference => Some(ask_reference(question, output.bytes(), text.bytes())),
+        Who::Library => ask_library(question, output.bytes(), text.bytes()),
     }?;
-    let guarded = buffer.starts_with(&before) && buffer.ends_with(&after);
-    buffer.truncate(GUARD + length);
     Some(Answer {
         outcome,
-        output: buffer.split_off(GUARD),
-        guarded,
+        guarded: output.guarded() && text.guarded(),
+        output: output.back(),
+        text: text.back(),
     })
 }
 
 /// Calls the reference.
-pub fn ask_reference(question: &Question, output: &mut [u8]) -> Outcome {
+pub fn ask_reference(question: &Question, output: &mut [u8], text: &mut [u8]) -> TextOutcome {
     let (program, limit) = (question.program, question.limit);
-    match question.call {
-        Call::Check => reference::check(program),
-        Call::Instance { family, sizes } => {
-            reference::instance(program, family, sizes, limit, output)
+    match (question.call, question.text) {
+        (Call::Check, _) => reference::check(program).into(),
+        (Call::Instance { family, sizes }, None) => {
+            reference::instance(program, family, sizes, limit, output).into()
         }
-        Call::Run => reference::run(program, limit, output),
+        (Call::Instance { family, sizes }, Some(_)) => {
+            reference::instance_text(program, family, sizes, limit, output, text)
+        }
+        (Call::Run, None) => reference::run(program, limit, output).into(),
+        (Call::Run, Some(_)) => reference::run_text(program, limit, output, text),
     }
 }
 
 /// Calls the library; none where it lacks the call.
-pub fn ask_library(question: &Question, output: &mut [u8]) -> Option<Outcome> {
+pub fn ask_library(question: &Question, output: &mut [u8], text: &mut [u8]) -> Option<TextOutcome> {
     let (program, limit) = (question.program, question.limit);
-    match question.call {
-        Call::Check => library::check(program),
-        Call::Instance { family, sizes } => {
-            library::instance(program, family, sizes, limit, output)
+    match (question.call, question.text) {
+        (Call::Check, _) => library::check(program).map(TextOutcome::from),
+        (Call::Instance { family, sizes }, None) => {
+            library::instance(program, family, sizes, limit, output).map(TextOutcome::from)
         }
-        Call::Run => library::run(program, limit, output),
+        (Call::Instance { family, sizes }, Some(_)) => {
+            library::instance_text(program, family, sizes, limit, output, text)
+        }
+        (Call::Run, None) => library::run(program, limit, output).map(TextOutcome::from),
+        (Call::Run, Some(_)) => library::run_text(program, limit, output, text),
     }
 }

@@ -1,9 +1,12 @@
-//! Comparing answers, and promises that hold of every answer by itself.
+//! Comparing answers, and counting what was compared.
 
 use crate::ask::{ask, untouched, Answer, Call, Question, Who};
+use crate::promises::promises;
 use crate::recorded::Recorded;
 use generate::Case;
-use reference::Outcome;
+
+/// Text bytes that are lent beyond what a text needs.
+const TO_SPARE: usize = 1_000;
 
 /// How many answers were compared with the library, and how many stood alone.
 #[derive(Clone, Copy, Debug, Default, PartialEq, Eq)]
@@ -27,18 +30,43 @@ impl Tally {
         Ok(())
     }
 
-    /// Compares the three calls on one generated case.
+    /// Compares the calls that print what a question asks to list, with no room
+    /// for text, one byte too few, just enough and more. Each has to answer as
+    /// the question does, but 30 where the text does not fit.
+    pub fn texts(&mut self, question: &Question) -> Result<(), String> {
+        let listed = reference_answer(question)?;
+        let whole = whole_text(question);
+        let most = whole.len() + TO_SPARE;
+        let mut rooms = vec![0, whole.len().saturating_sub(1), whole.len(), most];
+        rooms.dedup();
+        for room in rooms {
+            let text = Some(room);
+            let printing = Question { text, ..*question };
+            self.question(&printing)?;
+            let answer = reference_answer(&printing)?;
+            if answer != printed(&listed, &whole, room) {
+                let told = "the text does not go with the list";
+                return Err(format!("{told}: {:?}", answer.outcome));
+            }
+        }
+        Ok(())
+    }
+
+    /// Compares all calls on one generated case.
     pub fn case(&mut self, case: &Case) -> Result<(), String> {
         let sizes = &case.sizes;
         let family = case.family;
-        let calls = [Call::Check, Call::Instance { family, sizes }, Call::Run];
-        for call in calls {
-            self.question(&Question {
-                program: &case.program,
-                call,
-                limit: case.limit,
-                length: case.output,
-            })?;
+        let question = |call| Question {
+            program: &case.program,
+            call,
+            limit: case.limit,
+            length: case.output,
+            text: None,
+        };
+        self.question(&question(Call::Check))?;
+        for call in [Call::Instance { family, sizes }, Call::Run] {
+            self.question(&question(call))?;
+            self.texts(&question(call))?;
         }
         Ok(())
     }
@@ -107,12 +135,43 @@ pub fn on_eight_mebibytes(work: Work, tally: &mut Tally) -> Result<(), String> {
     Ok(())
 }
 
+/// The reference's answer, which has every call.
+pub fn reference_answer(question: &Question) -> Result<Answer, String> {
+    ask(Who::Reference, question).ok_or("the reference gave no answer".into())
+}
+
+/// The text of what a question asks to list; empty where the list is not complete.
+pub fn whole_text(question: &Question) -> String {
+    let mut output = vec![0; question.length];
+    let (program, limit) = (question.program, question.limit);
+    let (_, text) = match question.call {
+        Call::Check => return String::new(),
+        Call::Instance { family, sizes } => {
+            reference::instance_qasm(program, family, sizes, limit, &mut output)
+        }
+        Call::Run => reference::run_qasm(program, limit, &mut output),
+    };
+    text
+}
+
+/// The answer that is due where a list is printed into so much room.
+fn printed(listed: &Answer, whole: &str, room: usize) -> Answer {
+    let mut due = listed.clone();
+    due.text = untouched(room);
+    match due.text.get_mut(..whole.len()) {
+        Some(written) => {
+            written.copy_from_slice(whole.as_bytes());
+            due.outcome.length = whole.len() as u64;
+        }
+        None => due.outcome.number = 30,
+    }
+    due
+}
+
 /// Compares both answers to a question; no where the library lacks the call.
 pub fn compare(question: &Question) -> Result<bool, String> {
     let told = |message: String| format!("{message}\n{}", describe(question));
-    let Some(expected) = ask(Who::Reference, question) else {
-        return Err(told("the reference gave no answer".into()));
-    };
+    let expected = reference_answer(question).map_err(told)?;
     promises(question, &expected).map_err(told)?;
     match ask(Who::Library, question) {
         None => Ok(false),
@@ -129,11 +188,15 @@ fn difference(expected: &Answer, answer: &Answer) -> String {
             expected.outcome, answer.outcome
         );
     }
-    let pairs = expected.output.iter().zip(&answer.output);
-    match pairs.clone().position(|(one, two)| one != two) {
-        Some(place) => format!("the outputs differ from byte {place} on"),
-        None => "the library wrote outside its output".into(),
+    for (name, one, two) in [
+        ("outputs", &expected.output, &answer.output),
+        ("texts", &expected.text, &answer.text),
+    ] {
+        if let Some(place) = one.iter().zip(two).position(|(one, two)| one != two) {
+            return format!("the {name} differ from byte {place} on");
+        }
     }
+    "the library wrote outside its output or text".into()
 }
 
 /// A question in a form with which it can be asked again.
@@ -144,71 +207,11 @@ fn describe(question: &Question) -> String {
         .map(|b| format!("{b:02x}"))
         .collect();
     format!(
-        "call: {:?}\nlimit: {}\noutput bytes: {}\nprogram: {}",
+        "call: {:?}\nlimit: {}\noutput bytes: {}\ntext bytes: {:?}\nprogram: {}",
         question.call,
         question.limit,
         question.length,
+        question.text,
         bytes.join(" ")
     )
-}
-
-/// Tests what holds of every answer, whoever gives it.
-pub fn promises(question: &Question, answer: &Answer) -> Result<(), String> {
-    let outcome = &answer.outcome;
-    let records = outcome.records as usize;
-    let fits = records
-        .checked_mul(8)
-        .is_some_and(|b| b <= answer.output.len());
-    let rules = [
-        (answer.guarded, "bytes around the output were changed"),
-        (fits, "more records than the output holds"),
-        (outcome.steps <= question.limit, "more steps than the limit"),
-        (outcome.records <= outcome.steps, "more records than steps"),
-        (known(outcome.number), "a number that means nothing"),
-        (outcome.number != 0 || outcome.place == 0, "done at a place"),
-        (place_fits(question, outcome), "a place past the program"),
-        (counts_fit(question, outcome), "counts without a run"),
-    ];
-    for (holds, message) in rules {
-        if !holds {
-            return Err(format!("{message}: {outcome:?}"));
-        }
-    }
-    let (written, rest) = answer.output.split_at(8 * records);
-    if !written.chunks_exact(8).all(sound_record) {
-        return Err("a record has bytes that no record can have".into());
-    }
-    if *rest != untouched(answer.output.len())[8 * records..] {
-        return Err("output past the last record was changed".into());
-    }
-    Ok(())
-}
-
-/// Whether a number is one of those that have a meaning.
-fn known(number: u32) -> bool {
-    matches!(number, 0..=13 | 20..=27)
-}
-
-/// Whether a place is 0 or stands in the program.
-fn place_fits(question: &Question, outcome: &Outcome) -> bool {
-    outcome.place == 0 || (outcome.place as usize) < question.program.len()
-}
-
-/// Whether an answer given before the first step has no counts.
-fn counts_fit(question: &Question, outcome: &Outcome) -> bool {
-    let ran = question.call != Call::Check && matches!(outcome.number, 0 | 24..=27);
-    ran || (outcome.records == 0 && outcome.steps == 0)
-}
-
-/// Whether eight bytes can be a record.
-fn sound_record(record: &[u8]) -> bool {
-    let second = record[4] != 0 || record[5] != 0;
-    let bit = record[6] != 0 || record[7] != 0;
-    let [op, condition] = [record[0], record[1]];
-    let pair = op == 4 || op == 5;
-    (1..=6).contains(&op)
-        && condition <= 2
-        && (pair || !second)
-        && (condition != 0 || !bit)
-        && (condition == 0 || op <= 4)
 }

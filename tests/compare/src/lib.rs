@@ -7,8 +7,11 @@ pub mod ask;
 pub mod harness;
 pub mod header;
 pub mod library;
+pub mod openqasm;
+pub mod promises;
 pub mod recorded;
 pub mod slow;
 
 pub use ask::{ask, Answer, Call, Question, Who};
-pub use harness::{compare, promises, Tally};
+pub use harness::{compare, Tally};
+pub use promises::promises;

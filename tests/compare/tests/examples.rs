@@ -7,6 +7,8 @@ use std::path::Path;
 compared!(check_of_the_examples, has_check, checks);
 compared!(instances_of_the_examples, has_instance, instances);
 compared!(runs_of_the_examples, has_run, runs);
+compared!(texts_of_instances, has_instance_text, instance_texts);
+compared!(texts_of_runs, has_run_text, run_texts);
 
 /// All examples.
 fn examples() -> Result<Vec<Example>, String> {
@@ -18,38 +20,53 @@ fn examples() -> Result<Vec<Example>, String> {
     }
 }
 
-/// Asks one call about an example.
-fn ask(tally: &mut Tally, example: &Example, call: Call) -> Result<(), String> {
-    let question = Question {
-        program: &example.bytes,
-        call,
-        limit: example.limit,
-        length: example.output,
-    };
-    let asked = tally.question(&question);
-    asked.map_err(|message| format!("{}: {message}", example.name))
-}
+/// How a question is compared: by itself, or with its texts.
+type Asked = fn(&mut Tally, &Question) -> Result<(), String>;
 
-/// Checks every example.
-fn checks(tally: &mut Tally) -> Result<(), String> {
-    examples()?
-        .iter()
-        .try_for_each(|example| ask(tally, example, Call::Check))
-}
-
-/// Unrolls the family of every example, or its first one.
-fn instances(tally: &mut Tally) -> Result<(), String> {
+/// Asks one call about every example.
+fn ask(tally: &mut Tally, call: fn(&Example) -> Call<'_>, asked: Asked) -> Result<(), String> {
     for example in examples()? {
-        let family = example.family.unwrap_or(0);
-        let sizes = &example.sizes;
-        ask(tally, &example, Call::Instance { family, sizes })?;
+        let question = Question {
+            program: &example.bytes,
+            call: call(&example),
+            limit: example.limit,
+            length: example.output,
+            text: None,
+        };
+        asked(tally, &question).map_err(|message| format!("{}: {message}", example.name))?;
     }
     Ok(())
 }
 
+/// An instance of the family of an example, or of its first one.
+fn instance(example: &Example) -> Call<'_> {
+    Call::Instance {
+        family: example.family.unwrap_or(0),
+        sizes: &example.sizes,
+    }
+}
+
+/// Checks every example.
+fn checks(tally: &mut Tally) -> Result<(), String> {
+    ask(tally, |_| Call::Check, Tally::question)
+}
+
+/// Unrolls every example.
+fn instances(tally: &mut Tally) -> Result<(), String> {
+    ask(tally, instance, Tally::question)
+}
+
 /// Runs every example whole.
 fn runs(tally: &mut Tally) -> Result<(), String> {
-    examples()?
-        .iter()
-        .try_for_each(|example| ask(tally, example, Call::Run))
+    ask(tally, |_| Call::Run, Tally::question)
+}
+
+/// Unrolls every example and prints it.
+fn instance_texts(tally: &mut Tally) -> Result<(), String> {
+    ask(tally, instance, Tally::texts)
+}
+
+/// Runs every example whole and prints it.
+fn run_texts(tally: &mut Tally) -> Result<(), String> {
+    ask(tally, |_| Call::Run, Tally::texts)
 }

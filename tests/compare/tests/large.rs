@@ -4,7 +4,7 @@ use compare::harness::on_eight_mebibytes;
 use compare::{ask, compared, slow, Call, Question, Tally, Who};
 use generate::build::*;
 use generate::library;
-use reference::Outcome;
+use reference::TextOutcome;
 
 compared!(deepest_calls_checked, has_check, deepest_checked);
 compared!(deepest_calls_of_an_instance, has_instance, deepest_instance);
@@ -24,11 +24,12 @@ compared!(the_slowest_steps, has_run, slowest_steps);
 fn due(tally: &mut Tally, question: &Question, expected: [u64; 4]) -> Result<(), String> {
     tally.question(question)?;
     let [number, place, records, steps] = expected;
-    let expected = Outcome {
+    let expected = TextOutcome {
         number: number as u32,
         place: place as u32,
         records,
         steps,
+        length: 0,
     };
     match ask(Who::Reference, question) {
         Some(answer) if answer.outcome == expected => Ok(()),
@@ -46,6 +47,7 @@ fn instance<'a>(program: &'a [u8], family: u32, sizes: &'a [u8]) -> Question<'a>
         call: Call::Instance { family, sizes },
         limit: 1_000_000,
         length: 100_000,
+        text: None,
     }
 }
 
@@ -56,6 +58,7 @@ fn other<'a>(program: &'a [u8], call: Call<'a>) -> Question<'a> {
         call,
         limit: 1_000_000,
         length: 100_000,
+        text: None,
     }
 }
 
@@ -186,6 +189,7 @@ fn many_steps(tally: &mut Tally) -> Result<(), String> {
         call: Call::Run,
         limit,
         length: 0,
+        text: None,
     };
     due(tally, &question(u64::MAX), [0, 0, 0, 100_000_001])?;
     due(tally, &question(1_000), [26, 13, 0, 1_000])

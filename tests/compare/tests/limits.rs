@@ -1,6 +1,7 @@
-//! Every step limit, every output length and all kinds of sizes.
+//! Every step limit, every output length, every text length and all kinds of sizes.
 
-use compare::{ask, compared, Answer, Call, Question, Tally, Who};
+use compare::harness::{reference_answer, whole_text};
+use compare::{compared, Call, Question, Tally};
 use generate::build::{self, *};
 use generate::{case, library};
 
@@ -8,6 +9,20 @@ compared!(every_limit_of_an_instance, has_instance, instance_limits);
 compared!(every_limit_of_a_run, has_run, run_limits);
 compared!(every_length_of_an_instance, has_instance, instance_lengths);
 compared!(every_length_of_a_run, has_run, run_lengths);
+compared!(
+    texts_at_every_limit,
+    has_instance_text,
+    instance_text_limits
+);
+compared!(run_texts_at_every_limit, has_run_text, run_text_limits);
+compared!(
+    texts_at_every_length,
+    has_instance_text,
+    instance_text_lengths
+);
+compared!(run_texts_at_every_length, has_run_text, run_text_lengths);
+compared!(every_text_length, has_instance_text, instance_rooms);
+compared!(every_text_length_of_a_run, has_run_text, run_rooms);
 compared!(sizes_of_all_kinds, has_instance, all_sizes);
 compared!(every_family_number, has_instance, family_numbers);
 
@@ -72,7 +87,14 @@ fn question(small: &Small, call: fn(&Small) -> Call<'_>) -> Question<'_> {
         call: call(small),
         limit: ENOUGH,
         length: ROOM,
+        text: None,
     }
+}
+
+/// The same question, with the list printed and a few text bytes to spare.
+fn with_text(question: Question) -> Question {
+    let text = Some(whole_text(&question).len() + 10);
+    Question { text, ..question }
 }
 
 /// An instance of a small program.
@@ -88,18 +110,13 @@ fn as_run(_: &Small) -> Call<'_> {
     Call::Run
 }
 
-/// The reference's answer.
-fn answer(question: &Question) -> Result<Answer, String> {
-    ask(Who::Reference, question).ok_or("the reference gave no answer".into())
-}
-
 /// Asks with every limit up to past the last step.
 fn limits(tally: &mut Tally, full: Question) -> Result<(), String> {
-    let whole = answer(&full)?;
+    let whole = reference_answer(&full)?;
     for limit in 0..whole.outcome.steps + 3 {
         let question = Question { limit, ..full };
         tally.question(&question)?;
-        let cut = answer(&question)?;
+        let cut = reference_answer(&question)?;
         let due = if limit < whole.outcome.steps {
             cut.outcome.number == 26 && cut.outcome.steps == limit
         } else {
@@ -118,12 +135,12 @@ fn limits(tally: &mut Tally, full: Question) -> Result<(), String> {
 
 /// Asks with every output length up to past the last record.
 fn lengths(tally: &mut Tally, full: Question) -> Result<(), String> {
-    let whole = answer(&full)?;
+    let whole = reference_answer(&full)?;
     let last = 8 * whole.outcome.records as usize;
     for length in 0..last + 10 {
         let question = Question { length, ..full };
         tally.question(&question)?;
-        let cut = answer(&question)?;
+        let cut = reference_answer(&question)?;
         let due = if length < last {
             cut.outcome.number == 27 && cut.outcome.records == length as u64 / 8
         } else {
@@ -140,32 +157,91 @@ fn lengths(tally: &mut Tally, full: Question) -> Result<(), String> {
     Ok(())
 }
 
+/// Asks with every number of text bytes up to past the last line.
+fn rooms(tally: &mut Tally, full: Question) -> Result<(), String> {
+    let listed = reference_answer(&full)?.outcome;
+    let last = whole_text(&full).len();
+    for room in 0..last + 10 {
+        let question = Question {
+            length: 8 * listed.records as usize,
+            text: Some(room),
+            ..full
+        };
+        tally.question(&question)?;
+        let due = match room < last {
+            true => 30,
+            false => listed.number,
+        };
+        let number = reference_answer(&question)?.outcome.number;
+        if number != due {
+            return Err(format!("{room} of {last} text bytes: {number}"));
+        }
+    }
+    Ok(())
+}
+
+/// Asks about every small program in one way.
+fn each(
+    list: &[Small],
+    call: fn(&Small) -> Call<'_>,
+    mut asked: impl FnMut(Question) -> Result<(), String>,
+) -> Result<(), String> {
+    list.iter()
+        .try_for_each(|small| asked(question(small, call)))
+}
+
 /// Every step limit on small instances.
 fn instance_limits(tally: &mut Tally) -> Result<(), String> {
-    let list = instances();
-    list.iter()
-        .try_for_each(|small| limits(tally, question(small, as_instance)))
+    each(&instances(), as_instance, |full| limits(tally, full))
 }
 
 /// Every step limit on small runs.
 fn run_limits(tally: &mut Tally) -> Result<(), String> {
-    let list = runs();
-    list.iter()
-        .try_for_each(|small| limits(tally, question(small, as_run)))
+    each(&runs(), as_run, |full| limits(tally, full))
 }
 
 /// Every output length on small instances.
 fn instance_lengths(tally: &mut Tally) -> Result<(), String> {
-    let list = instances();
-    list.iter()
-        .try_for_each(|small| lengths(tally, question(small, as_instance)))
+    each(&instances(), as_instance, |full| lengths(tally, full))
 }
 
 /// Every output length on small runs.
 fn run_lengths(tally: &mut Tally) -> Result<(), String> {
-    let list = runs();
-    list.iter()
-        .try_for_each(|small| lengths(tally, question(small, as_run)))
+    each(&runs(), as_run, |full| lengths(tally, full))
+}
+
+/// Every step limit on small instances that are printed.
+fn instance_text_limits(tally: &mut Tally) -> Result<(), String> {
+    each(&instances(), as_instance, |full| {
+        limits(tally, with_text(full))
+    })
+}
+
+/// Every step limit on small runs that are printed.
+fn run_text_limits(tally: &mut Tally) -> Result<(), String> {
+    each(&runs(), as_run, |full| limits(tally, with_text(full)))
+}
+
+/// Every output length on small instances that are printed.
+fn instance_text_lengths(tally: &mut Tally) -> Result<(), String> {
+    each(&instances(), as_instance, |full| {
+        lengths(tally, with_text(full))
+    })
+}
+
+/// Every output length on small runs that are printed.
+fn run_text_lengths(tally: &mut Tally) -> Result<(), String> {
+    each(&runs(), as_run, |full| lengths(tally, with_text(full)))
+}
+
+/// Every text length on small instances.
+fn instance_rooms(tally: &mut Tally) -> Result<(), String> {
+    each(&instances(), as_instance, |full| rooms(tally, full))
+}
+
+/// Every text length on small runs.
+fn run_rooms(tally: &mut Tally) -> Result<(), String> {
+    each(&runs(), as_run, |full| rooms(tally, full))
 }
 
 /// A family over `m` sizes with a register for each, or one wire for none.
@@ -214,6 +290,7 @@ fn ask_sizes(tally: &mut Tally, program: &[u8], sizes: &[u8]) -> Result<(), Stri
         call,
         limit: 1_000,
         length: 500,
+        text: None,
     })
 }
 
@@ -228,6 +305,7 @@ fn family_numbers(tally: &mut Tally) -> Result<(), String> {
             call,
             limit: 10,
             length: 20,
+            text: None,
         })?;
     }
     Ok(())

@@ -53,6 +53,24 @@ fn a_run_has_enough() {
 
 #[test]
 #[cfg_attr(
+    not(has_instance_text),
+    ignore = "no archive with this call; run `rt staticlib metaqasm` first"
+)]
+fn an_instance_that_is_printed_has_enough() {
+    every_shape_has_enough("instance_text");
+}
+
+#[test]
+#[cfg_attr(
+    not(has_run_text),
+    ignore = "no archive with this call; run `rt staticlib metaqasm` first"
+)]
+fn a_run_that_is_printed_has_enough() {
+    every_shape_has_enough("run_text");
+}
+
+#[test]
+#[cfg_attr(
     not(has_run),
     ignore = "no archive with this call; run `rt staticlib metaqasm` first"
 )]

@@ -8,6 +8,7 @@ pub mod library;
 pub mod linear;
 pub mod random;
 pub mod targeted;
+pub mod texts;
 pub mod typed;
 
 pub use case::{case, Case};

@@ -1,7 +1,8 @@
 //! A second checker and unroller for metaQASM programs, in plain Rust.
 //!
 //! It is written from the scope alone and shares nothing with the proved
-//! library. Tests compare the two; benchmarks use it as the baseline.
+//! library. Tests compare the two; benchmarks use it as the baseline. It also
+//! prints lists as OpenQASM 2.0 text.
 
 mod bytes;
 mod checker;
@@ -9,11 +10,14 @@ mod form;
 mod index;
 mod machine;
 mod operand;
+mod text;
 mod tree;
 
 use bytes::Refusal;
-use machine::{Layout, Machine};
+use machine::{Layout, Locations, Machine};
 use tree::Program;
+
+pub use text::{instance_qasm, instance_text, run_qasm, run_text, TextOutcome};
 
 /// The answer to a call: number is 0 for done, else why it was turned down.
 #[derive(Clone, Copy, Debug, PartialEq, Eq)]
@@ -62,24 +66,44 @@ pub fn instance(
     limit: u64,
     output: &mut [u8],
 ) -> Outcome {
-    match laid_out(program, family, sizes) {
-        Ok((tree, layout)) => {
-            let body = &tree.families[family as usize].body;
-            Machine::new(&tree, limit, output).run(body, &layout)
-        }
-        Err(outcome) => outcome,
-    }
+    outcome(listed_instance(program, family, sizes, limit, output))
 }
 
 /// Lists the gates, measurements and resets of the whole program.
 pub fn run(program: &[u8], limit: u64, output: &mut [u8]) -> Outcome {
-    match checker::program(program) {
-        Ok(tree) => {
-            let layout = Layout::of_registers(&tree.registers);
-            Machine::new(&tree, limit, output).run(&tree.top, &layout)
-        }
-        Err(refusal) => refusal.into(),
+    outcome(listed_run(program, limit, output))
+}
+
+/// How a run ended and what it had laid out, or why it was not begun.
+type Listed = Result<(Outcome, Locations), Outcome>;
+
+/// The answer alone.
+fn outcome(listed: Listed) -> Outcome {
+    match listed {
+        Ok((outcome, _)) | Err(outcome) => outcome,
     }
+}
+
+/// Runs one family at the sizes given.
+fn listed_instance(
+    program: &[u8],
+    family: u32,
+    sizes: &[u8],
+    limit: u64,
+    output: &mut [u8],
+) -> Listed {
+    let (tree, layout) = laid_out(program, family, sizes)?;
+    let body = &tree.families[family as usize].body;
+    let outcome = Machine::new(&tree, limit, output).run(body, &layout);
+    Ok((outcome, layout.locations))
+}
+
+/// Runs the whole program.
+fn listed_run(program: &[u8], limit: u64, output: &mut [u8]) -> Listed {
+    let tree = checker::program(program)?;
+    let layout = Layout::of_registers(&tree.registers);
+    let outcome = Machine::new(&tree, limit, output).run(&tree.top, &layout);
+    Ok((outcome, layout.locations))
 }
 
 /// Everything an instance does before its first statement.

@@ -41,10 +41,18 @@ impl Direction {
 /// The machine's ends carry a number and a place, as refusals do.
 type End = Refusal;
 
+/// How many wires and bits are laid out.
+#[derive(Clone, Copy)]
+pub struct Locations {
+    pub wires: u16,
+    pub bits: u16,
+}
+
 /// The values and meanings with which a run starts.
 pub struct Layout {
     values: [i64; VARIABLES],
     meanings: Vec<Meaning>,
+    pub locations: Locations,
 }
 
 impl Layout {
@@ -57,6 +65,7 @@ impl Layout {
         Layout {
             values: [0; VARIABLES],
             meanings: registers.iter().map(meaning).collect(),
+            locations: declared(registers),
         }
     }
 
@@ -87,8 +96,28 @@ impl Layout {
                 },
             });
         }
-        Ok(Layout { values, meanings })
+        let locations = Locations {
+            wires: used as u16,
+            bits: 0,
+        };
+        Ok(Layout {
+            values,
+            meanings,
+            locations,
+        })
     }
+}
+
+/// All qubits and bits that registers declare.
+fn declared(registers: &[Register]) -> Locations {
+    let mut locations = Locations { wires: 0, bits: 0 };
+    for register in registers {
+        match register {
+            Register::Quantum { size, .. } => locations.wires += size,
+            Register::Classical { size, .. } => locations.bits += size,
+        }
+    }
+    locations
 }
 
 /// The values and meanings of the body that is being run.

@@ -4,12 +4,17 @@
 //! which both have their turn, and is the thread's processor time, so that other
 //! work on the machine disturbs it little. The output has been written once
 //! before, so its pages are there. The last column is the time of a plain copy of
-//! as many output bytes.
+//! as many bytes of output and text.
+//!
+//! A row that prints has a second line: what the printing takes by itself, which is
+//! the time of the call less that of the same call without text.
 
 use compare::ask::{ask_library, ask_reference};
-use compare::{library, slow, Call, Question};
+use compare::harness::whole_text;
+use compare::{library, slow, Call, Question, Who};
 use generate::build::*;
-use generate::library as programs;
+use generate::{library as programs, texts};
+use reference::TextOutcome;
 use std::hint::black_box;
 use std::io::Write;
 use std::process::ExitCode;
@@ -27,6 +32,7 @@ struct Workload {
     /// The family and sizes of an instance; none for check or run.
     instance: Option<(u32, Vec<u8>)>,
     runs: bool,
+    prints: bool,
     records: usize,
 }
 
@@ -38,7 +44,16 @@ impl Workload {
             program: program(fields),
             instance: None,
             runs: false,
+            prints: false,
             records: 0,
+        }
+    }
+
+    /// A whole run that writes so many records and prints them.
+    fn text(name: &'static str, fields: &[Field], records: usize) -> Workload {
+        Workload {
+            prints: true,
+            ..Workload::run(name, fields, records)
         }
     }
 
@@ -64,8 +79,15 @@ impl Workload {
         }
     }
 
-    /// The question that is asked in each round.
+    /// The question that is asked in each round, with just enough room.
     fn question(&self) -> Question<'_> {
+        let listing = self.listing();
+        let text = self.prints.then(|| whole_text(&listing).len());
+        Question { text, ..listing }
+    }
+
+    /// The same question without text.
+    fn listing(&self) -> Question<'_> {
         Question {
             program: &self.program,
             call: match &self.instance {
@@ -78,6 +100,7 @@ impl Workload {
             },
             limit: u64::MAX,
             length: 8 * self.records,
+            text: None,
         }
     }
 }
@@ -90,6 +113,27 @@ fn calls(family: u8, times: u16) -> Vec<Field> {
 
 /// Everything that is measured.
 fn workloads() -> Vec<Workload> {
+    let mut rows = lists();
+    rows.extend(printed());
+    rows
+}
+
+/// Lists that are printed.
+fn printed() -> Vec<Workload> {
+    let bell = programs::bell();
+    vec![
+        Workload::text("text, cx on 5 digits", &texts::far_pairs(), 2 * 55_534),
+        Workload::text("text, h on 1 digit", &texts::near_gates(), 100_000),
+        Workload::text("text, a million", &texts::a_million(), 1_000_000),
+        Workload::text("text, conditioned", &texts::conditioned(), 100_000),
+        Workload::text("text, measured", &texts::measured(), 3_000),
+        Workload::text("text, 65,535 bits", &texts::most_bits(), 0),
+        Workload::text("text, Bell", &bell, 2),
+    ]
+}
+
+/// Checks, and lists that are not printed.
+fn lists() -> Vec<Workload> {
     let adder = programs::reversed_adder();
     let gates = 17 + 7_999 * 35;
     let nested = programs::nested_loops();
@@ -160,8 +204,11 @@ fn repeats(round: &mut dyn FnMut()) -> usize {
     (2e-4 / once).ceil() as usize
 }
 
+/// What is timed.
+type Round<'r> = Box<dyn FnMut() + 'r>;
+
 /// The best time of a round of each, in turn, in seconds.
-fn best(contenders: &mut [&mut dyn FnMut()]) -> Vec<f64> {
+fn best(contenders: &mut [Round]) -> Vec<f64> {
     let repeats: Vec<usize> = contenders.iter_mut().map(|round| repeats(round)).collect();
     let mut best = vec![f64::INFINITY; contenders.len()];
     let begun = Instant::now();
@@ -175,41 +222,116 @@ fn best(contenders: &mut [&mut dyn FnMut()]) -> Vec<f64> {
     best
 }
 
-/// Measures one workload and prints its line.
-fn measure(workload: &Workload) -> Result<(), String> {
-    let question = workload.question();
-    let mut output = vec![0; question.length];
-    let outcome = ask_reference(&question, &mut output);
+/// One who is asked a question again and again, with buffers of its own.
+struct Contender<'q> {
+    who: Who,
+    question: Question<'q>,
+    output: Vec<u8>,
+    text: Vec<u8>,
+}
+
+impl<'q> Contender<'q> {
+    /// Someone and what is asked, before the first time.
+    fn new(who: Who, question: Question<'q>) -> Contender<'q> {
+        let (output, text) = (question.length, question.text.unwrap_or(0));
+        Contender {
+            who,
+            question,
+            output: vec![0; output],
+            text: vec![0; text],
+        }
+    }
+
+    /// The answer; none where the library lacks the call.
+    fn ask(&mut self) -> Option<TextOutcome> {
+        let question = black_box(&self.question);
+        let (output, text) = (&mut self.output[..], &mut self.text[..]);
+        match self.who {
+            Who::Reference => Some(ask_reference(question, output, text)),
+            Who::Library => ask_library(question, output, text),
+        }
+    }
+}
+
+/// How long the reference takes, and the library where it has the call, in seconds.
+type Times = (f64, Option<f64>);
+
+/// The times of questions, measured in turn.
+fn times(questions: &[Question]) -> Vec<Times> {
+    let mut contenders: Vec<Contender> = Vec::new();
+    for &question in questions {
+        contenders.extend([Who::Reference, Who::Library].map(|who| Contender::new(who, question)));
+    }
+    let mut there = Vec::new();
+    let mut rounds: Vec<Round> = Vec::new();
+    for one in &mut contenders {
+        there.push(one.ask().is_some());
+        rounds.push(Box::new(|| {
+            black_box(one.ask());
+        }));
+    }
+    let best = best(&mut rounds);
+    let pair = |first: usize| (best[first], there[first + 1].then_some(best[first + 1]));
+    (0..best.len()).step_by(2).map(pair).collect()
+}
+
+/// The answer to a workload's question, which both must give.
+fn answered(workload: &Workload, question: Question) -> Result<TextOutcome, String> {
+    let answer = |who| Contender::new(who, question).ask();
+    let outcome = answer(Who::Reference).ok_or("no answer")?;
     if outcome.number != 0 || outcome.records != workload.records as u64 {
         return Err(format!("{}: unexpected {outcome:?}", workload.name));
     }
-    let other = ask_library(&question, &mut output);
-    if other.is_some_and(|other| other != outcome) {
-        return Err(format!("{}: the library answers {other:?}", workload.name));
+    match answer(Who::Library) {
+        Some(other) if other != outcome => {
+            Err(format!("{}: the library answers {other:?}", workload.name))
+        }
+        _ => Ok(outcome),
     }
-    let mut second = output.clone();
-    let times = best(&mut [
-        &mut || {
-            black_box(ask_reference(black_box(&question), &mut output));
-        },
-        &mut || {
-            black_box(ask_library(black_box(&question), &mut second));
-        },
-    ]);
-    let from = vec![1; question.length];
-    let mut copy = vec![0; question.length];
-    let copied = best(&mut [&mut || black_box(&mut copy).copy_from_slice(black_box(&from))])[0];
-    let fast = other.map(|_| times[1]);
-    say(&line(workload, outcome.steps, times[0], fast, copied))
+}
+
+/// Measures one workload and prints its line, or two where it prints.
+fn measure(workload: &Workload) -> Result<(), String> {
+    let question = workload.question();
+    let outcome = answered(workload, question)?;
+    let copied = copy(question.length + question.text.unwrap_or(0));
+    if !workload.prints {
+        let whole = times(&[question])[0];
+        return say(&line(workload.name, workload, &outcome, whole, copied));
+    }
+    let both = times(&[question, workload.listing()]);
+    let [(slow, fast), (slow_list, fast_list)] = [both[0], both[1]];
+    let printing = (
+        slow - slow_list,
+        fast.zip(fast_list).map(|(whole, list)| whole - list),
+    );
+    say(&line(workload.name, workload, &outcome, both[0], copied))?;
+    say(&line(
+        "  its printing alone",
+        workload,
+        &outcome,
+        printing,
+        copied,
+    ))
+}
+
+/// The time of a plain copy of so many bytes.
+fn copy(bytes: usize) -> f64 {
+    let from = vec![1; bytes];
+    let mut to = vec![0; bytes];
+    let copy = move || black_box(&mut to).copy_from_slice(black_box(&from));
+    best(&mut [Box::new(copy)])[0]
 }
 
 /// A speed in millions of what is counted, each second; of a very short call, its time.
-fn speed(workload: &Workload, steps: u64, seconds: f64) -> String {
-    if workload.runs && steps < 100 {
+fn speed(workload: &Workload, outcome: &TextOutcome, seconds: f64) -> String {
+    let steps = outcome.steps;
+    if workload.runs && steps < 100 && outcome.length < 1_000 {
         return format!("{:9.1} ns/call ", seconds * 1e9);
     }
     let gates = workload.records as u64;
     let (count, unit) = match workload.runs {
+        _ if workload.prints => (outcome.length as f64, "MB/s"),
         false => (workload.program.len() as f64, "MB/s"),
         true if steps > 100 * gates => (steps as f64, "Msteps/s"),
         true => (gates as f64, "Mgates/s"),
@@ -223,20 +345,31 @@ fn say(line: &str) -> Result<(), String> {
 }
 
 /// One line of the table.
-fn line(workload: &Workload, steps: u64, slow: f64, fast: Option<f64>, copied: f64) -> String {
-    let (fast_speed, ratio) = match fast {
-        Some(fast) => (speed(workload, steps, fast), format!("{:6.2}", fast / slow)),
-        None => ("not in the archive".into(), "     -".into()),
-    };
-    let fast_time = match fast {
-        Some(fast) => format!("{:9.3} ms", fast * 1e3),
-        None => "           -".into(),
+fn line(
+    name: &str,
+    workload: &Workload,
+    outcome: &TextOutcome,
+    (slow, fast): Times,
+    copied: f64,
+) -> String {
+    let steps = outcome.steps;
+    let speed = |seconds| speed(workload, outcome, seconds);
+    let (fast_speed, ratio, fast_time) = match fast {
+        Some(fast) => (
+            speed(fast),
+            format!("{:6.2}", fast / slow),
+            format!("{:9.3} ms", fast * 1e3),
+        ),
+        None => (
+            "not in the archive".into(),
+            "     -".into(),
+            "           -".into(),
+        ),
     };
     format!(
-        "{:22} {steps:>10} steps | library {fast_speed:18} {fast_time} | reference {} {:9.3} ms \
+        "{name:22} {steps:>10} steps | library {fast_speed:18} {fast_time} | reference {} {:9.3} ms \
          | library/reference {ratio} | copy {:7.3} ms",
-        workload.name,
-        speed(workload, steps, slow),
+        speed(slow),
         slow * 1e3,
         copied * 1e3,
     )

@@ -4,8 +4,8 @@
 //! Use: `stack`. Each call is made in a process of its own, on a thread whose
 //! stack is the smallest that will do; what the thread itself takes counts too.
 //!
-//! `stack CALL SHAPE KIB` makes one call (check, instance or run) about the
-//! shape with that number, and fails where it does not come to 0.
+//! `stack CALL SHAPE KIB` makes one call (check, instance, run, instance_text or
+//! run_text) about the shape with that number, and fails where it does not come to 0.
 
 use compare::ask::ask_library;
 use compare::{header, library, Call, Question};
@@ -27,13 +27,14 @@ fn once(call: &str, bytes: &[u8], sizes: &[u8]) -> Result<(), String> {
         program: bytes,
         call: match call {
             "check" => Call::Check,
-            "instance" => Call::Instance { family, sizes },
+            "instance" | "instance_text" => Call::Instance { family, sizes },
             _ => Call::Run,
         },
         limit: u64::MAX,
         length: 64,
+        text: call.ends_with("_text").then_some(200),
     };
-    match ask_library(&question, &mut [0; 64]) {
+    match ask_library(&question, &mut [0; 64], &mut [0; 200]) {
         Some(outcome) if outcome.number == 0 => Ok(()),
         other => Err(format!("{call} gives {other:?}")),
     }
@@ -101,7 +102,7 @@ fn need(call: &str) -> Result<usize, String> {
     let mut most = 0;
     for (number, shape) in SHAPES.iter().enumerate() {
         let kib = smallest(call, number)?;
-        say(&format!("{call:8} {:26} {kib:6} KiB", shape.name))?;
+        say(&format!("{call:13} {:26} {kib:6} KiB", shape.name))?;
         most = most.max(kib);
     }
     Ok(most)
@@ -124,9 +125,13 @@ fn measure() -> Result<(), String> {
     if let [one, ..] = library::missing()[..] {
         return Err(format!("the archive lacks the call {one}"));
     }
-    let [check, instance, run] = [need("check")?, need("instance")?, need("run")?];
+    let check = need("check")?;
+    let mut most = check;
+    for call in ["instance", "run", "instance_text", "run_text"] {
+        most = most.max(need(call)?);
+    }
     held("a check alone", "check", check)?;
-    held("a call", "run", check.max(instance).max(run))
+    held("a call", "run", most)
 }
 
 fn main() -> ExitCode {

@@ -8,7 +8,8 @@ pub(super) const L: &str = "01 28 00 01 01 11 04 00 41 01 00 00 \
     20 10 00 31 0d 00 00 43 09 00 41 01 00 01 40 02 00 01 00";
 
 /// x:Qbit[n], h(x[0]).
-const FIRST_OF_N: &str = "01 15 00 01 01 11 04 00 41 01 00 00 20 09 00 31 06 00 00 40 02 00 00 00";
+pub(super) const FIRST_OF_N: &str =
+    "01 15 00 01 01 11 04 00 41 01 00 00 20 09 00 31 06 00 00 40 02 00 00 00";
 
 /// x:Qbit[n+1], h(x[0]).
 const FIRST_OF_MORE: &str = "01 1d 00 01 01 11 0c 00 42 09 00 41 01 00 00 40 02 00 01 00 \
@@ -30,7 +31,7 @@ const NEVER_RUN: &str = "01 29 00 01 01 11 04 00 41 01 00 00 \
     20 09 00 31 06 00 00 40 02 00 00 00";
 
 /// Two qubits, h on the first, cx on both.
-const BELL: &str = "02 02 00 02 00 20 09 00 31 06 00 00 40 02 00 00 00 \
+pub(super) const BELL: &str = "02 02 00 02 00 20 09 00 31 06 00 00 40 02 00 00 00 \
     23 12 00 31 06 00 00 40 02 00 00 00 31 06 00 00 40 02 00 01 00";
 
 /// x:Qbit[n], for i=0..n-1 h(x[n-1-i]).
@@ -47,8 +48,20 @@ const DOWN_REVERSED: &str = "01 3a 00 01 01 11 04 00 41 01 00 00 25 2e 00 \
 pub(super) const ONE_WIRE: &str = "02 02 00 01 00 \
     23 12 00 31 06 00 00 40 02 00 00 00 31 06 00 00 40 02 00 00 00";
 
+/// The records of BELL.
+pub(super) const BELL_RECORDS: &str = "01 00 00 00 00 00 00 00 04 00 00 00 01 00 00 00";
+
+/// Two qubits, reverse{h; t; cx}.
+pub(super) const REVERSED: &str = "02 02 00 02 00 25 2d 00 20 09 00 31 06 00 00 40 02 00 00 00 \
+    21 09 00 31 06 00 00 40 02 00 00 00 \
+    23 12 00 31 06 00 00 40 02 00 00 00 31 06 00 00 40 02 00 01 00";
+
+/// The records of REVERSED: cx, tdg, h.
+pub(super) const REVERSED_RECORDS: &str =
+    "04 00 00 00 01 00 00 00 03 00 00 00 00 00 00 00 01 00 00 00 00 00 00 00";
+
 /// Records of h on the first three wires.
-const H: [&str; 3] = [
+pub(super) const H: [&str; 3] = [
     "01 00 00 00 00 00 00 00",
     "01 00 01 00 00 00 00 00",
     "01 00 02 00 00 00 00 00",
@@ -112,19 +125,12 @@ fn whole_runs() -> Vec<Recorded> {
         |name, program, expected, records| Recorded::run(name, bytes(program), expected, records);
     vec![
         row("empty program", "", [0, 0, 0, 0], ""),
-        row(
-            "h and cx",
-            BELL,
-            [0, 0, 2, 2],
-            "01 00 00 00 00 00 00 00 04 00 00 00 01 00 00 00",
-        ),
+        row("h and cx", BELL, [0, 0, 2, 2], BELL_RECORDS),
         row(
             "reverse{h; t; cx}",
-            "02 02 00 02 00 25 2d 00 20 09 00 31 06 00 00 40 02 00 00 00 \
-             21 09 00 31 06 00 00 40 02 00 00 00 \
-             23 12 00 31 06 00 00 40 02 00 00 00 31 06 00 00 40 02 00 01 00",
+            REVERSED,
             [0, 0, 3, 4],
-            "04 00 00 00 01 00 00 00 03 00 00 00 00 00 00 00 01 00 00 00 00 00 00 00",
+            REVERSED_RECORDS,
         ),
         row(
             "reverse{reverse{t}}",

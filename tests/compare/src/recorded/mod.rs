@@ -4,13 +4,14 @@ mod examples;
 mod limits;
 mod refusals;
 mod states;
+mod texts;
 
-use crate::ask::{ask, untouched, Call, Question, Who};
-use reference::Outcome;
+use crate::ask::{ask, untouched, Answer, Call, Question, Who};
+use reference::{Outcome, TextOutcome};
 
 /// The step limit of rows that are not about it.
 const LIMIT: u64 = 1_000_000;
-/// The output bytes of rows that are not about them.
+/// The output bytes, and the text bytes, of rows that are not about them.
 const LENGTH: usize = 65_536;
 
 /// A call that owns its sizes.
@@ -30,6 +31,8 @@ pub struct Recorded {
     expected: Outcome,
     /// The records that are due, eight bytes for each.
     records: Vec<u8>,
+    /// The text bytes of a row that prints, and the text that is due.
+    text: Option<(usize, String)>,
 }
 
 /// All recorded answers.
@@ -38,6 +41,7 @@ pub fn recorded() -> Vec<Recorded> {
     rows.extend(refusals::rows());
     rows.extend(limits::rows());
     rows.extend(states::rows());
+    rows.extend(texts::rows());
     rows
 }
 
@@ -52,6 +56,7 @@ impl Recorded {
             length: LENGTH,
             expected: outcome([number, place, 0, 0]),
             records: Vec::new(),
+            text: None,
         }
     }
 
@@ -90,9 +95,26 @@ impl Recorded {
         Recorded { length, ..self }
     }
 
+    /// The same printed, with the text that is due.
+    fn printed(self, text: &str) -> Recorded {
+        let text = Some((LENGTH, text.into()));
+        Recorded { text, ..self }
+    }
+
+    /// The same with so many text bytes.
+    fn text_bytes(self, room: usize) -> Recorded {
+        let text = self.text.map(|(_, text)| (room, text));
+        Recorded { text, ..self }
+    }
+
     /// The number that is due.
     pub fn number(&self) -> u32 {
         self.expected.number
+    }
+
+    /// Whether the row is about a call that prints.
+    pub fn prints(&self) -> bool {
+        self.text.is_some()
     }
 
     /// The question as it is asked.
@@ -109,7 +131,29 @@ impl Recorded {
             },
             limit: self.limit,
             length: self.length,
+            text: self.text.as_ref().map(|(room, _)| *room),
         }
+    }
+
+    /// The answer that is due.
+    fn due(&self) -> Result<Answer, String> {
+        let length = match self.call {
+            Made::Check => 0,
+            _ => self.length,
+        };
+        let (room, text) = match &self.text {
+            None => (0, ""),
+            Some((room, text)) => (*room, text.as_str()),
+        };
+        Ok(Answer {
+            outcome: TextOutcome {
+                length: text.len() as u64,
+                ..self.expected.into()
+            },
+            output: begun_with(&self.records, length)?,
+            text: begun_with(text.as_bytes(), room)?,
+            guarded: true,
+        })
     }
 
     /// Holds someone to the answer; no where the library lacks the call.
@@ -117,26 +161,31 @@ impl Recorded {
         let Some(answer) = ask(who, &self.question()) else {
             return Ok(false);
         };
-        let mut output = untouched(answer.output.len());
-        if self.records.len() > output.len() {
-            return Err(format!("{}: the row has too many records", self.name));
+        let told = |message: &str| format!("{}: {who:?} {message}", self.name);
+        let due = self.due().map_err(|message| told(&message))?;
+        if answer.outcome != due.outcome {
+            let (found, due) = (answer.outcome, due.outcome);
+            return Err(told(&format!("answers {found:?}, due is {due:?}")));
         }
-        output[..self.records.len()].copy_from_slice(&self.records);
-        let due = self.expected;
-        match (
-            answer.outcome == due,
-            answer.output == output,
-            answer.guarded,
-        ) {
-            (true, true, true) => Ok(true),
-            (false, _, _) => Err(format!(
-                "{}: {who:?} answers {:?}, due is {due:?}",
-                self.name, answer.outcome
-            )),
-            (_, false, _) => Err(format!("{}: {who:?} writes other bytes", self.name)),
-            _ => Err(format!("{}: {who:?} writes past its output", self.name)),
+        let rules = [
+            (answer.output == due.output, "writes other records"),
+            (answer.text == due.text, "writes another text"),
+            (answer.guarded, "writes past its output or text"),
+        ];
+        match rules.into_iter().find(|(holds, _)| !holds) {
+            Some((_, message)) => Err(told(message)),
+            None => Ok(true),
         }
     }
+}
+
+/// So many bytes as they stand before a call, but for those that are written.
+fn begun_with(written: &[u8], length: usize) -> Result<Vec<u8>, String> {
+    let mut bytes = untouched(length);
+    let room = bytes.get_mut(..written.len());
+    room.ok_or("has no room for what its row is due")?
+        .copy_from_slice(written);
+    Ok(bytes)
 }
 
 /// A result from its four numbers.

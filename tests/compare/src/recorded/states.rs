@@ -4,14 +4,32 @@ use super::examples::{L, ONE_WIRE};
 use super::{bytes, Recorded};
 
 /// x:Qbit[60000n], nothing in the body.
-const WIDE: &str = "01 11 00 01 01 11 0c 00 44 09 00 40 02 00 60 ea 41 01 00 00";
+pub(super) const WIDE: &str = "01 11 00 01 01 11 0c 00 44 09 00 40 02 00 60 ea 41 01 00 00";
 
 /// x:Qbit over n, t(x), then a loop from 60000n to 0 around nothing.
-const FAR: &str = "01 20 00 01 01 10 00 00 21 04 00 30 01 00 00 \
+pub(super) const FAR: &str = "01 20 00 01 01 10 00 00 21 04 00 30 01 00 00 \
     26 11 00 44 09 00 40 02 00 60 ea 41 01 00 00 40 02 00 00 00";
 
 /// x:Qbit[n] and y:Qbit, nothing in the body.
-const TWO: &str = "01 0c 00 01 02 11 04 00 41 01 00 00 10 00 00";
+pub(super) const TWO: &str = "01 0c 00 01 02 11 04 00 41 01 00 00 10 00 00";
+
+/// Registers of 2 qubits, 1 bit, 3 qubits and 2 bits: measure, reset, if, t, if{reverse}.
+pub(super) const COMMANDS: &str = "02 02 00 02 00 03 02 00 01 00 02 02 00 03 00 03 02 00 02 00 \
+    04 12 00 31 06 00 02 40 02 00 00 00 31 06 00 03 40 02 00 01 00 \
+    05 09 00 31 06 00 02 40 02 00 02 00 \
+    06 16 00 01 31 06 00 03 40 02 00 00 00 20 09 00 31 06 00 00 40 02 00 01 00 \
+    21 09 00 31 06 00 02 40 02 00 01 00 \
+    06 25 00 00 31 06 00 01 40 02 00 00 00 \
+    25 18 00 21 09 00 31 06 00 00 40 02 00 00 00 22 09 00 31 06 00 00 40 02 00 01 00";
+
+/// The records of COMMANDS.
+pub(super) const COMMANDS_RECORDS: &str = "05 00 02 00 02 00 00 00 06 00 04 00 00 00 00 00 \
+    01 02 01 00 00 00 01 00 02 00 03 00 00 00 00 00 \
+    02 01 01 00 00 00 00 00 03 01 00 00 00 00 00 00";
+
+/// x:Qbit, y:Qbit[n] and z:Qbit, h(z).
+pub(super) const BEHIND: &str = "01 16 00 01 03 10 00 00 11 04 00 41 01 00 00 10 00 00 \
+    20 04 00 30 01 00 02";
 
 /// All rows.
 pub fn rows() -> Vec<Recorded> {
@@ -105,21 +123,11 @@ fn limits() -> Vec<Recorded> {
 
 /// Measure, reset and if over registers that lie behind each other.
 fn commands() -> Vec<Recorded> {
-    let program = "02 02 00 02 00 03 02 00 01 00 02 02 00 03 00 03 02 00 02 00 \
-        04 12 00 31 06 00 02 40 02 00 00 00 31 06 00 03 40 02 00 01 00 \
-        05 09 00 31 06 00 02 40 02 00 02 00 \
-        06 16 00 01 31 06 00 03 40 02 00 00 00 20 09 00 31 06 00 00 40 02 00 01 00 \
-        21 09 00 31 06 00 02 40 02 00 01 00 \
-        06 25 00 00 31 06 00 01 40 02 00 00 00 \
-        25 18 00 21 09 00 31 06 00 00 40 02 00 00 00 22 09 00 31 06 00 00 40 02 00 01 00";
-    let records = "05 00 02 00 02 00 00 00 06 00 04 00 00 00 00 00 01 02 01 00 00 00 01 00 \
-        02 00 03 00 00 00 00 00 02 01 01 00 00 00 00 00 03 01 00 00 00 00 00 00";
-    let third = "01 16 00 01 03 10 00 00 11 04 00 41 01 00 00 10 00 00 20 04 00 30 01 00 02";
     vec![
-        Recorded::run("commands", bytes(program), [0, 0, 6, 9], records),
+        Recorded::run("commands", bytes(COMMANDS), [0, 0, 6, 9], COMMANDS_RECORDS),
         Recorded::instance(
             "a wire behind a register",
-            bytes(third),
+            bytes(BEHIND),
             (0, "02 00 00 00"),
             [0, 0, 1, 1],
             "01 00 03 00 00 00 00 00",

@@ -1,0 +1,130 @@
+//! Every promise about a single answer is noticed where it is broken.
+
+use compare::ask::{Answer, Call, Question};
+use compare::harness::reference_answer;
+use compare::promises;
+use generate::build::program;
+use generate::library;
+
+/// A change to an answer, and how the refusal of what it makes begins.
+type Damage = (fn(&mut Answer), &'static str);
+
+/// Tests that the reference's answer about Bell holds, and no damaged one.
+fn hold(text: Option<usize>, table: &[Damage]) {
+    let bytes = program(&library::bell());
+    let question = Question {
+        program: &bytes,
+        call: Call::Run,
+        limit: 10,
+        length: 20,
+        text,
+    };
+    let sound = reference_answer(&question).expect("the reference has every call");
+    assert_eq!(promises(&question, &sound), Ok(()));
+    for (damage, due) in table {
+        let mut answer = sound.clone();
+        damage(&mut answer);
+        let found = promises(&question, &answer).expect_err(due);
+        assert!(found.starts_with(due), "{found}, due is {due}");
+    }
+}
+
+/// Damage to an answer without text.
+const LIST: &[Damage] = &[
+    (
+        |answer| answer.guarded = false,
+        "bytes around output or text",
+    ),
+    (
+        |answer| answer.outcome.records = 3,
+        "more records than the output",
+    ),
+    (
+        |answer| answer.outcome.records = 1 << 61,
+        "more records than the output",
+    ),
+    (
+        |answer| answer.outcome.steps = 11,
+        "more steps than the limit",
+    ),
+    (|answer| answer.outcome.steps = 1, "more records than steps"),
+    (
+        |answer| answer.outcome.number = 14,
+        "a number that means nothing",
+    ),
+    (
+        |answer| answer.outcome.number = 20,
+        "a number that means nothing",
+    ),
+    (
+        |answer| answer.outcome.number = 30,
+        "a number that means nothing",
+    ),
+    (|answer| answer.outcome.place = 5, "a place that cannot be"),
+    (|answer| answer.outcome.number = 4, "counts without a run"),
+    (
+        |answer| answer.outcome.length = 1,
+        "more text than there is room",
+    ),
+    (|answer| answer.output[0] = 7, "a record has bytes"),
+    (
+        |answer| answer.output[16] ^= 1,
+        "output past the last record",
+    ),
+];
+
+/// Damage to an answer with 80 text bytes, of which 69 are written.
+const TEXT: &[Damage] = &[
+    (
+        |answer| answer.guarded = false,
+        "bytes around output or text",
+    ),
+    (
+        |answer| answer.outcome.length = 81,
+        "more text than there is room",
+    ),
+    (|answer| answer.outcome.length = 0, "a wrong length of text"),
+    (
+        |answer| answer.outcome.number = 30,
+        "a wrong length of text",
+    ),
+    (
+        |answer| answer.outcome.number = 27,
+        "a wrong length of text",
+    ),
+    (|answer| refuse(answer, 30, 5), "a place that cannot be"),
+    (|answer| refuse(answer, 30, 0), "text past its length"),
+    (|answer| refuse(answer, 26, 5), "text past its length"),
+    (|answer| answer.text[69] ^= 1, "text past its length"),
+    (|answer| answer.outcome.length = 68, "text past its length"),
+    (|answer| answer.text[0] = b'o', "line 1: OPENQASM is due"),
+    (|answer| answer.text[0] = 0xFF, "the text: invalid utf-8"),
+    (|answer| answer.text[47] = b't', "the text is another list"),
+    (
+        |answer| answer.text[43] = b'3',
+        "the text is over other wires",
+    ),
+    (|answer| answer.text[43] = b'0', "line 3: q has no elements"),
+    (
+        |answer| answer.text[68] = b' ',
+        "the last line is not ended",
+    ),
+    (|answer| answer.text[54] = b' ', "lines too many or few"),
+];
+
+/// Another number and place, without text.
+fn refuse(answer: &mut Answer, number: u32, place: u32) {
+    answer.outcome.number = number;
+    answer.outcome.place = place;
+    answer.outcome.length = 0;
+}
+
+#[test]
+fn broken_promises_about_a_list_are_noticed() {
+    hold(None, LIST);
+}
+
+#[test]
+fn broken_promises_about_a_text_are_noticed() {
+    hold(Some(80), TEXT);
+}
