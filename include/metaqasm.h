@@ -7,14 +7,14 @@
  * A host needs this file, metaqasm_numbers.def beside it and the archive. C99 and C++11 and what came after will do.
  *
  * What a caller owes:
- *   - Each pointer is valid for the length given with it: so many bytes can be read there, and in the output written. Where
- *     the length is 0, any pointer will do, NULL too: it is neither read nor written.
- *   - During the call, nobody else changes a byte of the program, the sizes or the output: no other thread, no process that
- *     shares the memory, no signal handler, no device. So bytes that a guest can still reach are copied first, and it is the
- *     copy that is handed over. (The program is checked and then run; one that is changed in between may be read past its
- *     end.)
- *   - The output overlaps neither the program nor the sizes, and no buffer of another call that is made at the same time.
- *     Calls at the same time may share a program and sizes.
+ *   - Each pointer is valid for the length given with it: so many bytes can be read there, and in the output and the text
+ *     written. Where the length is 0, any pointer will do, NULL too: it is neither read nor written.
+ *   - During the call, nobody else changes a byte of the program, the sizes, the output or the text: no other thread, no
+ *     process that shares the memory, no signal handler, no device. So bytes that a guest can still reach are copied first,
+ *     and it is the copy that is handed over. (The program is checked and then run; one that is changed in between may be
+ *     read past its end.)
+ *   - Output and text overlap neither each other, nor the program, nor the sizes, and no buffer of another call that is made
+ *     at the same time. Calls at the same time may share a program and sizes.
  *   - The thread has the stack that is said at METAQASM_STACK_KIB.
  * Nothing else is asked. Every byte string, number and length has an answer and every call ends. The library keeps no state
  * between calls, and uses no heap, no files and no globals, so calls may run on any number of threads at once.
@@ -24,11 +24,15 @@
  * its own statement (and, where a list begins to run backward, to the fields of the list). Most take 0.1 microseconds or
  * less. The slowest found are gates in a loop with an index of 60,000 bytes, which each round evaluates: 0.07 ms a step, or
  * 1 ns for each byte of the program, and twice that while the machine was busy. Reckon with at most 0.2 ms, or 3 ns a byte.
+ * The calls that print a text go through the list twice more, to measure the text and to print it: some 5 to 20 ns a record,
+ * and 10 ns for each declared bit.
  * A call cannot be cancelled: give it a limit that may be waited for, or make it in a process that may be ended. (A later
  * version may bring runs that can be left.)
  *
- * How to choose the limit and the output's length:
+ * How to choose the limit and the lengths of output and text:
  *   - Output: METAQASM_RECORD_BYTES for each gate that you are ready to load; a list that is longer ends with 27.
+ *   - Text: METAQASM_TEXT_BYTES of the records that the output holds and the bits that the program may declare; a text that
+ *     is longer than its buffer ends with 30.
  *   - Limit, for programs that you trust: each record takes a step, and so does each call, loop, round, reversal and condition
  *     around it. Four steps for each record that the output holds are enough for most families.
  *   - Limit, for programs that may be written to be slow: the longest that you would wait, divided by 0.1 microseconds and
@@ -46,7 +50,7 @@ extern "C" {
 #endif
 
 /* The version of this header and of the archive that is built beside it. */
-#define METAQASM_VERSION "1.0.0"
+#define METAQASM_VERSION "1.1.0"
 
 /* The stack that a call needs at most, in KiB, for every program within the limits and beside what the host has in use there;
  * and what a check alone needs. On less, a deep program may end the process at the guard page below the stack. Both are
@@ -72,6 +76,15 @@ extern "C" {
 #define METAQASM_SIZE_BYTES 4
 #define METAQASM_RECORD_BYTES 8
 
+/* How many bytes a text takes at most: the lines before the bits and records, the line of a bit, and that of a record. So many
+ * are always enough, and that is proved. */
+#define METAQASM_MOST_HEAD_BYTES 51
+#define METAQASM_MOST_BIT_LINE_BYTES 16
+#define METAQASM_MOST_RECORD_LINE_BYTES 45
+#define METAQASM_TEXT_BYTES(records, bits) \
+    (METAQASM_MOST_HEAD_BYTES + METAQASM_MOST_BIT_LINE_BYTES * (size_t)(bits) + \
+     METAQASM_MOST_RECORD_LINE_BYTES * (size_t)(records))
+
 /* The numbers that a call answers: METAQASM_DONE = 0, METAQASM_TOO_LONG = 1, .. METAQASM_NOT_SHOWN = 12, ..
  * metaqasm_numbers.def has each of them, one to a line, with its name and what it means; programs in other languages can
  * read it too.
@@ -80,7 +93,12 @@ extern "C" {
  *    1 to 13  from every call: the program is refused. Records and steps are 0, and the output is as it was.
  *   20 to 23  from an instance: what is asked for cannot be had. Records and steps are 0, and the output is as it was.
  *   24 to 27  from an instance or a run: it has ended early. The output holds the records so far, and records and steps
- *             count what was written and taken so far. */
+ *             count what was written and taken so far.
+ *   30        from a call that prints a text: the list is complete, and its text does not fit. The output holds the list,
+ *             and records and steps count it.
+ *
+ * A call that prints a text answers as an instance or a run does, and with 30 after all else. Where its number is not 0, the
+ * text is as it was. */
 enum metaqasm_number {
 #define METAQASM_NUMBER(value, name, message) METAQASM_##name = value,
 #include "metaqasm_numbers.def"
@@ -104,8 +122,8 @@ static inline const char *metaqasm_message(uint32_t number)
 /* The answer of a call.
  *
  * number   0: done. Otherwise the program or the call is turned down, or the run has ended early (see above)
- * place    the offset in the program of the tag that the number is about: from 24 on that of the statement (or, where a
- *          parameter's size is out of range, of its type), for 23 that of the type; 0 where the number is 0 or 20 to 22
+ * place    the offset in the program of the tag that the number is about: for 24 to 27 that of the statement (or, where a
+ *          parameter's size is out of range, of its type), for 23 that of the type; 0 where the number is 0, 20 to 22 or 30
  * records  how many 8-byte records are written
  * steps    how many steps are taken
  */
@@ -170,6 +188,53 @@ metaqasm_result metaqasm_instance(const uint8_t *program, size_t program_len, ui
  * output   where the list is written; NULL is allowed where output_len is 0 (27 where a record is due) */
 metaqasm_result metaqasm_run(const uint8_t *program, size_t program_len, uint64_t limit, uint8_t *output,
                              size_t output_len);
+
+/* The text that instance_text and run_text print is the list in OpenQASM 2.0, for other programs to load. Each line ends in a
+ * line feed:
+ *
+ *   OPENQASM 2.0;
+ *   include "qelib1.inc";
+ *   qreg q[3];              the number of wires that are laid out; the line is left out where it is 0
+ *   creg c0[1];             then so for each bit, rising
+ *   h q[2];                 then a line for each record, in order; likewise t and tdg
+ *   cx q[0],q[1];           the control, then the target
+ *   measure q[0] -> c1[0];
+ *   reset q[0];
+ *   if(c1==1) h q[2];       a record with a condition
+ *
+ * An instance lays out the wires of its parameters and no bits, and a run all qubits and bits that the program declares.
+ * Different lists on the same wires and bits have different texts.
+ *
+ * The text is not ended by a zero byte: the result says how long it is, and the bytes past it are left as they were. */
+
+/* The answer of a call that prints a text.
+ *
+ * number, place, records, steps   as in metaqasm_result
+ * length                          how many bytes the text has; 0 where the number is not 0
+ */
+typedef struct {
+    uint32_t number;
+    uint32_t place;
+    uint64_t records;
+    uint64_t steps;
+    uint64_t length;
+} metaqasm_text_result;
+
+/* Lists one family at given sizes as metaqasm_instance does, and prints the list where it is complete.
+ *
+ * program .. output   as for metaqasm_instance
+ * text                where the text is printed; NULL is allowed where text_len is 0 (no text fits there: 30 for a complete
+ *                     list) */
+metaqasm_text_result metaqasm_instance_text(const uint8_t *program, size_t program_len, uint32_t family,
+                                            const uint8_t *sizes, size_t sizes_len, uint64_t limit, uint8_t *output,
+                                            size_t output_len, uint8_t *text, size_t text_len);
+
+/* Lists a whole run as metaqasm_run does, and prints the list where it is complete.
+ *
+ * program .. output   as for metaqasm_run
+ * text                as for metaqasm_instance_text */
+metaqasm_text_result metaqasm_run_text(const uint8_t *program, size_t program_len, uint64_t limit, uint8_t *output,
+                                       size_t output_len, uint8_t *text, size_t text_len);
 
 #ifdef __cplusplus
 }

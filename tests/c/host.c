@@ -2,6 +2,7 @@
  * lists of gates. After the check the guest changes its own bytes, and the lists stay what they are.
  * Run it from the repository's root; it compares the lists with those in examples. */
 #include "expect.h"
+#include "load.h"
 #include <metaqasm.h>
 #include <string.h>
 
@@ -24,30 +25,6 @@ static const question questions[] = {
     {"add at n = 1", 2, {1, 0, 0, 0}, 4, 55, "examples/adder.n1.list"},
     {NULL, 0, {0}, 0, 92, "examples/adder.list"},
 };
-
-/* Reads a file whole; a length over the room says that it does not fit, and -1 that it cannot be read. */
-static long load(const char *path, uint8_t *bytes, size_t room)
-{
-    FILE *file = fopen(path, "rb");
-    size_t length;
-    int bad;
-
-    if (file == NULL) {
-        printf("%s: cannot be opened; run this from the repository's root\n", path);
-        return -1;
-    }
-    length = fread(bytes, 1, room, file);
-    bad = ferror(file);
-    if (!bad && length == room && fgetc(file) != EOF) {
-        length++;
-    }
-    fclose(file);
-    if (bad) {
-        printf("%s: cannot be read\n", path);
-        return -1;
-    }
-    return (long)length;
-}
 
 /* The two-byte number at a place, low byte first. */
 static unsigned two(const uint8_t *bytes)

@@ -4,7 +4,7 @@
 #include <string.h>
 
 /* Which call is made. */
-enum call { CHECK, INSTANCE, RUN };
+enum call { CHECK, INSTANCE, RUN, RUN_TEXT };
 
 /* A call about some bytes, and the number and place that are due. */
 typedef struct {
@@ -15,6 +15,7 @@ typedef struct {
     size_t sizes_len;
     uint64_t limit;
     size_t output_len;
+    size_t text_len;
     uint32_t number;
     uint32_t value;
     uint32_t place;
@@ -60,15 +61,20 @@ static const uint8_t bell[] = {
     2, 2, 0, 2, 0, 32, 9, 0, 49, 6, 0, 0, 64, 2, 0, 0, 0, 35, 18, 0, 49, 6, 0, 0, 64, 2, 0, 0, 0, 49, 6, 0, 0, 64, 2, 0, 1, 0,
 };
 
+/* what its list is printed as, with the zero byte that C puts behind it */
+#define BELLS_TEXT "OPENQASM 2.0;\ninclude \"qelib1.inc\";\nqreg q[2];\nh q[0];\ncx q[0],q[1];\n"
+
 static const uint8_t largest[] = {0xFF, 0xFF, 0, 0};
 static const uint8_t past_largest[] = {0, 0, 1, 0};
 
 #define CHECKED(bytes, name, value, place) \
-    {CHECK, bytes, sizeof bytes, NULL, 0, 0, 0, METAQASM_##name, value, place}
+    {CHECK, bytes, sizeof bytes, NULL, 0, 0, 0, 0, METAQASM_##name, value, place}
 #define ASKED(bytes, sizes, sizes_len, name, value, place) \
-    {INSTANCE, bytes, sizeof bytes, sizes, sizes_len, 9, 16, METAQASM_##name, value, place}
+    {INSTANCE, bytes, sizeof bytes, sizes, sizes_len, 9, 16, 0, METAQASM_##name, value, place}
 #define LISTED(bytes, limit, length, name, value, place) \
-    {RUN, bytes, sizeof bytes, NULL, 0, limit, length, METAQASM_##name, value, place}
+    {RUN, bytes, sizeof bytes, NULL, 0, limit, length, 0, METAQASM_##name, value, place}
+#define PRINTED(bytes, text_len, name, value, place) \
+    {RUN_TEXT, bytes, sizeof bytes, NULL, 0, 9, 16, text_len, METAQASM_##name, value, place}
 
 /* A question for every number there is, in their order. */
 static const question questions[] = {
@@ -94,24 +100,37 @@ static const question questions[] = {
     LISTED(same, 9, 16, ONE_WIRE_TWICE, 25, 5),
     LISTED(bell, 1, 16, OUT_OF_STEPS, 26, 17),
     LISTED(bell, 2, 15, OUTPUT_FULL, 27, 17),
+    PRINTED(bell, sizeof BELLS_TEXT - 2, TEXT_FULL, 30, 0),
 };
 
 /* Numbers that no call answers. */
-static const uint32_t unknown[] = {14, 15, 16, 17, 18, 19, 28, 29, 100, 255, 256, 268, 65536, 0x80000000u, 0xFFFFFFFFu};
+static const uint32_t unknown[] = {14,  15,  16,  17,  18,    19,          28,         29, 31,
+                                   100, 255, 256, 268, 65536, 0x80000000u, 0xFFFFFFFFu};
 
 #define COUNT(list) (sizeof(list) / sizeof((list)[0]))
+
+/* What the result of a call that prints a text shares with the others. */
+static metaqasm_result shared(metaqasm_text_result result)
+{
+    return (metaqasm_result){result.number, result.place, result.records, result.steps};
+}
 
 /* Makes the call of a question. */
 static metaqasm_result answer(const question *asked, uint8_t *output)
 {
+    uint8_t text[sizeof BELLS_TEXT];
+
     switch (asked->call) {
     case CHECK:
         return metaqasm_check(asked->program, asked->program_len);
     case INSTANCE:
         return metaqasm_instance(asked->program, asked->program_len, 0, asked->sizes, asked->sizes_len, asked->limit, output,
                                  asked->output_len);
-    default:
+    case RUN:
         return metaqasm_run(asked->program, asked->program_len, asked->limit, output, asked->output_len);
+    default:
+        return shared(metaqasm_run_text(asked->program, asked->program_len, asked->limit, output, asked->output_len, text,
+                                        asked->text_len));
     }
 }
 
@@ -130,6 +149,37 @@ static void answers(void)
                     "the number and place that are due")) {
             printf("    got %u at %u\n", result.number, result.place);
         }
+    }
+}
+
+/* Whether a call that prints a text answered as the plain one did, or with 30 in place of 0, and left its one byte alone. */
+static int as_plain(metaqasm_text_result got, metaqasm_result plain, uint8_t byte)
+{
+    uint32_t due = plain.number == METAQASM_DONE ? METAQASM_TEXT_FULL : plain.number;
+
+    return got.number == due && got.place == plain.place && got.records == plain.records && got.steps == plain.steps &&
+           got.length == 0 && byte == 0xA5;
+}
+
+/* About every question, the calls that print a text into one byte answer as the plain ones do, and write the same records. */
+static void with_text(void)
+{
+    size_t i;
+
+    for (i = 0; i < COUNT(questions); i++) {
+        const question *q = &questions[i];
+        uint8_t plainly[16] = {0}, beside[16] = {0}, byte = 0xA5;
+        metaqasm_result plain = metaqasm_run(q->program, q->program_len, q->limit, plainly, q->output_len);
+        metaqasm_text_result got =
+            metaqasm_run_text(q->program, q->program_len, q->limit, beside, q->output_len, &byte, 1);
+
+        expect(as_plain(got, plain, byte) && memcmp(plainly, beside, sizeof beside) == 0, metaqasm_message(q->number),
+               "run_text to answer as run does");
+        plain = metaqasm_instance(q->program, q->program_len, 0, q->sizes, q->sizes_len, q->limit, plainly, q->output_len);
+        got = metaqasm_instance_text(q->program, q->program_len, 0, q->sizes, q->sizes_len, q->limit, beside, q->output_len,
+                                     &byte, 1);
+        expect(as_plain(got, plain, byte) && memcmp(plainly, beside, sizeof beside) == 0, metaqasm_message(q->number),
+               "instance_text to answer as instance does");
     }
 }
 
@@ -166,7 +216,7 @@ static void entries(void)
     };
     size_t i;
 
-    expect(COUNT(listed) == COUNT(questions), "metaqasm_numbers.def", "22 entries");
+    expect(COUNT(listed) == COUNT(questions), "metaqasm_numbers.def", "23 entries");
     for (i = 0; i < COUNT(listed) && i < COUNT(questions); i++) {
         expect(listed[i] == questions[i].value, metaqasm_message(listed[i]), "entries in order");
     }
@@ -208,9 +258,10 @@ static void records(void)
 int main(void)
 {
     answers();
+    with_text();
     messages();
     entries();
     records();
-    expect(strcmp(METAQASM_VERSION, "1.0.0") == 0, "the version", "1.0.0");
+    expect(strcmp(METAQASM_VERSION, "1.1.0") == 0, "the version", "1.1.0");
     return closed();
 }

@@ -4,9 +4,10 @@
 #include "expect.h"
 
 #include <cstring>
+#include <string>
 #include <vector>
 
-static_assert(METAQASM_NOT_SHOWN == 12 && METAQASM_OUTPUT_FULL == 27, "constants can be used where C++ asks for one");
+static_assert(METAQASM_NOT_SHOWN == 12 && METAQASM_TEXT_FULL == 30, "constants can be used where C++ asks for one");
 
 int main()
 {
@@ -23,6 +24,14 @@ int main()
     expect(result.number == METAQASM_DONE && result.records == 1 && output[0] == METAQASM_OP_H, "run from C++", "h");
     result = metaqasm_instance(program.data(), program.size(), 0, none.data(), none.size(), 1, nullptr, 0);
     expect(result.number == METAQASM_NO_SUCH_FAMILY, "instance from C++", "20");
+    std::string text(METAQASM_TEXT_BYTES(output.size() / METAQASM_RECORD_BYTES, 0), '?');
+    metaqasm_text_result printed = metaqasm_run_text(program.data(), program.size(), 1, output.data(), output.size(),
+                                                     reinterpret_cast<uint8_t *>(&text[0]), text.size());
+    text.resize(printed.length);
+    expect(printed.number == METAQASM_DONE && text == "OPENQASM 2.0;\ninclude \"qelib1.inc\";\nqreg q[1];\nh q[0];\n",
+           "a text in C++", "four lines");
+    printed = metaqasm_instance_text(program.data(), program.size(), 0, none.data(), none.size(), 1, nullptr, 0, nullptr, 0);
+    expect(printed.number == METAQASM_NO_SUCH_FAMILY && printed.length == 0, "instance_text from C++", "20");
     expect(std::strstr(metaqasm_message(result.number), "no family") != nullptr, "20", "a sentence with `no family`");
     expect(std::strstr(metaqasm_message(14), "no call") != nullptr, "14", "a sentence that says that it is unknown");
     return closed();
