@@ -1,7 +1,8 @@
 //! The example programs and what each lists.
 //!
 //! The first line of a `.list` file is the command that makes the rest of it,
-//! as `// mqasm list adder.mq --family add --sizes 2`.
+//! as `// mqasm list adder.mq --family add --sizes 2`. A complete list has a file
+//! of the same name that ends in `.qasm`, with what `mqasm qasm` writes.
 
 use crate::tool::{self, Command, Options};
 use std::ffi::OsString;
@@ -27,6 +28,8 @@ pub struct Example {
     pub output: usize,
     /// The lines that are due.
     pub listing: String,
+    /// The text of OpenQASM that is due, where the listing has one beside it.
+    pub qasm: Option<String>,
 }
 
 /// Reads every listing in a folder, by name.
@@ -79,5 +82,16 @@ fn example(folder: &Path, path: &PathBuf) -> Result<Example, String> {
         limit: options.limit,
         output: options.output,
         listing: listing.to_string(),
+        qasm: beside(path)?,
     })
+}
+
+/// Reads the text of OpenQASM beside a listing, if there is one.
+fn beside(listing: &Path) -> Result<Option<String>, String> {
+    let path = listing.with_extension("qasm");
+    match fs::read_to_string(&path) {
+        Ok(text) => Ok(Some(text)),
+        Err(error) if error.kind() == std::io::ErrorKind::NotFound => Ok(None),
+        Err(error) => Err(said(&path, error)),
+    }
 }

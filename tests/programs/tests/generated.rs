@@ -1,6 +1,9 @@
 //! The tool on thousands of generated programs: it never fails, and what it says
 //! of a refusal fits the refusal.
 
+mod common;
+
+use common::{declared, openqasm};
 use generate::case;
 use programs::tool::{run, Streams};
 use std::collections::BTreeMap;
@@ -63,6 +66,26 @@ fn texts_get_the_same_answers_as_bytes() {
             assert_eq!(details(&by_bytes.2), details(&by_text.2), "{seed}");
         }
     }
+}
+
+#[test]
+fn openqasm_says_what_lists_say() {
+    let mut written = 0;
+    for seed in 0..3000 {
+        let case = case(seed);
+        let limit = format!("--limit={}", case.limit.min(2000));
+        let (code, list, why) = tool(&["list", "--bytes", "-", &limit], &case.program);
+        let found = tool(&["qasm", "--bytes", "-", &limit], &case.program);
+        if code != 0 {
+            assert_eq!(found, (code, String::new(), why), "{seed}");
+            continue;
+        }
+        let text = programs::disassemble(&case.program).unwrap();
+        let due = openqasm(&list, declared(&text, "qreg "), declared(&text, "creg "));
+        assert_eq!(found, (0, due, String::new()), "{seed}");
+        written += usize::from(list.lines().count() > 1);
+    }
+    assert!(written > 500, "{written}");
 }
 
 #[test]

@@ -12,19 +12,20 @@ mqasm - programs of metaQASM as text and as bytes
   mqasm text FILE         write the text of program bytes
   mqasm check FILE        check a program
   mqasm list FILE         list the records of a whole run
+  mqasm qasm FILE         write them as OpenQASM 2.0, for other programs to load
   mqasm draw FILE         draw them as a circuit
   mqasm help [COMMAND]    show this, or what one command takes
   mqasm --version         show the version
 
-FILE is a path, or - for standard input. check, list and draw read a path that
-ends in .bytes as bytes, and anything else as text. At most 65536 bytes of a
-program or 2097152 of a text are read.
+FILE is a path, or - for standard input. check, list, qasm and draw read a path
+that ends in .bytes as bytes, and anything else as text. At most 65536 bytes of
+a program or 2097152 of a text are read.
 
 Options, as --limit 7 or --limit=7:
   -o FILE                 write to this file instead of standard output
-Options of check, list and draw:
+Options of check, list, qasm and draw:
   --text, --bytes         what FILE holds, whatever it is called
-Options of list and draw:
+Options of list, qasm and draw:
   --family NAME|NUMBER    list an instance of this family instead
   --sizes 3,4             the sizes of the instance, in order
   --sizes n=3,m=4         or by name
@@ -35,10 +36,10 @@ Options of draw:
   --records               FILE holds records of 8 bytes, as the library writes
   --listing               FILE holds the lines of a list, as 'mqasm list' writes
 
-check, list and draw end with a line of number, place, records and steps. The
-exit code is 0 when the number is 0, 1 when the program is turned down, ends
-early or cannot be read, or the output cannot be written, and 2 when the command
-is not one of these.
+check, list and draw end with a line of number, place, records and steps; qasm
+writes nothing unless the number is 0. The exit code is 0 when the number is 0,
+1 when the program is turned down, ends early or cannot be read, or the output
+cannot be written, and 2 when the command is not one of these.
 
 The text form, by example:
   // a comment, to the end of the line
@@ -78,7 +79,7 @@ standard input; a path that ends in .bytes is read as bytes, anything else as
 text.
 ";
 
-/// The options that list and draw share.
+/// The options that list, qasm and draw share.
 macro_rules! listing_options {
     () => {
         "  --family NAME|NUMBER    an instance of this family instead
@@ -99,6 +100,19 @@ mqasm list FILE [options]
 Lists the records of a whole run, or of one family, a line for each: the
 operation and its wires and bits, after 'if BIT VALUE' where there is a
 condition. The last line has number, place, records and steps.
+
+",
+    listing_options!()
+);
+
+const QASM: &str = concat!(
+    "\
+mqasm qasm FILE [options]
+
+Writes the records of a whole run, or of one family, as a text of OpenQASM 2.0,
+a line for each: cx q[0],q[1]; or measure q[0] -> c1[0]; or if(c1==1) h q[2];
+The qubits are one qreg, and each bit is a creg of its own. Only a complete list
+is written; if the number is not 0, a message says why.
 
 ",
     listing_options!()
@@ -132,6 +146,7 @@ pub fn of(command: Command) -> &'static str {
         Command::Text => TEXT,
         Command::Check => CHECK,
         Command::List => LIST,
+        Command::Qasm => QASM,
         Command::Draw => DRAW,
     }
 }

@@ -1,5 +1,7 @@
-//! The `mqasm` tool: assemble, write as text, check, list and draw programs.
+//! The `mqasm` tool: assemble, write as text, check, list, write as OpenQASM
+//! and draw programs.
 
+mod asked;
 mod help;
 mod input;
 mod options;
@@ -18,6 +20,7 @@ use crate::listing::{end_line, written};
 use crate::names::clipped;
 use crate::numbers::{meaning, version};
 use crate::{disassemble, listing, Assembled};
+use asked::Asked;
 use input::{assemble_file, read_bytes, read_list, read_records, shown};
 use options::Holds;
 use reference::Outcome;
@@ -133,6 +136,7 @@ fn work(command: Command, options: &Options, input: &mut dyn Read) -> Answer<Don
             })
         }
         Command::List => list(options, input),
+        Command::Qasm => qasm(options, input),
         Command::Draw => match options.holds {
             Holds::Records => draw_records(options, input),
             Holds::Listing => draw_list(options, input),
@@ -154,67 +158,42 @@ fn text(options: &Options, input: &mut dyn Read) -> Answer<Done> {
     }
 }
 
-/// A program's list and how it ended.
-struct Listed {
-    program: Loaded,
-    family: Option<u32>,
-    sizes: Vec<u32>,
-    records: Vec<u8>,
-    outcome: Outcome,
-}
-
-/// Runs a program, or one of its families.
-fn listed(options: &Options, input: &mut dyn Read) -> Answer<Listed> {
-    let program = load(options, input)?;
-    let family = program.family(options)?;
-    let mut found = Listed {
-        outcome: reference::check(&program.bytes),
-        program,
-        family,
-        sizes: Vec::new(),
-        records: Vec::new(),
-    };
-    if found.outcome.number != 0 {
-        return Ok(found);
-    }
-    let (bytes, limit) = (&found.program.bytes, options.limit);
-    found.records = vec![0; options.output];
-    found.outcome = match family {
-        None => reference::run(bytes, limit, &mut found.records),
-        Some(number) => {
-            found.sizes = sizes_in_order(options, &found.program, number)?;
-            let sizes = size_bytes(&found.sizes);
-            reference::instance(bytes, number, &sizes, limit, &mut found.records)
-        }
-    };
-    Ok(found)
-}
-
 /// Lists a run or an instance: its records and the result.
 fn list(options: &Options, input: &mut dyn Read) -> Answer<Done> {
-    let found = listed(options, input)?;
+    let asked = Asked::read(options, input)?;
+    let (outcome, records) = asked.answer(options, reference::run, reference::instance);
     Ok(Done {
-        content: listing(&found.records, &found.outcome).into_bytes(),
-        note: note(&found.program, options, &found.outcome),
+        content: listing(&records, &outcome).into_bytes(),
+        note: note(&asked.program, options, &outcome),
     })
+}
+
+/// Writes a complete list as OpenQASM; for any other, only the message is written.
+fn qasm(options: &Options, input: &mut dyn Read) -> Answer<Done> {
+    let asked = Asked::read(options, input)?;
+    let ((outcome, text), _) = asked.answer(options, reference::run_qasm, reference::instance_qasm);
+    match note(&asked.program, options, &outcome) {
+        None => done(text),
+        Some(note) => unreadable(note),
+    }
 }
 
 /// Draws a run or an instance; a program that is refused has no drawing.
 fn draw_program(options: &Options, input: &mut dyn Read) -> Answer<Done> {
-    let found = listed(options, input)?;
+    let asked = Asked::read(options, input)?;
+    let (outcome, records) = asked.answer(options, reference::run, reference::instance);
     let mut drawing = String::new();
-    if !matches!(found.outcome.number, 1..=23) {
-        let fields = &found.program.fields;
-        let rows = match found.family {
+    if !matches!(outcome.number, 1..=23) {
+        let fields = &asked.program.fields;
+        let rows = match asked.family {
             None => draw::registers(fields),
-            Some(number) => draw::parameters(fields, number, &found.sizes),
+            Some(number) => draw::parameters(fields, number, &asked.sizes),
         };
-        let records = written(&found.records, &found.outcome);
-        drawing = drawn(options, rows, records)?;
+        drawing = drawn(options, rows, written(&records, &outcome))?;
     }
     Ok(Done {
-        content: (drawing + &end_line(&found.outcome)).into_bytes(),
-        note: note(&found.program, options, &found.outcome),
+        content: (drawing + &end_line(&outcome)).into_bytes(),
+        note: note(&asked.program, options, &outcome),
     })
 }
 

@@ -4,7 +4,7 @@ use super::{misuse, Answer};
 use std::ffi::OsString;
 use std::path::Path;
 
-/// The largest room for records that list takes.
+/// The largest room for records.
 const MOST_OUTPUT: usize = 1 << 30;
 /// The widths that a drawing can have.
 const WIDTHS: std::ops::RangeInclusive<usize> = 40..=10_000;
@@ -16,15 +16,17 @@ pub enum Command {
     Text,
     Check,
     List,
+    Qasm,
     Draw,
 }
 
 /// The commands, and for each the options that it takes.
-const COMMANDS: [(&str, Command, &[&str]); 5] = [
+const COMMANDS: [(&str, Command, &[&str]); 6] = [
     ("assemble", Command::Assemble, &["-o"]),
     ("text", Command::Text, &["-o"]),
     ("check", Command::Check, &["-o", "--text", "--bytes"]),
     ("list", Command::List, LISTING),
+    ("qasm", Command::Qasm, LISTING),
     ("draw", Command::Draw, DRAWING),
 ];
 

@@ -74,3 +74,41 @@ impl Drop for Scratch {
         let _ = std::fs::remove_file(&self.0);
     }
 }
+
+/// The text of OpenQASM 2.0 for a complete list over wires and bits, made from its lines.
+pub fn openqasm(list: &str, wires: u32, bits: u32) -> String {
+    let mut text = String::from("OPENQASM 2.0;\ninclude \"qelib1.inc\";\n");
+    if wires > 0 {
+        text += &format!("qreg q[{wires}];\n");
+    }
+    for bit in 0..bits {
+        text += &format!("creg c{bit}[1];\n");
+    }
+    for line in list.lines().filter(|line| !line.starts_with("end ")) {
+        let words: Vec<&str> = line.split(' ').collect();
+        text += &openqasm_line(&words);
+    }
+    text
+}
+
+/// The line of OpenQASM 2.0 for the words of a list's line.
+fn openqasm_line(words: &[&str]) -> String {
+    match words {
+        ["if", bit, value, rest @ ..] => format!("if(c{bit}=={value}) {}", openqasm_line(rest)),
+        ["cx", control, target] => format!("cx q[{control}],q[{target}];\n"),
+        ["measure", wire, bit] => format!("measure q[{wire}] -> c{bit}[0];\n"),
+        [operation, wire] => format!("{operation} q[{wire}];\n"),
+        _ => panic!("no line of a list: {words:?}"),
+    }
+}
+
+/// How many locations a program's text declares by a word such as `qreg `.
+pub fn declared(text: &str, word: &str) -> u32 {
+    let lines = text.lines().filter(|line| !line.starts_with("//"));
+    let statements = lines.flat_map(|line| line.split(';'));
+    let sizes = statements.filter_map(|statement| {
+        let (_, rest) = statement.trim().strip_prefix(word)?.split_once('[')?;
+        rest.strip_suffix(']')?.parse::<u32>().ok()
+    });
+    sizes.sum()
+}
