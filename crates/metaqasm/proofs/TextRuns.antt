@@ -45,13 +45,14 @@ module _ (before text after : List ℕ) (a : Reply) (r : TextLength) (p : Prints
 -- ---- by the run's number
 
 pub by-other : (a : Reply) (x : TextResult) (buffer text : List ℕ) → (a .result .number ≡ 0 → ⊥) → x ≡ withoutText (a .result .number) (a .result .place) (a .result)
-    → record { result = x; output = a .output; text = buffer } ≡ byNumber (a .result .number) buffer text a
+    → textFinished (record { result = x; output = a .output; text = buffer }) ≡ byNumber (a .result .number) buffer (some text) a
 unfolding unprinted
-by-other a x buffer text h e = ap (λ (y : TextResult). record { result = y; output = a .output; text = buffer }) e ∙ sym (not-printed (a .result .number) buffer text a (omega (arith, h)))
+by-other a x buffer text h e =
+    ap (λ (y : TextResult). textFinished (record { result = y; output = a .output; text = buffer })) e ∙ sym (not-printed (a .result .number) buffer (some text) a (omega (arith, h)))
 
-pub by-done : (a : Reply) (buffer text : List ℕ) (b : TextAnswer) → a .result .number ≡ 0 → b ≡ printed buffer text a → b ≡ byNumber (a .result .number) buffer text a
+pub by-done : (a : Reply) (buffer text : List ℕ) (b : TextAnswer) → a .result .number ≡ 0 → b ≡ printed buffer text a → textFinished b ≡ byNumber (a .result .number) buffer (some text) a
 unfolding byNumber
-by-done a buffer text b z e = e ∙ ap (λ (n : ℕ). byNumber n buffer text a) (sym z)
+by-done a buffer text b z e = ap textFinished e ∙ ap (λ (n : ℕ). byNumber n buffer (some text) a) (sym z)
 
 -- the counts are the run's, and the text is no longer than its buffer
 pub record Kept (a : Reply) (b : TextAnswer) : Type 0 where
@@ -60,21 +61,28 @@ pub record Kept (a : Reply) (b : TextAnswer) : Type 0 where
   pub output : b .output ≡ a .output
   pub fits : b .result .length ≤ length (b .text)
 
-by-keeps : (n : ℕ) (buffer text : List ℕ) (a : Reply) → Kept a (byNumber n buffer text a)
-unfolding byNumber printed unprinted fullyPrinted
-by-keeps zero buffer text a = go (leb (length text) (length buffer)) refl
+printed-keeps : (buffer text : List ℕ) (a : Reply) → Kept a (printed buffer text a)
+unfolding printed unprinted fullyPrinted
+printed-keeps buffer text a = go (leb (length text) (length buffer)) refl
   where
     go : (t : Bool) → leb (length text) (length buffer) ≡ t → Kept a (printed buffer text a)
     go true e = rw e (record { records = refl; steps = refl; output = refl; fits = let h = leb-true (length text) (length buffer) e in omega (arith, into-size buffer text h) })
     go false e = rw e (record { records = refl; steps = refl; output = refl; fits = omega arith })
-by-keeps (suc n) buffer text a = record { records = refl; steps = refl; output = refl; fits = omega arith }
+
+same-text : {x b : TextAnswer} → textFinished x ≡ textFinished b → x ≡ b
+same-text e = cc
+
+by-keeps : (n : ℕ) (buffer text : List ℕ) (a : Reply) (b : TextAnswer) → textFinished b ≡ byNumber n buffer (some text) a → Kept a b
+unfolding byNumber unprinted
+by-keeps zero buffer text a b e = subst (Kept a) (sym (same-text e)) (printed-keeps buffer text a)
+by-keeps (suc n) buffer text a b e = subst (Kept a) (sym (same-text e)) (record { records = refl; steps = refl; output = refl; fits = omega arith })
 
 -- a conclusion that is an answer is that answer, soundly
-sound-of : {least limit q b : ℕ} {list : List Record} {lent buffer : List ℕ} {c : TextConclusion} {x : TextAnswer} → c ≡ textFinished x → TextFinishes least limit q b list lent buffer c
-    → TextSound least limit q b list lent buffer x
-sound-of {least} {limit} {q} {b} {list} {lent} {buffer} {c} {x} g f =
+sound-of : {least limit q b : ℕ} {came : Option (List Record)} {lent buffer : List ℕ} {c : TextConclusion} {x : TextAnswer} → c ≡ textFinished x → TextFinishes least limit q b came lent buffer c
+    → TextSound least limit q b came lent buffer x
+sound-of {least} {limit} {q} {b} {came} {lent} {buffer} {c} {x} g f =
     let i : f .answer ≡ x = cc in
-    subst (λ (y : TextAnswer). TextSound least limit q b list lent buffer y) i (f .sound)
+    subst (λ (y : TextAnswer). TextSound least limit q b came lent buffer y) i (f .sound)
 
 -- what holds of the answer to a call that prints, whatever the program
 pub record Within (limit : ℕ) (b : TextAnswer) : Type 0 where
@@ -97,12 +105,12 @@ module _ (l : List ℕ) (limit : ℕ) (lent : List ℕ) (a : Reply) (e : runOutc
       go (suc n) h = absurd (let x : record { result = checkResult l; output = lent } ≡ a = cc (run-refused l limit lent (omega arith), e) in omega (arith, ap (λ (y : Reply). y .result .number) x))
 
   pub run-text-promised : (buffer : List ℕ) (b : TextAnswer)
-      → b ≡ byNumber (a .result .number) buffer (textOf (qubitsDeclared l) (bitsDeclared l) (recordsIn (a .result .records) (a .output))) a
+      → textFinished b ≡ byNumber (a .result .number) buffer (some (textOf (qubitsDeclared l) (bitsDeclared l) (recordsIn (a .result .records) (a .output)))) a
       → 8 * a .result .records ≤ length (a .output) → a .result .steps ≤ limit
       → (runTextOutcome l limit lent buffer ≡ textFinished b) × SoundRunText l limit lent buffer b × Within limit b
   run-text-promised buffer b f r s =
-      let g = run-text-by l limit lent buffer a e ∙ ap textFinished (sym f) in
-      (g, (λ z. sound-of g (run-text-sound l limit lent buffer z)), within limit a b (subst (Kept a) (sym f) (by-keeps (a .result .number) buffer _ a)) r s)
+      let g = run-text-by l limit lent buffer a e ∙ sym f in
+      (g, (λ z. sound-of g (run-text-sound l limit lent buffer z)), within limit a b (by-keeps (a .result .number) buffer _ a b f) r s)
 
 -- ---- instances
 
@@ -135,9 +143,9 @@ module _ (l : List ℕ) (k : ℕ) (sizes : List ℕ) (limit : ℕ) (lent : List 
       by-family (some d) i = by-sizes d i (eqb (length sizes) (4 * d .variables)) refl (allSizesFit (fourBytes sizes)) refl
 
   pub instance-text-promised : (buffer : List ℕ) (b : TextAnswer)
-      → b ≡ byNumber (a .result .number) buffer (textOf (wiresLaidOut l k sizes) 0 (recordsIn (a .result .records) (a .output))) a
+      → textFinished b ≡ byNumber (a .result .number) buffer (some (textOf (wiresLaidOut l k sizes) 0 (recordsIn (a .result .records) (a .output)))) a
       → 8 * a .result .records ≤ length (a .output) → a .result .steps ≤ limit
       → (instanceTextOutcome l k sizes limit lent buffer ≡ textFinished b) × SoundInstanceText l k sizes limit lent buffer b × Within limit b
   instance-text-promised buffer b f r s =
-      let g = instance-text-by l k sizes limit lent buffer a e ∙ ap textFinished (sym f) in
-      (g, (λ z. let i = instance-text-sound l k sizes limit lent buffer z in (sound-of g (i .0), λ suits. sound-of g (i .1 suits))), within limit a b (subst (Kept a) (sym f) (by-keeps (a .result .number) buffer _ a)) r s)
+      let g = instance-text-by l k sizes limit lent buffer a e ∙ sym f in
+      (g, (λ z. let i = instance-text-sound l k sizes limit lent buffer z in (sound-of g (i .0), λ suits. sound-of g (i .1 suits))), within limit a b (by-keeps (a .result .number) buffer _ a b f) r s)

@@ -14,14 +14,15 @@ use lib.Seq.{take-append-seam, drop-append-seam}
 use Rattle.language.specs.Read.{read}
 use Rattle.language.specs.Check.{Checked, good, refused}
 use Rattle.language.specs.Machine.{Record, Outcome, going, ended, stuck, Family, allDeclared, runProgram, runInstance}
-use Rattle.language.specs.Result.{Answer, Conclusion, finished, gotStuck, writtenInto, resultOf, untouched, conclusionOf, checkProgram, verdict, checkResult, ifAccepted, runOutcome, fourBytes, allSizesFit, instanceOf, instanceOutcome}
-use Rattle.language.specs.Sound.{qubitsDeclared, bitsDeclared, wiresLaidOut, AllName, Sound, Finishes, Suits}
+use Rattle.language.specs.Result.{Answer, Conclusion, finished, writtenInto, resultOf, untouched, conclusionOf, checkProgram, verdict, checkResult, ifAccepted, runOutcome, fourBytes, allSizesFit, instanceOf, instanceOutcome}
+use Rattle.language.specs.Lookup.{mapped}
+use Rattle.language.specs.Sound.{qubitsDeclared, bitsDeclared, wiresLaidOut, AllName, Sound, Finishes}
 use Rattle.qasm_text.specs.Text.{textOf, textLength, enoughFor}
-use Rattle.qasm_text.specs.TextResult.{TextAnswer, textFinished, textStuck, textInto, unprinted, fullyPrinted, printed, byNumber, textConclusion, recordsOf, runRecords, recordsAt, instanceRecords, runText, runTextOutcome, instanceText, instanceTextOutcome}
-use Rattle.qasm_text.specs.TextSound.{Listed, TextSound, TextFinishes, RunTextTheorem, InstanceTextTheorem}
+use Rattle.qasm_text.specs.TextResult.{TextAnswer, TextConclusion, textFinished, textStuck, textInto, unprinted, fullyPrinted, printed, byNumber, textConclusion, recordsOf, runRecords, recordsAt, instanceRecords, runText, runTextOutcome, instanceText, instanceTextOutcome}
+use Rattle.qasm_text.specs.TextSound.{Listed, Complete, TextSound, TextFinishes, RunTextTheorem, InstanceTextTheorem}
 use Rattle.qasm_text.specs.RecordsIn.{recordsIn}
 use Rattle.language.proofs.Refusals.{accepted}
-use Rattle.language.proofs.Soundness.{run-sound, instance-sound, run-refused, instance-refused, run-never-stuck, instance-never-stuck}
+use Rattle.language.proofs.Soundness.{run-sound, instance-sound, run-refused, instance-refused}
 use Rattle.qasm_text.proofs.TextLength.{text-length, text-most, text-small}
 use Rattle.qasm_text.proofs.TextBack.{text-injective}
 use Rattle.qasm_text.proofs.RecordsBack.{records-written}
@@ -42,20 +43,14 @@ into-rest buffer text = drop-append-seam text (drop (length text) buffer)
 
 -- ---- an answer printed
 
-module _ (least limit q b : ℕ) (list : List Record) (lent buffer : List ℕ) (run : Answer) (s : Sound least limit q b lent run) (l : run .result .number ≡ 0 → Listed q b lent list run) where
-  enough-text : run .result .number ≡ 0 → textLength q b list ≤ enoughFor b (run .result .records)
-  enough-text z = rw (← l z .count) (text-most q b list (s .few .0) (s .few .1) (l z .named))
-
-  small-text : run .result .number ≡ 0 → length lent < 2 ^ 60 → textLength q b list < 2 ^ 63
-  small-text z h = text-small q b list (length lent) (s .few .0) (s .few .1) (l z .named) (omega (arith, l z .count, s .fits)) h
-
+module _ (least limit q b : ℕ) (lent buffer : List ℕ) (run : Answer) (s : Sound least limit q b lent run) where
   end-number : (n : ℕ) → run .result .number ≡ suc n → (run .result .number ≡ 0) ⊎ ((least ≤ run .result .number) × (run .result .number ≤ 27)) → (least ≤ suc n) × (suc n ≤ 27)
   end-number n e (inl z) = absurd (omega arith)
   end-number n e (inr h) = rw e at h
 
-  other-sound : (n : ℕ) → run .result .number ≡ suc n → TextSound least limit q b list lent buffer (unprinted (suc n) (run .result .place) buffer run)
+  other-sound : (came : Option (List Record)) (n : ℕ) → run .result .number ≡ suc n → TextSound least limit q b came lent buffer (unprinted (suc n) (run .result .place) buffer run)
   unfolding unprinted
-  other-sound n e = record {
+  other-sound came n e = record {
     run = run;
     sound = s;
     records = refl;
@@ -63,76 +58,90 @@ module _ (least limit q b : ℕ) (list : List Record) (lent buffer : List ℕ) (
     output = refl;
     number = inr (inr (end-number n e (s .number)));
     other = λ h. (sym e, refl);
-    listed = l;
-    printed = λ z. absurd (omega arith);
-    full = λ z. absurd (omega arith);
-    place = λ z. absurd (omega arith);
+    complete = λ z. absurd (omega arith);
     refused = λ h. (refl, refl);
     fits = omega arith;
     size = refl;
     rest = refl;
-    enough = enough-text;
-    small = small-text;
   }
 
-  full-sound : run .result .number ≡ 0 → length buffer < length (textOf q b list) → TextSound least limit q b list lent buffer (unprinted 30 0 buffer run)
-  unfolding unprinted
-  full-sound z t = record {
-    run = run;
-    sound = s;
-    records = refl;
-    steps = refl;
-    output = refl;
-    number = inr (inl refl);
-    other = λ h. absurd (omega arith);
-    listed = l;
-    printed = λ y h. absurd (omega (arith, text-length q b list));
-    full = λ y h. refl;
-    place = λ y. refl;
-    refused = λ h. (refl, refl);
-    fits = omega arith;
-    size = refl;
-    rest = refl;
-    enough = enough-text;
-    small = small-text;
-  }
+  module _ (list : List Record) (l : Listed q b lent list run) (z : run .result .number ≡ 0) where
+    enough-text : textLength q b list ≤ enoughFor b (run .result .records)
+    enough-text = rw (← l .count) (text-most q b list (s .few .0) (s .few .1) (l .named))
 
-  printed-sound : run .result .number ≡ 0 → length (textOf q b list) ≤ length buffer → TextSound least limit q b list lent buffer (fullyPrinted buffer (textOf q b list) run)
-  unfolding fullyPrinted
-  printed-sound z t = record {
-    run = run;
-    sound = s;
-    records = refl;
-    steps = refl;
-    output = refl;
-    number = inl refl;
-    other = λ h. absurd (omega arith);
-    listed = l;
-    printed = λ y h. (refl, text-length q b list, into-text buffer (textOf q b list));
-    full = λ y h. absurd (omega (arith, text-length q b list));
-    place = λ y. refl;
-    refused = λ h. absurd (omega arith);
-    fits = t;
-    size = into-size buffer (textOf q b list) t;
-    rest = into-rest buffer (textOf q b list);
-    enough = enough-text;
-    small = small-text;
-  }
+    small-text : length lent < 2 ^ 60 → textLength q b list < 2 ^ 63
+    small-text h = text-small q b list (length lent) (s .few .0) (s .few .1) (l .named) (omega (arith, l .count, s .fits)) h
 
-  answer-sound : (n : ℕ) → run .result .number ≡ n → TextSound least limit q b list lent buffer (byNumber n buffer (textOf q b list) run)
-  unfolding byNumber printed
-  answer-sound zero e = go (leb (length (textOf q b list)) (length buffer)) refl
-    where
-      go : (t : Bool) → leb (length (textOf q b list)) (length buffer) ≡ t → TextSound least limit q b list lent buffer (cond t (fullyPrinted buffer (textOf q b list) run) (unprinted 30 0 buffer run))
-      go true t = printed-sound e (leb-true (length (textOf q b list)) (length buffer) t)
-      go false t = full-sound e (leb-false (length (textOf q b list)) (length buffer) t)
-  answer-sound (suc n) e = other-sound n e
+    full-sound : length buffer < length (textOf q b list) → TextSound least limit q b (some list) lent buffer (unprinted 30 0 buffer run)
+    unfolding unprinted
+    full-sound t = record {
+      run = run;
+      sound = s;
+      records = refl;
+      steps = refl;
+      output = refl;
+      number = inr (inl refl);
+      other = λ h. absurd (omega arith);
+      complete = λ y. record {
+        list = list;
+        is = refl;
+        listed = l;
+        printed = λ h. absurd (omega (arith, text-length q b list));
+        full = λ h. refl;
+        place = refl;
+        enough = enough-text;
+        small = small-text;
+      };
+      refused = λ h. (refl, refl);
+      fits = omega arith;
+      size = refl;
+      rest = refl;
+    }
+
+    printed-sound : length (textOf q b list) ≤ length buffer → TextSound least limit q b (some list) lent buffer (fullyPrinted buffer (textOf q b list) run)
+    unfolding fullyPrinted
+    printed-sound t = record {
+      run = run;
+      sound = s;
+      records = refl;
+      steps = refl;
+      output = refl;
+      number = inl refl;
+      other = λ h. absurd (omega arith);
+      complete = λ y. record {
+        list = list;
+        is = refl;
+        listed = l;
+        printed = λ h. (refl, text-length q b list, into-text buffer (textOf q b list));
+        full = λ h. absurd (omega (arith, text-length q b list));
+        place = refl;
+        enough = enough-text;
+        small = small-text;
+      };
+      refused = λ h. absurd (omega arith);
+      fits = t;
+      size = into-size buffer (textOf q b list) t;
+      rest = into-rest buffer (textOf q b list);
+    }
+
+    done-sound : TextSound least limit q b (some list) lent buffer (printed buffer (textOf q b list) run)
+    unfolding printed
+    done-sound = go (leb (length (textOf q b list)) (length buffer)) refl
+      where
+        go : (t : Bool) → leb (length (textOf q b list)) (length buffer) ≡ t → TextSound least limit q b (some list) lent buffer (cond t (fullyPrinted buffer (textOf q b list) run) (unprinted 30 0 buffer run))
+        go true t = printed-sound (leb-true (length (textOf q b list)) (length buffer) t)
+        go false t = full-sound (leb-false (length (textOf q b list)) (length buffer) t)
 
 -- ---- the list behind an answer
 
--- an answer with number 0 holds the list
-pub record Holds (lent : List ℕ) (list : List Record) (c : Conclusion) : Type 0 where
-  pub held : (a : Answer) → c ≡ finished a → a .result .number ≡ 0 → (a .result .records ≡ length list) × (a .output ≡ writtenInto lent list)
+-- the answer holds the list that the machine came to
+abbrev Held : (lent : List ℕ) → Option (List Record) → Answer → Type 0
+Held lent none a = ⊥
+Held lent (some list) a = (a .result .records ≡ length list) × (a .output ≡ writtenInto lent list)
+
+-- so does every answer with number 0
+record Holds (lent : List ℕ) (came : Option (List Record)) (c : Conclusion) : Type 0 where
+  held : (a : Answer) → c ≡ finished a → a .result .number ≡ 0 → Held lent came a
 
 same-answer : {x a : Answer} → finished x ≡ finished a → x ≡ a
 same-answer e = cc
@@ -144,42 +153,54 @@ outcome-holds lent (ended n p s) = record { held = λ a e z. let f = sym (same-a
 outcome-holds lent stuck = record { held = λ a e z. absurd (let k : _≡_ {A = ℕ} 0 1 = cc in omega arith) }
 
 -- an answer with another number holds nothing
-refused-holds : (lent : List ℕ) (list : List Record) (n p : ℕ) → 1 ≤ n → Holds lent list (untouched lent n p)
-refused-holds lent list n p h = record { held = λ a e z. absurd (omega (arith, ap (λ (y : Answer). y .result .number) (same-answer e))) }
+refused-holds : (lent : List ℕ) (came : Option (List Record)) (n p : ℕ) → 1 ≤ n → Holds lent came (untouched lent n p)
+refused-holds lent came n p h = record { held = λ a e z. absurd (omega (arith, ap (λ (y : Answer). y .result .number) (same-answer e))) }
 
-holds-if : (lent : List ℕ) (list : List Record) (t : Bool) (c d : Conclusion) → Holds lent list c → Holds lent list d → Holds lent list (cond t c d)
-holds-if lent list true c d x y = x
-holds-if lent list false c d x y = y
+holds-if : (lent : List ℕ) (came : Option (List Record)) (t : Bool) (c d : Conclusion) → Holds lent came c → Holds lent came d → Holds lent came (cond t c d)
+holds-if lent came true c d x y = x
+holds-if lent came false c d x y = y
 
 instance-holds : (o : Option Family) (sizes output : List ℕ) → Holds output (recordsAt o sizes) (instanceOf o sizes output)
 unfolding recordsAt instanceOf
-instance-holds none sizes output = refused-holds output [] 20 0 (omega arith)
+instance-holds none sizes output = refused-holds output none 20 0 (omega arith)
 instance-holds (some f) sizes output =
-    let list = recordsOf (runInstance f (map pos (fourBytes sizes))) in
-    holds-if output list (eqb (length sizes) (4 * f .variables)) _ _
-    (holds-if output list (allSizesFit (fourBytes sizes)) _ _ (outcome-holds output (runInstance f (map pos (fourBytes sizes)))) (refused-holds output list 22 0 (omega arith)))
-    (refused-holds output list 21 0 (omega arith))
+    let came = recordsOf (runInstance f (map pos (fourBytes sizes))) in
+    holds-if output came (eqb (length sizes) (4 * f .variables)) _ _
+    (holds-if output came (allSizesFit (fourBytes sizes)) _ _ (outcome-holds output (runInstance f (map pos (fourBytes sizes)))) (refused-holds output came 22 0 (omega arith)))
+    (refused-holds output came 21 0 (omega arith))
 
 -- ---- the calls
 
-text-finishes : (least limit q b : ℕ) (list : List Record) (lent buffer : List ℕ) (c : Conclusion) → Finishes least limit q b lent c → Holds lent list c
-    → TextFinishes least limit q b list lent buffer (textConclusion c buffer (textOf q b list))
-unfolding textConclusion
-text-finishes least limit q b list lent buffer c f h =
-    let run = f .answer in
-    let s = f .sound in
+-- the list is the one that is read from the output
+read-back : (lent : List ℕ) (list : List Record) (a : Answer) → Held lent (some list) a → recordsIn (a .result .records) (a .output) ≡ list
+read-back lent list a h = rw (h .0, h .1) (records-written lent list)
+
+listed-by : (least limit q b : ℕ) (list : List Record) (lent : List ℕ) (run : Answer) → Sound least limit q b lent run → Held lent (some list) run → Listed q b lent list run
+listed-by least limit q b list lent run s h =
     let back : recordsIn (run .result .records) (run .output) ≡ s .written = rw (← s .count, s .output) (records-written lent (s .written)) in
-    let read : (z : run .result .number ≡ 0) → recordsIn (run .result .records) (run .output) ≡ list = λ z. rw (h .held run (f .is) z .0, h .held run (f .is) z .1) (records-written lent list) in
-    rw (f .is) (record {
-      answer = _;
-      is = refl;
-      sound = answer-sound least limit q b list lent buffer run s (λ z. record {
-        count = sym (h .held run (f .is) z .0);
-        output = h .held run (f .is) z .1;
-        named = subst (AllName q b) (sym back ∙ read z) (s .named);
-        read = read z;
-      }) (run .result .number) refl;
-    })
+    record {
+      count = sym (h .0);
+      output = h .1;
+      named = subst (AllName q b) (sym back ∙ read-back lent list run h) (s .named);
+      read = read-back lent list run h;
+    }
+
+answer-finishes : (least limit q b : ℕ) (lent buffer : List ℕ) (run : Answer) → Sound least limit q b lent run → (n : ℕ) (came : Option (List Record)) → run .result .number ≡ n
+    → (run .result .number ≡ 0 → Held lent came run) → TextFinishes least limit q b came lent buffer (byNumber n buffer (mapped (textOf q b) came) run)
+unfolding byNumber mapped
+answer-finishes least limit q b lent buffer run s zero none e h = absurd (h e)
+answer-finishes least limit q b lent buffer run s zero (some list) e h = record {
+  answer = _;
+  is = refl;
+  sound = done-sound least limit q b lent buffer run s list (listed-by least limit q b list lent run s (h e)) e;
+}
+answer-finishes least limit q b lent buffer run s (suc n) came e h = record { answer = _; is = refl; sound = other-sound least limit q b lent buffer run s came n e }
+
+text-finishes : (least limit q b : ℕ) (came : Option (List Record)) (lent buffer : List ℕ) (c : Conclusion) → Finishes least limit q b lent c → Holds lent came c
+    → TextFinishes least limit q b came lent buffer (textConclusion c buffer (mapped (textOf q b) came))
+unfolding textConclusion
+text-finishes least limit q b came lent buffer c f h =
+    rw (f .is) (answer-finishes least limit q b lent buffer (f .answer) (f .sound) (f .answer .result .number) came refl (h .held (f .answer) (f .is)))
 
 run-holds : (program : List ℕ) (limit : ℕ) (output : List ℕ) → checkResult program .number ≡ 0 → Holds output (runRecords program limit output) (runOutcome program limit output)
 unfolding runOutcome ifAccepted runRecords
@@ -204,14 +225,14 @@ instance-text-sound program family sizes limit output buffer e =
     let h = family-holds program family sizes limit output e in
     let i = instance-sound program family sizes limit output e in
     let q = wiresLaidOut program family sizes in
-    let list = instanceRecords program family sizes limit output in
+    let came = instanceRecords program family sizes limit output in
     let c = instanceOutcome program family sizes limit output in
-    (text-finishes 20 limit q 0 list output buffer c (i .0) h, λ s. text-finishes 23 limit q 0 list output buffer c (i .1 s) h)
+    (text-finishes 20 limit q 0 came output buffer c (i .0) h, λ s. text-finishes 23 limit q 0 came output buffer c (i .1 s) h)
 
 -- ---- different lists print differently
 
 -- number 0 comes of a run with number 0 whose text fits
-module _ {least limit q b : ℕ} {list : List Record} {lent buffer : List ℕ} {a : TextAnswer} (x : TextSound least limit q b list lent buffer a) (z : a .result .number ≡ 0) where
+module _ {least limit q b : ℕ} {came : Option (List Record)} {lent buffer : List ℕ} {a : TextAnswer} (x : TextSound least limit q b came lent buffer a) (z : a .result .number ≡ 0) where
   run-done : x .run .result .number ≡ 0
   run-done = go (x .run .result .number) refl
     where
@@ -219,22 +240,28 @@ module _ {least limit q b : ℕ} {list : List Record} {lent buffer : List ℕ} {
       go zero e = e
       go (suc n) e = absurd (omega (arith, x .other (omega arith) .0))
 
-  printed-fits : textLength q b list ≤ length buffer
-  printed-fits = go (leb (textLength q b list) (length buffer)) refl
+  pub list-printed : Complete q b came lent buffer (x .run) a
+  list-printed = x .complete run-done
+
+  printed-fits : textLength q b (list-printed .list) ≤ length buffer
+  printed-fits = go (leb (textLength q b (list-printed .list)) (length buffer)) refl
     where
-      go : (t : Bool) → leb (textLength q b list) (length buffer) ≡ t → textLength q b list ≤ length buffer
-      go true t = leb-true (textLength q b list) (length buffer) t
-      go false t = absurd (omega (arith, x .full run-done (leb-false (textLength q b list) (length buffer) t)))
+      go : (t : Bool) → leb (textLength q b (list-printed .list)) (length buffer) ≡ t → textLength q b (list-printed .list) ≤ length buffer
+      go true t = leb-true (textLength q b (list-printed .list)) (length buffer) t
+      go false t = absurd (omega (arith, list-printed .full (leb-false (textLength q b (list-printed .list)) (length buffer) t)))
 
   -- the buffer begins with the list's text
-  pub text-printed : take (a .result .length) (a .text) ≡ textOf q b list
-  text-printed = x .printed run-done printed-fits .2
+  pub text-printed : take (a .result .length) (a .text) ≡ textOf q b (list-printed .list)
+  text-printed = list-printed .printed printed-fits .2
 
 -- equal texts printed over the same wires and bits are those of equal lists, and so of outputs with the same records
-pub printed-injective : {least limit least′ limit′ q b : ℕ} {list list′ : List Record} {lent buffer lent′ buffer′ : List ℕ} {a a′ : TextAnswer}
-    → TextSound least limit q b list lent buffer a → TextSound least′ limit′ q b list′ lent′ buffer′ a′ → a .result .number ≡ 0 → a′ .result .number ≡ 0
-    → take (a .result .length) (a .text) ≡ take (a′ .result .length) (a′ .text) → list ≡ list′
-printed-injective {q = q} {b = b} {list = list} {list′ = list′} x y z w e = text-injective q b list list′ (sym (text-printed x z) ∙ e ∙ text-printed y w)
+pub printed-injective : {least limit least′ limit′ q b : ℕ} {came came′ : Option (List Record)} {lent buffer lent′ buffer′ : List ℕ} {a a′ : TextAnswer}
+    → TextSound least limit q b came lent buffer a → TextSound least′ limit′ q b came′ lent′ buffer′ a′ → a .result .number ≡ 0 → a′ .result .number ≡ 0
+    → take (a .result .length) (a .text) ≡ take (a′ .result .length) (a′ .text) → came ≡ came′
+printed-injective {q = q} {b = b} x y z w e =
+    list-printed x z .is
+    ∙ ap (λ (l : List Record). some l) (text-injective q b (list-printed x z .list) (list-printed y w .list) (sym (text-printed x z) ∙ e ∙ text-printed y w))
+    ∙ sym (list-printed y w .is)
 
 -- ---- a program that is turned down
 
@@ -246,7 +273,7 @@ turnedDownText program output buffer = record {
   text = buffer;
 }
 
-pub not-printed : (n : ℕ) (buffer text : List ℕ) (a : Answer) → 1 ≤ n → byNumber n buffer text a ≡ unprinted n (a .result .place) buffer a
+pub not-printed : (n : ℕ) (buffer : List ℕ) (text : Option (List ℕ)) (a : Answer) → 1 ≤ n → byNumber n buffer text a ≡ textFinished (unprinted n (a .result .place) buffer a)
 unfolding byNumber
 not-printed zero buffer text a h = absurd (omega arith)
 not-printed (suc n) buffer text a h = refl
@@ -256,12 +283,12 @@ unfolding verdict
 no-counts (good a) = (refl, refl)
 no-counts (refused n p) = (refl, refl)
 
-refused-text : (program output buffer text : List ℕ) → 1 ≤ checkResult program .number
+refused-text : (program output buffer : List ℕ) (text : Option (List ℕ)) → 1 ≤ checkResult program .number
     → textConclusion (finished (record { result = checkResult program; output = output })) buffer text ≡ textFinished (turnedDownText program output buffer)
 unfolding textConclusion unprinted checkResult
 refused-text program output buffer text h =
     let c = no-counts (checkProgram program) in
-    ap textFinished (not-printed (checkResult program .number) buffer text _ h ∙ rw (c .0, c .1))
+    not-printed (checkResult program .number) buffer text _ h ∙ rw (c .0, c .1)
 
 pub run-text-refused : (program : List ℕ) (limit : ℕ) (output buffer : List ℕ) → 1 ≤ checkResult program .number
     → runTextOutcome program limit output buffer ≡ textFinished (turnedDownText program output buffer)
@@ -276,50 +303,51 @@ instance-text-refused program family sizes limit output buffer h =
 
 -- ---- so no call is ever stuck, whatever the program
 
-stuck-behind : (c : Conclusion) (buffer text : List ℕ) → textConclusion c buffer text ≡ textStuck → c ≡ gotStuck
-unfolding textConclusion
-stuck-behind (finished a) buffer text e = absurd (let z : _≡_ {A = ℕ} 0 1 = cc in omega arith)
-stuck-behind gotStuck buffer text e = refl
+finished-not-stuck : (c : TextConclusion) (a : TextAnswer) → c ≡ textFinished a → c ≡ textStuck → ⊥
+finished-not-stuck c a e f = let z : _≡_ {A = ℕ} 0 1 = cc in omega arith
 
 pub run-text-never-stuck : (program : List ℕ) (limit : ℕ) (output buffer : List ℕ) → runTextOutcome program limit output buffer ≡ textStuck → ⊥
-unfolding runTextOutcome
-run-text-never-stuck program limit output buffer e = run-never-stuck program limit output (stuck-behind (runOutcome program limit output) buffer (runText program limit output) e)
+run-text-never-stuck program limit output buffer e = go (checkResult program .number) refl
+  where
+    go : (n : ℕ) → checkResult program .number ≡ n → ⊥
+    go zero c = finished-not-stuck _ _ (run-text-sound program limit output buffer c .is) e
+    go (suc n) c = finished-not-stuck _ _ (run-text-refused program limit output buffer (omega arith)) e
 
 pub instance-text-never-stuck : (program : List ℕ) (family : ℕ) (sizes : List ℕ) (limit : ℕ) (output buffer : List ℕ) → instanceTextOutcome program family sizes limit output buffer ≡ textStuck → ⊥
-unfolding instanceTextOutcome
-instance-text-never-stuck program family sizes limit output buffer e =
-    instance-never-stuck program family sizes limit output (stuck-behind (instanceOutcome program family sizes limit output) buffer (instanceText program family sizes limit output) e)
+instance-text-never-stuck program family sizes limit output buffer e = go (checkResult program .number) refl
+  where
+    go : (n : ℕ) → checkResult program .number ≡ n → ⊥
+    go zero c = finished-not-stuck _ _ (instance-text-sound program family sizes limit output buffer c .0 .is) e
+    go (suc n) c = finished-not-stuck _ _ (instance-text-refused program family sizes limit output buffer (omega arith)) e
 
 -- ---- as code has it: the run's answer, and the list read from its output
 
-by-bytes : (q b n : ℕ) (list : List Record) (buffer : List ℕ) (a : Answer) → a .result .number ≡ n → (a .result .number ≡ 0 → recordsIn (a .result .records) (a .output) ≡ list)
-    → byNumber n buffer (textOf q b list) a ≡ byNumber n buffer (textOf q b (recordsIn (a .result .records) (a .output))) a
-unfolding byNumber
-by-bytes q b zero list buffer a e h = rw (h e)
-by-bytes q b (suc n) list buffer a e h = refl
-
-read-back : (lent : List ℕ) (list : List Record) (c : Conclusion) (a : Answer) → Holds lent list c → c ≡ finished a → a .result .number ≡ 0 → recordsIn (a .result .records) (a .output) ≡ list
-read-back lent list c a h e z = rw (h .held a e z .0, h .held a e z .1) (records-written lent list)
+by-bytes : (q b n : ℕ) (came : Option (List Record)) (lent buffer : List ℕ) (a : Answer) → a .result .number ≡ n → (a .result .number ≡ 0 → Held lent came a)
+    → byNumber n buffer (mapped (textOf q b) came) a ≡ byNumber n buffer (some (textOf q b (recordsIn (a .result .records) (a .output)))) a
+unfolding byNumber mapped
+by-bytes q b zero none lent buffer a e h = absurd (h e)
+by-bytes q b zero (some list) lent buffer a e h = rw (read-back lent list a (h e))
+by-bytes q b (suc n) came lent buffer a e h = refl
 
 -- the text call's answer from the run call's, for every program
 pub run-text-by : (program : List ℕ) (limit : ℕ) (output buffer : List ℕ) (a : Answer) → runOutcome program limit output ≡ finished a
     → runTextOutcome program limit output buffer
-    ≡ textFinished (byNumber (a .result .number) buffer (textOf (qubitsDeclared program) (bitsDeclared program) (recordsIn (a .result .records) (a .output))) a)
+    ≡ byNumber (a .result .number) buffer (some (textOf (qubitsDeclared program) (bitsDeclared program) (recordsIn (a .result .records) (a .output)))) a
 unfolding runTextOutcome runText textConclusion
 run-text-by program limit output buffer a e =
-    rw e (ap textFinished (by-bytes (qubitsDeclared program) (bitsDeclared program) (a .result .number) (runRecords program limit output) buffer a refl (go (checkResult program .number) refl)))
+    rw e (by-bytes (qubitsDeclared program) (bitsDeclared program) (a .result .number) (runRecords program limit output) output buffer a refl (go (checkResult program .number) refl))
   where
-    go : (n : ℕ) → checkResult program .number ≡ n → a .result .number ≡ 0 → recordsIn (a .result .records) (a .output) ≡ runRecords program limit output
-    go zero c z = read-back output (runRecords program limit output) (runOutcome program limit output) a (run-holds program limit output c) e z
+    go : (n : ℕ) → checkResult program .number ≡ n → a .result .number ≡ 0 → Held output (runRecords program limit output) a
+    go zero c z = run-holds program limit output c .held a e z
     go (suc n) c z = absurd (omega (arith, ap (λ (y : Answer). y .result .number) (same-answer (sym (run-refused program limit output (omega arith)) ∙ e))))
 
 pub instance-text-by : (program : List ℕ) (family : ℕ) (sizes : List ℕ) (limit : ℕ) (output buffer : List ℕ) (a : Answer) → instanceOutcome program family sizes limit output ≡ finished a
     → instanceTextOutcome program family sizes limit output buffer
-    ≡ textFinished (byNumber (a .result .number) buffer (textOf (wiresLaidOut program family sizes) 0 (recordsIn (a .result .records) (a .output))) a)
+    ≡ byNumber (a .result .number) buffer (some (textOf (wiresLaidOut program family sizes) 0 (recordsIn (a .result .records) (a .output)))) a
 unfolding instanceTextOutcome instanceText textConclusion
 instance-text-by program family sizes limit output buffer a e =
-    rw e (ap textFinished (by-bytes (wiresLaidOut program family sizes) 0 (a .result .number) (instanceRecords program family sizes limit output) buffer a refl (go (checkResult program .number) refl)))
+    rw e (by-bytes (wiresLaidOut program family sizes) 0 (a .result .number) (instanceRecords program family sizes limit output) output buffer a refl (go (checkResult program .number) refl))
   where
-    go : (n : ℕ) → checkResult program .number ≡ n → a .result .number ≡ 0 → recordsIn (a .result .records) (a .output) ≡ instanceRecords program family sizes limit output
-    go zero c z = read-back output (instanceRecords program family sizes limit output) (instanceOutcome program family sizes limit output) a (family-holds program family sizes limit output c) e z
+    go : (n : ℕ) → checkResult program .number ≡ n → a .result .number ≡ 0 → Held output (instanceRecords program family sizes limit output) a
+    go zero c z = family-holds program family sizes limit output c .held a e z
     go (suc n) c z = absurd (omega (arith, ap (λ (y : Answer). y .result .number) (same-answer (sym (instance-refused program family sizes limit output (omega arith)) ∙ e))))

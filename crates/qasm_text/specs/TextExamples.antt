@@ -85,7 +85,7 @@ textExamples =
 
 -- opens the definitions of texts, so that examples compute
 printing : Unit {0}
-unfolding D.ascii D.digits D.decimal T.wireText T.bitText T.actionText T.conditionText T.line T.lines T.qregLine T.cregLine T.cregLines T.header T.textOf X.textInto X.unprinted X.fullyPrinted X.printed X.byNumber X.textConclusion X.recordsOf X.runRecords X.recordsAt X.instanceRecords X.runText X.runTextOutcome X.instanceText X.instanceTextOutcome S.qubitsOf S.bitsOf S.qubitsIn S.bitsIn S.wiresIn S.wiresLaid S.wiresOf K.declares K.counted K.familyIn
+unfolding D.ascii D.digits D.decimal T.wireText T.bitText T.actionText T.conditionText T.line T.lines T.qregLine T.cregLine T.cregLines T.header T.textOf X.textInto X.unprinted X.fullyPrinted X.printed X.byNumber X.textConclusion X.recordsOf X.runRecords X.recordsAt X.instanceRecords X.runText X.runTextOutcome X.instanceText X.instanceTextOutcome S.qubitsOf S.bitsOf S.qubitsIn S.bitsIn S.wiresIn S.wiresLaid S.wiresOf K.mapped K.declares K.counted K.familyIn
 printing = tt
 
 examples-hold : allTold textExamples ≡ true

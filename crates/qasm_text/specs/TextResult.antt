@@ -9,6 +9,7 @@ use lib.ListN.{length, drop, getElem?}
 use Rattle.language.specs.Read.{read}
 use Rattle.language.specs.Machine.{Record, Outcome, going, ended, stuck, Family, allDeclared, runProgram, runInstance}
 use Rattle.language.specs.Result.{Result, Answer, Conclusion, finished, gotStuck, fourBytes, runOutcome, instanceOutcome}
+use Rattle.language.specs.Lookup.{mapped}
 use Rattle.language.specs.Sound.{qubitsDeclared, bitsDeclared, wiresLaidOut}
 use Rattle.qasm_text.specs.Text.{textOf}
 
@@ -51,44 +52,45 @@ fullyPrinted buffer text a = record
 unfoldable pub printed : (buffer text : List ℕ) → Answer → TextAnswer
 printed buffer text a = cond (leb (length text) (length buffer)) (fullyPrinted buffer text a) (unprinted 30 0 buffer a)
 
--- only a run with number 0 is printed; another's number and place stay
-unfoldable pub byNumber : (number : ℕ) → (buffer text : List ℕ) → Answer → TextAnswer
-byNumber zero buffer text a = printed buffer text a
-byNumber (suc n) buffer text a = unprinted (suc n) (a .result .place) buffer a
+-- Only a run with number 0 is printed; another's number and place stay. There is no complete run without a list.
+unfoldable pub byNumber : (number : ℕ) → (buffer : List ℕ) → (text : Option (List ℕ)) → Answer → TextConclusion
+byNumber zero buffer none a = textStuck
+byNumber zero buffer (some text) a = textFinished (printed buffer text a)
+byNumber (suc n) buffer text a = textFinished (unprinted (suc n) (a .result .place) buffer a)
 
-unfoldable pub textConclusion : Conclusion → (buffer text : List ℕ) → TextConclusion
-textConclusion (finished a) buffer text = textFinished (byNumber (a .result .number) buffer text a)
+unfoldable pub textConclusion : Conclusion → (buffer : List ℕ) → (text : Option (List ℕ)) → TextConclusion
+textConclusion (finished a) buffer text = byNumber (a .result .number) buffer text a
 textConclusion gotStuck buffer text = textStuck
 
--- ---- the list that a run leaves; stuck, or without a family, there is no run and no list, and textConclusion prints nothing
+-- ---- the list that the machine comes to
 
-unfoldable pub recordsOf : {A : Type 0} → Outcome A → List Record
-recordsOf (going a s) = s .records
-recordsOf (ended n p s) = s .records
-recordsOf stuck = []
+unfoldable pub recordsOf : {A : Type 0} → Outcome A → Option (List Record)
+recordsOf (going a s) = some (s .records)
+recordsOf (ended n p s) = some (s .records)
+recordsOf stuck = none
 
-unfoldable pub runRecords : (program : List ℕ) (limit : ℕ) (output : List ℕ) → List Record
+unfoldable pub runRecords : (program : List ℕ) (limit : ℕ) (output : List ℕ) → Option (List Record)
 runRecords program limit output = recordsOf (runProgram limit (length output) (read program))
 
-unfoldable pub recordsAt : Option Family → (sizes : List ℕ) → List Record
-recordsAt none sizes = []
+unfoldable pub recordsAt : Option Family → (sizes : List ℕ) → Option (List Record)
+recordsAt none sizes = none
 recordsAt (some f) sizes = recordsOf (runInstance f (map pos (fourBytes sizes)))
 
-unfoldable pub instanceRecords : (program : List ℕ) (family : ℕ) (sizes : List ℕ) (limit : ℕ) (output : List ℕ) → List Record
+unfoldable pub instanceRecords : (program : List ℕ) (family : ℕ) (sizes : List ℕ) (limit : ℕ) (output : List ℕ) → Option (List Record)
 instanceRecords program family sizes limit output = recordsAt (getElem? (allDeclared limit (length output) (read program) []) family) sizes
 
 -- ---- the two calls
 
 -- a whole run's text: all qubits and bits declared
-unfoldable pub runText : (program : List ℕ) (limit : ℕ) (output : List ℕ) → List ℕ
-runText program limit output = textOf (qubitsDeclared program) (bitsDeclared program) (runRecords program limit output)
+unfoldable pub runText : (program : List ℕ) (limit : ℕ) (output : List ℕ) → Option (List ℕ)
+runText program limit output = mapped (textOf (qubitsDeclared program) (bitsDeclared program)) (runRecords program limit output)
 
 unfoldable pub runTextOutcome : (program : List ℕ) (limit : ℕ) (output buffer : List ℕ) → TextConclusion
 runTextOutcome program limit output buffer = textConclusion (runOutcome program limit output) buffer (runText program limit output)
 
 -- an instance's text: the wires laid out, and no bits
-unfoldable pub instanceText : (program : List ℕ) (family : ℕ) (sizes : List ℕ) (limit : ℕ) (output : List ℕ) → List ℕ
-instanceText program family sizes limit output = textOf (wiresLaidOut program family sizes) 0 (instanceRecords program family sizes limit output)
+unfoldable pub instanceText : (program : List ℕ) (family : ℕ) (sizes : List ℕ) (limit : ℕ) (output : List ℕ) → Option (List ℕ)
+instanceText program family sizes limit output = mapped (textOf (wiresLaidOut program family sizes) 0) (instanceRecords program family sizes limit output)
 
 unfoldable pub instanceTextOutcome : (program : List ℕ) (family : ℕ) (sizes : List ℕ) (limit : ℕ) (output buffer : List ℕ) → TextConclusion
 instanceTextOutcome program family sizes limit output buffer =

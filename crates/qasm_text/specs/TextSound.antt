@@ -2,6 +2,7 @@
 use mathlib.Core.Path.{_≡_}
 use mathlib.Core.Logic.{_⊎_}
 use mathlib.Core.List.{List}
+use mathlib.Core.Option.{Option, some}
 use Prim.Native.Nat.{ℕ, _^_, _≤_, _<_}
 use lib.ListN.{length, take, drop}
 use Rattle.language.specs.Machine.{Record}
@@ -19,8 +20,23 @@ pub record Listed (wireCount bitCount : ℕ) (lent : List ℕ) (list : List Reco
   -- and that can be read from it
   pub read : recordsIn (run .result .records) (run .output) ≡ list
 
--- the answer to a run of this list, into the output and the text buffer lent
-pub record TextSound (least limit wireCount bitCount : ℕ) (list : List Record) (lent buffer : List ℕ) (a : TextAnswer) : Type 0 where
+-- what a complete run leaves: the list that the machine came to, in the output, and its text where it fits
+pub record Complete (wireCount bitCount : ℕ) (came : Option (List Record)) (lent buffer : List ℕ) (run : Answer) (a : TextAnswer) : Type 0 where
+  pub list : List Record
+  pub is : came ≡ some list
+  pub listed : Listed wireCount bitCount lent list run
+  pub printed : textLength wireCount bitCount list ≤ length buffer
+      → (a .result .number ≡ 0) × (a .result .length ≡ textLength wireCount bitCount list) × (take (a .result .length) (a .text) ≡ textOf wireCount bitCount list)
+  pub full : length buffer < textLength wireCount bitCount list → a .result .number ≡ 30
+  -- 0 and 30 have place 0
+  pub place : a .result .place ≡ 0
+  -- so long a buffer holds the text of any list of so many records
+  pub enough : textLength wireCount bitCount list ≤ enoughFor bitCount (run .result .records)
+  -- no text of an output below 2 ^ 60 bytes reaches 2 ^ 63
+  pub small : length lent < 2 ^ 60 → textLength wireCount bitCount list < 2 ^ 63
+
+-- the answer to a run in which the machine came to this list, into the output and the text buffer lent
+pub record TextSound (least limit wireCount bitCount : ℕ) (came : Option (List Record)) (lent buffer : List ℕ) (a : TextAnswer) : Type 0 where
   -- the run behind it: its counts and its output, whatever comes of the text
   pub run : Answer
   pub sound : Sound least limit wireCount bitCount lent run
@@ -31,29 +47,20 @@ pub record TextSound (least limit wireCount bitCount : ℕ) (list : List Record)
   pub number : (a .result .number ≡ 0) ⊎ (a .result .number ≡ 30) ⊎ ((least ≤ a .result .number) × (a .result .number ≤ 27))
   -- a run with another number than 0 gives its own result
   pub other : 1 ≤ run .result .number → (a .result .number ≡ run .result .number) × (a .result .place ≡ run .result .place)
-  -- a run with number 0 leaves the list, which is printed where it fits
-  pub listed : run .result .number ≡ 0 → Listed wireCount bitCount lent list run
-  pub printed : run .result .number ≡ 0 → textLength wireCount bitCount list ≤ length buffer
-      → (a .result .number ≡ 0) × (a .result .length ≡ textLength wireCount bitCount list) × (take (a .result .length) (a .text) ≡ textOf wireCount bitCount list)
-  pub full : run .result .number ≡ 0 → length buffer < textLength wireCount bitCount list → a .result .number ≡ 30
-  -- 0 and 30 have place 0
-  pub place : run .result .number ≡ 0 → a .result .place ≡ 0
+  -- a run with number 0 leaves its list, and the text where it fits
+  pub complete : run .result .number ≡ 0 → Complete wireCount bitCount came lent buffer run a
   -- any refusal leaves the buffer, and the length is 0
   pub refused : 1 ≤ a .result .number → (a .result .length ≡ 0) × (a .text ≡ buffer)
   -- the buffer has the length lent, and its bytes past the text are the lent ones
   pub fits : a .result .length ≤ length buffer
   pub size : length (a .text) ≡ length buffer
   pub rest : drop (a .result .length) (a .text) ≡ drop (a .result .length) buffer
-  -- so long a buffer holds the text of any list of so many records
-  pub enough : run .result .number ≡ 0 → textLength wireCount bitCount list ≤ enoughFor bitCount (run .result .records)
-  -- no text of an output below 2 ^ 60 bytes reaches 2 ^ 63
-  pub small : run .result .number ≡ 0 → length lent < 2 ^ 60 → textLength wireCount bitCount list < 2 ^ 63
 
 -- what a call comes to is such an answer, and not that the machine is stuck
-pub record TextFinishes (least limit wireCount bitCount : ℕ) (list : List Record) (lent buffer : List ℕ) (c : TextConclusion) : Type 0 where
+pub record TextFinishes (least limit wireCount bitCount : ℕ) (came : Option (List Record)) (lent buffer : List ℕ) (c : TextConclusion) : Type 0 where
   pub answer : TextAnswer
   pub is : c ≡ textFinished answer
-  pub sound : TextSound least limit wireCount bitCount list lent buffer answer
+  pub sound : TextSound least limit wireCount bitCount came lent buffer answer
 
 -- ---- the theorem, which proofs/TextSoundness proves
 
