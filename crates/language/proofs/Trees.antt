@@ -1,11 +1,12 @@
--- Trees as they are read: every place in one is within the program, and every fault in one has a number from 1 to 13.
+-- Trees as they are read: every place in one is within the program, and every fault in one has a number from 1 to 13, or 31.
 use mathlib.Core.List.{List, [], _∷_, map}
-use mathlib.Core.Bool.{Bool, true, false, cond, _&&_}
-use Prim.Native.Nat.{ℕ, zero, suc, _+_, _≤_, pred}
+use mathlib.Core.Path.{_≡_}
+use mathlib.Core.Bool.{Bool, true, false, cond}
+use Prim.Native.Nat.{ℕ, zero, suc, _+_, _≤_, _<_, pred}
 use native.Mathlib.Omega.{arith}
-use lib.Dec.{leb}
+use lib.Dec.{leb, ltb}
 use lib.ListN.{length, take, drop, length-take}
-use Rattle.language.specs.Limits.{deepest}
+use Rattle.language.specs.Limits.{deepest, byteFamilies}
 use Rattle.language.specs.Tree.{Place, Ending, Number, Operation, sum, difference, product, Index, literal, variable, operation, badIndex, Operand, whole, element, badOperand}
 use Rattle.language.specs.Tree.{ParameterType, qbit, qbits, badType, Argument, index, operand, badArgument, Gate, gateH, gateT, gateTdg, Statement, Statements, gate, cx, call, reverse, for, badStatement, nil, cons}
 use Rattle.language.specs.Tree.{Top, family, qreg, creg, measure, reset, if, statement, badTop}
@@ -16,7 +17,7 @@ use Rattle.language.proofs.ReadLaws.{AllRows, choose-all}
 -- a refusal's number, and its place in a program of so many bytes
 pub record Listed (size n p : ℕ) : Type 0 where
   pub from : 1 ≤ n
-  pub to : n ≤ 13
+  pub known : 13 < n → n ≡ 31
   pub within : p ≤ size
 
 abbrev pub AllOf : {A : Type 0} → (A → Type 0) → List A → Type 0
@@ -192,10 +193,20 @@ module _ (size : ℕ) where
   rest-fair : (part : Field → Statement) → FairPart FairStatement part → (n from : ℕ) (content : List ℕ) → from + length content ≤ size → FairStatements (statementsBy part (drop n (fields from content)))
   rest-fair part h n from content k = statements-fair part h (drop n (fields from content)) (drop-all Inside n (fields from content) (fields-inside from content k))
 
+  call-of-fair : (p n from : ℕ) (content : List ℕ) → p ≤ size → from + length content ≤ size → FairStatement (Read.callOf p n (fields from content))
+  unfolding Read.callOf FairStatement
+  call-of-fair p n from content j k = (j, map-fair FairArgument readArgument argument-fair (fields from content) (fields-inside from content k))
+
   call-fair : Fair FairStatement Read.readCall
   unfolding Fair Read.readCall FairStatement
   call-fair p [] k = omega arith
-  call-fair p (n ∷ rest) k = (omega arith, map-fair FairArgument readArgument argument-fair (fields (p + 4) rest) (fields-inside (p + 4) rest (omega arith)))
+  call-fair p (n ∷ rest) k = call-of-fair p n (p + 4) rest (omega arith) (omega arith)
+
+  long-call-fair : Fair FairStatement Read.readLongCall
+  unfolding Fair Read.readLongCall FairStatement
+  long-call-fair p [] k = omega arith
+  long-call-fair p (low ∷ []) k = omega arith
+  long-call-fair p (low ∷ high ∷ rest) k = cond-fair FairStatement (ltb (twoBytes low high) byteFamilies) (omega arith) (call-of-fair p (twoBytes low high) (p + 5) rest (omega arith) (omega arith))
 
   gate-fair : (g : Gate) → Fair FairStatement (ofFields (Read.gateOf g))
   unfolding Fair FairStatement Read.gateOf
@@ -214,13 +225,13 @@ module _ (size : ℕ) where
   unfolding Read.statementBy AllRows Fair FairStatement FairPart
   statement-by-fair part h (badHeader p) k = omega arith
   statement-by-fair part h (field p tag content) k = choose-all (Fair FairStatement) tag _ _
-      (gate-fair gateH, (gate-fair gateT, (gate-fair gateTdg, (cx-fair, (call-fair, ((λ q rest j. (omega arith, rest-fair part h 0 (q + 3) rest j)), (for-fair part h, tt)))))))
+      (gate-fair gateH, (gate-fair gateT, (gate-fair gateTdg, (cx-fair, (call-fair, ((λ q rest j. (omega arith, rest-fair part h 0 (q + 3) rest j)), (for-fair part h, (long-call-fair, tt))))))))
       (λ q rest j. omega arith) p content k
 
   statement-fair : (levels : ℕ) → FairPart FairStatement (readStatement levels)
   unfolding readStatement Read.deepStatement FairStatement FairPart
   statement-fair zero (badHeader p) k = omega arith
-  statement-fair zero (field p tag content) k = cond-fair FairStatement (leb 32 tag && leb tag 38) (omega arith) (omega arith)
+  statement-fair zero (field p tag content) k = cond-fair FairStatement (Read.isStatementTag tag) (omega arith) (omega arith)
   statement-fair (suc levels) f k = statement-by-fair (readStatement levels) (statement-fair levels) f k
 
   types-fair : (p : Place) (n : ℕ) (fs : List Field) → p ≤ size → AllOf Inside fs → AllOf FairType (Read.typesOf p n fs)

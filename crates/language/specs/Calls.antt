@@ -1,7 +1,7 @@
 -- Calls written down, and what they answer: what the lists of examples are made of.
 use mathlib.Core.List.{List, [], _∷_, _++_}
 use mathlib.Core.Bool.{Bool, true, false, _&&_}
-use Prim.Native.Nat.{ℕ, _/_, _%_}
+use Prim.Native.Nat.{ℕ, zero, suc, _/_, _%_}
 use lib.Dec.{eqb}
 use lib.ListN.{length, replicate}
 use Rattle.language.specs.Computed.{reading, forming, checking, machining, answering}
@@ -144,7 +144,12 @@ creg n = field 3 (n % 256 ∷ n / 256 ∷ [])
 abbrev pub bit : List ℕ → List ℕ
 bit i = field 49 (1 ∷ i)
 
+-- a field put into so many fields
+unfoldable pub nested : ℕ → (List ℕ → List ℕ) → List ℕ → List ℕ
+nested zero around inner = inner
+nested (suc k) around inner = around (nested k around inner)
+
 -- opens all of this, and all definitions, so that examples compute
 unfoldable pub computed : Unit {0}
-unfolding conclusion sameBytes sameAnswer answers allHold reading forming checking machining answering
+unfolding conclusion sameBytes sameAnswer answers allHold nested reading forming checking machining answering
 computed = tt

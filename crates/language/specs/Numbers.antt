@@ -2,14 +2,8 @@
 use mathlib.Core.Path.{_≡_, refl}
 use mathlib.Core.List.{List, [], _∷_, _++_}
 use mathlib.Core.Bool.{true}
-use Prim.Native.Nat.{ℕ, zero, suc}
 use lib.ListN.{replicate}
-use Rattle.language.specs.Calls.{instance, run, Example, allHold, computed, field, lit, var, _plus_, _times_, at, h, cx, reverse, for, qreg, family, n, L, size, lent, one, gives, accepted, turnedDown, call, creg}
-
--- a field put into so many fields
-unfoldable nested : ℕ → (List ℕ → List ℕ) → List ℕ → List ℕ
-nested zero around inner = inner
-nested (suc k) around inner = around (nested k around inner)
+use Rattle.language.specs.Calls.{instance, run, Example, allHold, computed, field, lit, var, _plus_, _times_, at, h, cx, reverse, for, qreg, family, n, L, size, lent, one, gives, accepted, turnedDown, call, creg, nested}
 
 -- turned down for the input: by the check, before the machine
 forInput : List Example
@@ -50,6 +44,8 @@ forInput =
     ∷ turnedDown (qreg 1 ++ h (lit 1)) 12 8
     -- 13: a condition on the value 2
     ∷ turnedDown (creg 1 ++ field 6 (2 ∷ at (lit 0))) 13 5
+    -- 31: a two-byte family number that fits into one byte
+    ∷ turnedDown (qreg 1 ++ field 39 (255 ∷ 0 ∷ [])) 31 5
     ∷ []
 
 -- turned down for the state: before the machine starts, or by the machine
@@ -75,7 +71,7 @@ forState =
     ∷ []
 
 for-input-hold : allHold forInput ≡ true
-unfolding computed nested forInput
+unfolding computed forInput
 for-input-hold = refl
 
 for-state-hold : allHold forState ≡ true

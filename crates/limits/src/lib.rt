@@ -3,7 +3,10 @@
 // Bytes of a program.
 pub const LONGEST_PROGRAM: usize = 65_535;
 
-pub const MOST_FAMILIES: usize = 255;
+pub const MOST_FAMILIES: usize = 4_096;
+
+// Families that a call with a one-byte number can name; a call with a two-byte number names later ones.
+pub const BYTE_FAMILIES: usize = 256;
 
 pub const MOST_REGISTERS: usize = 255;
 

@@ -1,0 +1,97 @@
+-- Computed examples of calls with a two-byte family number, and of the limit of families.
+use mathlib.Core.Path.{_≡_, refl}
+use mathlib.Core.List.{List, [], _∷_, _++_}
+use mathlib.Core.Bool.{true}
+use Prim.Native.Nat.{ℕ, zero, suc, _/_, _%_}
+use lib.ListN.{length, replicate}
+use Rattle.language.specs.Limits.{mostFamilies}
+use Rattle.language.specs.Tree.{number, family, qbit, ended, nil}
+use Rattle.language.specs.Check.{Checked, good, refused, Declared, checkTop}
+use Rattle.language.specs.Computed.{checking}
+use Rattle.language.specs.Calls.{Example, run, instance, allHold, computed, field, reverse, qreg, one, lent, gives, turnedDown, nested}
+
+-- a gate: a family of one Qbit and no index variables
+abbrev gate : List ℕ → List ℕ
+gate body = field 1 (0 ∷ 1 ∷ field 16 [] ++ body)
+
+-- so many gates without statements
+abbrev gates : ℕ → List ℕ
+gates zero = []
+gates (suc n) = gate [] ++ gates n
+
+-- h of the parameter 0
+abbrev hOfIt : List ℕ
+hOfIt = field 32 (field 48 (0 ∷ []))
+
+-- 256 families that do nothing, and the family 256, which does h; 2,063 bytes
+abbrev library : List ℕ
+library = gates 256 ++ gate hOfIt
+
+-- a call with a two-byte family number and these operands
+abbrev longCall : ℕ → List ℕ → List ℕ
+longCall n operands = field 39 (n % 256 ∷ n / 256 ∷ operands)
+
+-- q[0]
+abbrev q : List ℕ
+q = field 49 (0 ∷ 64 ∷ 2 ∷ 0 ∷ 0 ∷ 0 ∷ [])
+
+longCalls : List Example
+longCalls =
+    -- content that ends before and inside the number
+    turnedDown (field 39 []) 4 0
+    ∷ turnedDown (field 39 (0 ∷ [])) 4 0
+    -- a number that fits into one byte: 31 at the call, before 8 and before what stands after the number
+    ∷ turnedDown (longCall 0 []) 31 0
+    ∷ turnedDown (longCall 255 []) 31 0
+    ∷ turnedDown (gate [] ++ qreg 1 ++ longCall 0 (q ++ q)) 31 13
+    -- one that does not, and is not in scope: 8
+    ∷ turnedDown (longCall 256 []) 8 0
+    -- the tag is a statement's at every level: 5 past the deepest, where the next tag is 3
+    ∷ turnedDown (nested 16 reverse (longCall 0 [])) 5 48
+    ∷ turnedDown (nested 16 reverse (field 40 [])) 3 48
+    ∷ []
+
+-- the same over 257 families
+longCallsMade : List Example
+longCallsMade =
+    -- the family 256 is entered, and not the family 0
+    gives (run (library ++ qreg 1 ++ longCall 256 q) 100 (lent 8)) 0 0 1 2 (one 1 0)
+    ∷ gives (run (library ++ qreg 1 ++ field 36 (0 ∷ q) ++ field 36 (255 ∷ q)) 100 (lent 8)) 0 0 0 2 (lent 8)
+    ∷ turnedDown (library ++ qreg 1 ++ longCall 255 q) 31 2068
+    ∷ turnedDown (library ++ qreg 1 ++ longCall 257 q) 8 2068
+    -- parts after the number are as for a one-byte number: 4 where one is due, and where one is left over
+    ∷ turnedDown (library ++ qreg 1 ++ longCall 256 []) 4 2068
+    ∷ turnedDown (library ++ qreg 1 ++ longCall 256 (q ++ q)) 4 2068
+    -- a family does not see itself
+    ∷ turnedDown (gates 256 ++ gate (longCall 256 (field 48 (0 ∷ [])))) 8 2056
+    ∷ gives (instance library 256 [] 100 (lent 8)) 0 0 1 1 (one 1 0)
+    ∷ gives (instance library 255 [] 100 (lent 8)) 0 0 0 0 (lent 8)
+    ∷ gives (instance library 257 [] 100 (lent 8)) 20 0 0 0 (lent 8)
+    ∷ []
+
+longCalls-hold : allHold longCalls ≡ true
+unfolding computed longCalls
+longCalls-hold = refl
+
+longCallsMade-hold : allHold longCallsMade ≡ true
+unfolding computed longCallsMade
+longCallsMade-hold = refl
+
+-- after so many families
+abbrev after : ℕ → Declared
+after n = record { families = replicate n (record { variables = 0; parameters = [] }); registers = []; qubits = 0; bits = 0 }
+
+abbrev oneMore : Declared → Checked Declared
+oneMore d = checkTop (family 7 (number 0) (number 1) (qbit 12 ended ∷ []) nil) d
+
+unfoldable familiesOf : Checked Declared → ℕ
+familiesOf (good d) = length (d .families)
+familiesOf (refused n p) = 0
+
+last-family : familiesOf (oneMore (after 4_095)) ≡ mostFamilies
+unfolding checking familiesOf
+last-family = refl
+
+too-many-families : oneMore (after 4_096) ≡ refused 6 7
+unfolding checking
+too-many-families = refl
