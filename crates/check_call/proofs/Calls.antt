@@ -12,12 +12,13 @@ use lib.Seq.{slice}
 use borrow.Author.Tests.{eqb-true, le-leb, lt-leb, leb-true}
 use types.Run.{OneOf}
 use denote.Enum.Declared.{tagOf}
-use Rattle.language.specs.Tree.{Operand, badOperand, Argument, index, operand, badArgument}
-use Rattle.language.specs.Read.{Field, field, choose, due, outerIndex, isIndexTag, isOperandTag, Reader, readWhole, readElement, readOperand, readArgument, readCall}
+use Rattle.language.specs.Tree.{Operand, badOperand, Argument, index, operand, badArgument, Statement, badStatement}
+use Rattle.language.specs.Read.{Field, field, choose, due, outerIndex, isIndexTag, isOperandTag, Reader, readWhole, readElement, readOperand, readArgument, callOf}
 use Rattle.language.specs.Form.{Form}
 use Rattle.language.specs.Check.{Checked, good, refused, _>>=_, _>>_, Kind, Signature, checkOperand, callForms, callOperands, taken, inScope, checkCall, checkStatement}
 use Rattle.language.proofs.Integers.{clash}
 use Rattle.fields.specs.Header.{fieldsAt}
+use Rattle.fields.specs.CallNumber.{callReader}
 use Rattle.fields.proofs.Headers.{View, ends, cuts, goes, view, fields-end}
 use Rattle.forms.specs.Rows.{formsOf}
 use Rattle.check_index.proofs.Read.{the-type}
@@ -92,49 +93,48 @@ drop-map g zero l = refl
 drop-map g (suc n) [] = refl
 drop-map g (suc n) (x ∷ l) = drop-map g n l
 
-module _ (s : C.Scope) (at : ℕ) (content : List ℕ) where
+-- a call that names no family
+pub call-unnamed : (s : C.Scope) (at k tag : ℕ) (content : List ℕ) → callReader tag at content ≡ badStatement k at → refused k at ≡ checkStatement (callReader tag at content) s
+unfolding checkStatement
+call-unnamed s at k tag content e = sym (ap (λ (x : Statement). checkStatement x s) e)
+
+-- a call of the family n
+module _ (s : C.Scope) (at from n : ℕ) (program : List ℕ) (next : ℕ) where
   abbrev pub called : Checked (Unit {0})
-  called = checkStatement (readCall at content) s
+  called = checkStatement (callOf at n (fieldsAt program from next)) s
 
-  pub call-none : content ≡ [] → refused 4 at ≡ called
-  unfolding checkStatement readCall
-  call-none e = sym (ap (λ (l : List ℕ). checkStatement (readCall at l) s) e)
+  abbrev args : List Argument
+  args = map readArgument (fieldsAt program from next)
 
-  module _ (n : ℕ) (program : List ℕ) (next : ℕ) (e : content ≡ (n ∷ slice (at + 3 + 1) next program)) where
-    abbrev args : List Argument
-    args = map readArgument (fieldsAt program (at + 4) next)
+  abbrev matched : Signature → Checked (Unit {0})
+  matched f = callForms s at (f .variables) args >>= λ forms. callOperands s at forms (f .parameters) (drop (f .variables) args)
 
-    abbrev matched : Signature → Checked (Unit {0})
-    matched f = callForms s at (f .variables) args >>= λ forms. callOperands s at forms (f .parameters) (drop (f .variables) args)
+  call-is : called ≡ (inScope at (getElem? (s .families) n) >>= matched)
+  unfolding checkStatement checkCall callOf
+  call-is = refl
 
-    call-is : called ≡ (inScope at (getElem? (s .families) n) >>= matched)
-    unfolding checkStatement checkCall readCall fieldsAt
-    call-is =
-        let q : at + 3 + 1 ≡ at + 4 = omega arith in
-        ap (λ (l : List ℕ). checkStatement (readCall at l) s) (e ∙ ap (λ (k : ℕ). n ∷ slice k next program) q)
+  pub call-beyond : getElem? (s .families) n ≡ none → refused 8 at ≡ called
+  unfolding inScope _>>=_
+  call-beyond q = sym (call-is ∙ ap (λ (o : Option Signature). inScope at o >>= matched) q)
 
-    pub call-beyond : getElem? (s .families) n ≡ none → refused 8 at ≡ called
+  module _ (f : Signature) (q : getElem? (s .families) n ≡ some f) (r : Read) (l : List (List ℤ)) (m : ℕ) (a : m ≡ f .variables) (t : checkedForms r m l ≡ callForms s at m args) where
+    call-some : called ≡ (checkedForms r m l >>= λ forms. callOperands s at forms (f .parameters) (drop m args))
     unfolding inScope _>>=_
-    call-beyond q = sym (call-is ∙ ap (λ (o : Option Signature). inScope at o >>= matched) q)
+    call-some =
+        call-is ∙ ap (λ (o : Option Signature). inScope at o >>= matched) q
+        ∙ ap (λ (k : ℕ). callForms s at k args >>= λ forms. callOperands s at forms (f .parameters) (drop k args)) (sym a)
+        ∙ ap (λ (c : Checked (List Form)). c >>= λ forms. callOperands s at forms (f .parameters) (drop m args)) (sym t)
 
-    module _ (f : Signature) (q : getElem? (s .families) n ≡ some f) (r : Read) (l : List (List ℤ)) (m : ℕ) (a : m ≡ f .variables) (t : checkedForms r m l ≡ callForms s at m args) where
-      call-some : called ≡ (checkedForms r m l >>= λ forms. callOperands s at forms (f .parameters) (drop m args))
-      unfolding inScope _>>=_
-      call-some =
-          call-is ∙ ap (λ (o : Option Signature). inScope at o >>= matched) q
-          ∙ ap (λ (k : ℕ). callForms s at k args >>= λ forms. callOperands s at forms (f .parameters) (drop k args)) (sym a)
-          ∙ ap (λ (c : Checked (List Form)). c >>= λ forms. callOperands s at forms (f .parameters) (drop m args)) (sym t)
+    pub call-stops : OneOf (1 ∷ []) (tagOf the-type r) → checkedPart r ≡ called
+    unfolding checkedForms checkedPart _>>=_
+    call-stops h = by r h ∙ sym call-some
+      where
+        by : (r : Read) → OneOf (1 ∷ []) (tagOf the-type r) → checkedPart r ≡ (checkedForms r m l >>= λ forms. callOperands s at forms (f .parameters) (drop m args))
+        by (Upto j) h = not-first h
+        by (Refused j k) h = refl
 
-      pub call-stops : OneOf (1 ∷ []) (tagOf the-type r) → checkedPart r ≡ called
-      unfolding checkedForms checkedPart _>>=_
-      call-stops h = by r h ∙ sym call-some
-        where
-          by : (r : Read) → OneOf (1 ∷ []) (tagOf the-type r) → checkedPart r ≡ (checkedForms r m l >>= λ forms. callOperands s at forms (f .parameters) (drop m args))
-          by (Upto j) h = not-first h
-          by (Refused j k) h = refl
-
-      pub call-good : (mid : ℕ) → r ≡ Upto mid → Beyond program (at + 4) next m mid → callOperands s at (formsOf m l) (f .parameters) (map readArgument (fieldsAt program mid next)) ≡ called
-      unfolding checkedForms _>>=_
-      call-good mid u b =
-          sym (call-some ∙ ap (λ (x : Read). checkedForms x m l >>= λ forms. callOperands s at forms (f .parameters) (drop m args)) u
-          ∙ ap (λ (x : List Argument). callOperands s at (formsOf m l) (f .parameters) x) (drop-map readArgument m (fieldsAt program (at + 4) next) ∙ ap (map readArgument) (b .rest)))
+    pub call-good : (mid : ℕ) → r ≡ Upto mid → Beyond program from next m mid → callOperands s at (formsOf m l) (f .parameters) (map readArgument (fieldsAt program mid next)) ≡ called
+    unfolding checkedForms _>>=_
+    call-good mid u b =
+        sym (call-some ∙ ap (λ (x : Read). checkedForms x m l >>= λ forms. callOperands s at forms (f .parameters) (drop m args)) u
+        ∙ ap (λ (x : List Argument). callOperands s at (formsOf m l) (f .parameters) x) (drop-map readArgument m (fieldsAt program from next) ∙ ap (map readArgument) (b .rest)))

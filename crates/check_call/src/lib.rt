@@ -4,10 +4,11 @@ ghost use mathlib.Core.List.{List, map};
 ghost use Prim.Native.Nat.{_+_, _≤_};
 ghost use lib.ListN.{length};
 ghost use lib.Seq.{slice};
-ghost use Rattle.language.specs.Read.{readArgument, readCall};
+ghost use Rattle.language.specs.Read.{readArgument, callOf};
 ghost use Rattle.language.specs.Check.{Kind, Signature, taken, callForms, callOperands, checkStatement};
 ghost use Rattle.language.specs.Limits.{mostVariables};
 ghost use Rattle.fields.specs.Header.{fieldsAt};
+ghost use Rattle.fields.specs.CallNumber.{callReader};
 ghost use Rattle.forms.specs.Flat.{Short, widened, asForm};
 ghost use Rattle.forms.specs.Rows.{Rows, loopsOf, formsOf};
 ghost use Rattle.check_operand.specs.Tables.{kindIn, TablesRight, kindsAt, scopeWith, scopeAt};
@@ -17,6 +18,7 @@ ghost use Rattle.check_call.specs.Calls.{FamiliesRight, scopeFull, check
 use check_index::Read;
 use check_operand::Visible;
 use check_operand::Wanted;
+use fields::Named;
 use forms::FORM_NUMBERS;
 use forms::Form;
 use forms::Size;
@@ -24,7 +26,7 @@ use limits::DEEPEST;
 use limits::MOST_VARIABLES;
 
 // A row of the table of families: how many index variables, how many parameters, and the first row of their kinds.
-pub type FamilyRow = [usize; 3];
+pub type FamilyRow = [u16; 3];
 
 // The forms of the m indexes of a call at `parent`, from `at` on.
 fn call_forms(
@@ -96,7 +98,7 @@ fn call_operands(
     forms: &[Form; MOST_VARIABLES],
     m: usize,
     s: Visible,
-    kinds: &[u8],
+    kinds: &[u16],
     sizes: &[Size],
     lows: &[Form],
     highs: &[Form],
@@ -113,8 +115,10 @@ fn call_operands(
     for j in 0..count {
         let row = first + j;
         let mut size = [0i64; FORM_NUMBERS];
-        let kind = check_operand::kind_by(kinds[row]);
-        let wanted = taken_by(kind, &sizes[row], forms, m, &mut size);
+        let number = kinds[row];
+        let kind = check_operand::kind_by(number);
+        let own = check_operand::size_by(number);
+        let wanted = taken_by(kind, &sizes[own], forms, m, &mut size);
         let r = check_operand::operand(
             program,
             from,
@@ -139,38 +143,34 @@ fn call_operands(
     Read::Upto(to)
 }
 
-// The call at `at`, whose field ends at `next`.
-pub fn call(
+// The call at `at` of the family n, whose arguments are from `from` to `next`.
+fn call_of(
     program: &[u8],
     at: usize,
+    from: usize,
     next: usize,
+    n: usize,
     s: Visible,
     families: &[FamilyRow],
-    kinds: &[u8],
+    kinds: &[u16],
     sizes: &[Size],
     lows: &[Form],
     highs: &[Form],
 ) -> Read
-    requires { ⌜ (at + 3 ≤ next) × (next ≤ length (now program)) ⌝ }
+    requires { ⌜ next ≤ length (now program) ⌝ }
     requires { ⌜ TablesRight s (now kinds) (now sizes) (now lows) (now highs) ⌝ }
     requires { ⌜ FamiliesRight s (now families) (now kinds) ⌝ }
-    ensures { λ r. ⌜ checkedPart r ≡ checkStatement (readCall at (slice (at + 3) next (now (program .entry)))) (scopeFull s (now (families .entry)) (now (kinds .entry)) (now (sizes .entry)) (now (lows .entry)) (now (highs .entry))) ⌝ }
+    ensures { λ r. ⌜ checkedPart r ≡ checkStatement (callOf at n (fieldsAt (now (program .entry)) from next)) (scopeFull s (now (families .entry)) (now (kinds .entry)) (now (sizes .entry)) (now (lows .entry)) (now (highs .entry))) ⌝ }
 {
-    let from = at + 3;
-    if next <= from {
-        return Read::Refused(4, at);
-    }
-    let n = fields::wide(program[from]);
     if s.families <= n {
         return Read::Refused(8, at);
     }
     let family = families[n];
-    let m = family[0];
-    let count = family[1];
-    let first = family[2];
-    let inner = at + 4;
+    let m = fields::long(family[0]);
+    let count = fields::long(family[1]);
+    let first = fields::long(family[2]);
     let mut forms = [[0i64; FORM_NUMBERS]; MOST_VARIABLES];
-    let r = call_forms(program, inner, next, at, m, s, lows, highs, &mut forms);
+    let r = call_forms(program, from, next, at, m, s, lows, highs, &mut forms);
     let Read::Upto(mid) = r else {
         return r;
     };
@@ -189,4 +189,40 @@ pub fn call(
         lows,
         highs,
     )
+}
+
+// The call with this tag at `at`, whose field ends at `next`.
+pub fn call(
+    program: &[u8],
+    at: usize,
+    next: usize,
+    tag: u8,
+    s: Visible,
+    families: &[FamilyRow],
+    kinds: &[u16],
+    sizes: &[Size],
+    lows: &[Form],
+    highs: &[Form],
+) -> Read
+    requires { ⌜ (at + 3 ≤ next) × (next ≤ length (now program)) ⌝ }
+    requires { ⌜ TablesRight s (now kinds) (now sizes) (now lows) (now highs) ⌝ }
+    requires { ⌜ FamiliesRight s (now families) (now kinds) ⌝ }
+    ensures { λ r. ⌜ checkedPart r ≡ checkStatement (callReader tag at (slice (at + 3) next (now (program .entry)))) (scopeFull s (now (families .entry)) (now (kinds .entry)) (now (sizes .entry)) (now (lows .entry)) (now (highs .entry))) ⌝ }
+{
+    match fields::family_named(program, at + 3, next, tag) {
+        Named::Bad(k) => Read::Refused(k, at),
+        Named::Family(n, from) => call_of(
+            program,
+            at,
+            from,
+            next,
+            fields::long(n),
+            s,
+            families,
+            kinds,
+            sizes,
+            lows,
+            highs,
+        ),
+    }
 }

@@ -8,6 +8,7 @@ use lib.Dec.{leb, ltb}
 use lib.ListN.{length}
 use lib.IntN.{ℤ}
 use borrow.Author.Tests.{le-leb, lt-leb, le-ltb, lt-ltb, leb-true, ltb-true}
+use native.Mathlib.Decide.{decLt}
 use types.Run.{OneOf}
 use denote.Enum.Declared.{tagOf}
 use Rattle.language.specs.Limits.{mostRegisters}
@@ -85,6 +86,15 @@ pub size-fits : (r : Read) (n p count total most : ℕ) (content : List ℕ) →
 unfolding checkedRegister checkRegister
 size-fits r n p count total most content u e = many p count total most n (ltb count mostRegisters) refl (checkNumber p (registerSize content)) (C.noLeftover p (registerEnd content)) (sym (ap checkedRegister u) ∙ e)
 
-pub register-stops : (r : Read) (kind : Kind) (count total most : ℕ) (k₀ : List ℕ) (s₀ : List (List ℤ)) (k₁ : List ℕ) (s₁ : List (List ℤ)) → OneOf (1 ∷ []) (tagOf the-type r) → RegisterSet r kind count total most k₀ s₀ k₁ s₁
-register-stops (Upto n) kind count total most k₀ s₀ k₁ s₁ h = not-first h
-register-stops (Refused n p) kind count total most k₀ s₀ k₁ s₁ h = tt
+-- a register's size takes two bytes
+pub size-two : (r : Read) (n p count total most : ℕ) (content : List ℕ) → r ≡ Upto n → checkedRegister r ≡ registerIn p count total most content → 2 ≤ length content
+unfolding checkedRegister
+size-two r n p count total most content u e = go (decLt (length content) 2)
+  where
+    go : Dec (length content < 2) → 2 ≤ length content
+    go (yes k) = never (sym (ap checkedRegister u) ∙ e ∙ sym (size-short p count total most content (size-fits r n p count total most content u e .room) k))
+    go (no k) = omega arith
+
+pub register-stops : (bytes next : ℕ) (r : Read) (kind : Kind) (count total most : ℕ) (k₀ : List ℕ) (s₀ : List (List ℤ)) (k₁ : List ℕ) (s₁ : List (List ℤ)) → OneOf (1 ∷ []) (tagOf the-type r) → RegisterSet bytes next r kind count total most k₀ s₀ k₁ s₁
+register-stops bytes next (Upto n) kind count total most k₀ s₀ k₁ s₁ h = not-first h
+register-stops bytes next (Refused n p) kind count total most k₀ s₀ k₁ s₁ h = tt

@@ -3,33 +3,35 @@ use mathlib.Core.Path.{_≡_, refl, sym, ap, _∙_}
 use mathlib.Core.List.{List, [], _∷_, _++_, append-assoc}
 use Prim.Native.Nat.{ℕ, _+_, _≤_, _<_, suc}
 use native.Mathlib.Omega.{arith}
-use lib.ListN.{length, drop, set}
+use lib.ListN.{length, getD, drop, set}
 use lib.Seq.{slice}
 use lib.IntN.{ℤ}
 use borrow.Author.Tests.{ne-eqb}
+use native.Mathlib.Decide.{decLt}
 use types.Run.{OneOf}
 use denote.Enum.Declared.{tagOf}
 use Rattle.language.specs.Tree.{badIndex, badType}
 use Rattle.language.specs.Form.{Form, built}
-use Rattle.language.specs.Read.{Field, field, choose, due, ending, qbitsOf, outerIndex, readType, readQbit, badHeader, typesOf}
+use Rattle.language.specs.Read.{Field, field, Reader, choose, due, ending, fieldsAfter, qbitsOf, outerIndex, readIndex, indexBy, readLiteral, readVariable, operationOf, readType, readQbit, badHeader, typesOf}
+use Rattle.language.proofs.ReadLaws.{AllRows, choose-all}
 use Rattle.language.specs.Check.{Checked, good, refused, _>>=_, _>>_, Kind, qubit, quantum, Signature, formOf, mustShow, kindOf, noLeftover, kindsOf}
-use Rattle.fields.proofs.Headers.{Wholly, one-byte, slice-none}
+use Rattle.fields.proofs.Headers.{Wholly, View, ends, cuts, goes, view, one-byte, slice-none}
 use Rattle.fields.specs.Header.{fieldsAt}
 use Rattle.forms.specs.Flat.{Kept, asForm, Short, widened}
 use Rattle.check_index.proofs.Read.{the-type}
 use Rattle.check_index.proofs.Answers.{more-left, none-left, not-first, then-goes}
 use Rattle.check_index.specs.Answers.{PastField, FormEndsAt, checkedForm, checkedPart}
 use Rattle.check_index.specs.Indexes.{scopeOf}
-use Rattle.kinds.specs.Numbers.{numberOf}
+use Rattle.kinds.specs.declared.Kind as K
 use Rattle.kinds.specs.declared.Kind.the-variants.{Qubit, Quantum}
-use Rattle.check_operand.specs.Tables.{scopeWith, kindIn, kindAt, kindsAt, tabulated}
-use Rattle.check_declaration.specs.Types.{tableRows, checkedSizedType, checkedType, TypePasses, OperandTable, Apart, checkedRow, checkedRows}
+use Rattle.check_operand.specs.Tables.{scopeWith, kindIn, sizeOfRow, kindAt, kindsAt, tabulated}
+use Rattle.check_declaration.specs.Types.{rowNumber, checkedSizedType, checkedType, TypePasses, OperandTable, Apart, checkedRow, checkedRows}
 use Rattle.check_index.specs.declared.Read.{Read}
 use Rattle.check_index.specs.declared.Read.the-variants.{Upto, Refused}
 use Rattle.check_operand.proofs.Tables.{same-forms, row-more}
 use Rattle.check_declaration.specs.declared.TypeRead.{TypeRead}
 use Rattle.check_declaration.specs.declared.TypeRead.the-variants.{Single, Many, Bad}
-use Rattle.check_declaration.proofs.Tables.{row-kind, row-both, rows-below, numbered}
+use Rattle.check_declaration.proofs.Tables.{number-kind, row-kind, row-both, rows-below}
 use Rattle.language.specs.Tree as T
 use Rattle.language.specs.Check as C
 
@@ -79,6 +81,41 @@ module _ (fs : List Signature) (ks : List Kind) (m : ℕ) (program : List ℕ) (
       pub type-good : OneOf (0 ∷ []) (tagOf the-type t) → checkedSizedType (Upto next) l ≡ typed
       unfolding checkedSizedType
       type-good q = sym (type-shown ∙ then-goes t (good (quantum (asForm l))) q)
+
+-- an index takes 4 bytes at least, and so a type with a size takes 7
+never : {A : Type 0} {B : Type 0} {a : A} {n p : ℕ} → refused n p ≡ good a → B
+never e = absurd (let z : _≡_ {A = ℕ} 0 1 = cc in omega arith)
+
+Refuses : C.Scope → Reader T.Index → Type 0
+Refuses s r = (p : ℕ) (f : Form) → formOf s (r p []) ≡ good f → ⊥
+
+empty-refused : (s : C.Scope) (tag p : ℕ) (f : Form) → formOf s (outerIndex (field p tag [])) ≡ good f → ⊥
+unfolding readIndex indexBy Refuses AllRows readLiteral readVariable operationOf formOf _>>=_ fieldsAfter due
+empty-refused s tag p f e = choose-all (Refuses s) tag _ _ ((λ q g. never), ((λ q g. never), ((λ q g. never), ((λ q g. never), ((λ q g. never), tt))))) (λ q g. never) p f e
+
+index-long : (s : C.Scope) (program : List ℕ) (at to p : ℕ) (f : Form) → to ≤ length program → formOf s (due outerIndex (badIndex 4 p) (fieldsAt program at to)) ≡ good f → at + 4 ≤ to
+unfolding due formOf readIndex indexBy
+index-long s program at to p f h e = by (view program at to h)
+  where
+    by : View program at to → at + 4 ≤ to
+    by (ends none k) = never (sym (ap (λ (fs : List Field). formOf s (due outerIndex (badIndex 4 p) fs)) none) ∙ e)
+    by (cuts one) = never (sym (ap (λ (fs : List Field). formOf s (due outerIndex (badIndex 4 p) fs)) one) ∙ e)
+    by (goes tag next w) = go (decLt (at + 3) next)
+      where
+        is : formOf s (outerIndex (field at tag (slice (at + 3) next program))) ≡ good f
+        is = sym (ap (λ (fs : List Field). formOf s (due outerIndex (badIndex 4 p) fs)) (w .first)) ∙ e
+
+        go : Dec (at + 3 < next) → at + 4 ≤ to
+        go (yes k) = omega (arith, w .high)
+        go (no k) = absurd (empty-refused s tag at f (sym (ap (λ (l : List ℕ). formOf s (outerIndex (field at tag l))) (slice-none (at + 3) next program (omega arith))) ∙ is))
+
+pub type-seven : (s : C.Scope) (program : List ℕ) (at next : ℕ) (k : Kind) → next ≤ length program → kindOf s (qbitsOf at (fieldsAt program (at + 3) next)) ≡ good k → at + 7 ≤ next
+unfolding kindOf qbitsOf _>>=_
+type-seven s program at next k h e = go (formOf s (due outerIndex (badIndex 4 at) (fieldsAt program (at + 3) next))) refl e
+  where
+    go : (c : Checked Form) → formOf s (due outerIndex (badIndex 4 at) (fieldsAt program (at + 3) next)) ≡ c → (c >>= λ f. (noLeftover at (ending (drop 1 (fieldsAt program (at + 3) next))) >> (mustShow at s (built f) >> good (quantum f)))) ≡ good k → at + 7 ≤ next
+    go (good f) u v = omega (arith, index-long s program (at + 3) next at f h u)
+    go (refused n p) u v = never v
 
 module _ (s : C.Scope) (program : List ℕ) (at to parent : ℕ) where
   abbrev pub typeMeant : Checked Kind
@@ -161,13 +198,13 @@ module _ (s : C.Scope) (parent n : ℕ) (program : List ℕ) (at to : ℕ) (r : 
       ∙ ap (λ (fs : List Field). kindsOf s (typesOf parent n fs) >>= λ ks. good (kindAt row kinds sizes ∷ ks)) (v .rest)
 
 -- the kinds so far, and one more
-pub more-kinds : (c : Checked (List Kind)) (first count j : ℕ) {k₀ : List ℕ} {s₀ : List (List ℤ)} {k₁ : List ℕ} {s₁ : List (List ℤ)} → Apart (first + j) 1 k₀ s₀ k₁ s₁
+pub more-kinds : (c : Checked (List Kind)) (bytes first count j : ℕ) {k₀ : List ℕ} {s₀ : List (List ℤ)} {k₁ : List ℕ} {s₁ : List (List ℤ)} → Apart bytes (first + j) 1 k₀ s₀ k₁ s₁
     → ((c >>= λ ks. good (kindAt (first + j) k₁ s₁ ∷ ks)) >>= λ rest. good (kindsAt j first k₀ s₀ ++ rest)) ≡ (c >>= λ rest. good (kindsAt (j + 1) first k₁ s₁ ++ rest))
 unfolding _>>=_
-more-kinds (refused n p) first count j a = refl
-more-kinds (good ks) first count j {k₀} {s₀} {k₁} {s₁} a =
+more-kinds (refused n p) bytes first count j a = refl
+more-kinds (good ks) bytes first count j {k₀} {s₀} {k₁} {s₁} a =
     ap good
-    (ap (λ (l : List Kind). l ++ (kindAt (first + j) k₁ s₁ ∷ ks)) (sym (rows-below (first + j) 1 j first a (omega arith)))
+    (ap (λ (l : List Kind). l ++ (kindAt (first + j) k₁ s₁ ∷ ks)) (sym (rows-below bytes (first + j) 1 j first a (omega arith)))
     ∙ sym (append-assoc (kindsAt j first k₁ s₁) (kindAt (first + j) k₁ s₁ ∷ []) ks)
     ∙ ap (λ (l : List Kind). l ++ ks) (sym (row-more (λ i. kindAt i k₁ s₁) j first)))
 
@@ -184,22 +221,27 @@ all-kinds s parent fs ks = ap good (append-nil ks)
     append-nil [] = refl
     append-nil (x ∷ xs) = ap (λ (y : List Kind). x ∷ y) (append-nil xs)
 
-module _ (r : TypeRead) (n q : ℕ) (l : List ℤ) (row : ℕ) (kinds : List ℕ) (sizes : List (List ℤ)) (t : OperandTable kinds sizes) (h : row < tableRows) where
-  pub typed-single : (b : ℕ) → b ≡ numberOf Qubit → r ≡ Single n → checkedRow (Upto n) row (set kinds row b) sizes ≡ checkedType r l
+module _ (r : TypeRead) (n : ℕ) (l : List ℤ) (bytes row : ℕ) (kinds : List ℕ) (sizes : List (List ℤ)) (t : OperandTable bytes kinds sizes) (h : row < length kinds) where
+  pub typed-single : (b : ℕ) → b ≡ rowNumber Qubit 0 → r ≡ Single n → checkedRow (Upto n) row (set kinds row b) sizes ≡ checkedType r l
   unfolding checkedRow checkedType kindIn
-  typed-single b u e = ap good (row-kind row kinds sizes t h b ∙ numbered Qubit b _ u) ∙ sym (ap (λ (x : TypeRead). checkedType x l) e)
+  typed-single b u e =
+      ap good (row-kind bytes row kinds sizes t h b ∙ ap (λ (k : K.Kind). kindIn k (asForm (widened (getD sizes (sizeOfRow b) [])))) (number-kind Qubit 0 b u))
+      ∙ sym (ap (λ (x : TypeRead). checkedType x l) e)
 
-  pub typed-many : (b : ℕ) → b ≡ numberOf Quantum → (short : List ℤ) → r ≡ Many n → Short short → widened short ≡ l → checkedRow (Upto n) row (set kinds row b) (set sizes row short) ≡ checkedType r l
+  pub typed-many : (b own : ℕ) → b ≡ rowNumber Quantum own → (short : List ℤ) → ((j : ℕ) → sizeOfRow (getD kinds j 0) < own) → own < length sizes → r ≡ Many n → Short short → widened short ≡ l
+      → checkedRow (Upto n) row (set kinds row b) (set sizes own short) ≡ checkedType r l
   unfolding checkedRow checkedType kindIn
-  typed-many b u short e k w = ap good (row-both row kinds sizes t h b short k ∙ numbered Quantum b _ u ∙ ap (λ (x : List ℤ). quantum (asForm x)) w) ∙ sym (ap (λ (x : TypeRead). checkedType x l) e)
+  typed-many b own u short d f e k w =
+      ap good (row-both bytes row kinds sizes t h b own short k d f Quantum u ∙ ap (λ (x : List ℤ). quantum (asForm x)) w)
+      ∙ sym (ap (λ (x : TypeRead). checkedType x l) e)
 
-  pub typed-bad : r ≡ Bad n q → checkedRow (Refused n q) row kinds sizes ≡ checkedType r l
-  unfolding checkedRow checkedType
-  typed-bad e = sym (ap (λ (x : TypeRead). checkedType x l) e)
+pub typed-bad : (r : TypeRead) (n q : ℕ) (l : List ℤ) (row : ℕ) (kinds : List ℕ) (sizes : List (List ℤ)) → r ≡ Bad n q → checkedRow (Refused n q) row kinds sizes ≡ checkedType r l
+unfolding checkedRow checkedType
+typed-bad r n q l row kinds sizes e = sym (ap (λ (x : TypeRead). checkedType x l) e)
 
 module _ (program : List ℕ) (at to : ℕ) (r : TypeRead) (l : List ℤ) (n : ℕ) (h : TypePasses program at to r l) where
   pub past-single : r ≡ Single n → PastField program at to n
   past-single e = rw e at h
 
-  pub past-many : r ≡ Many n → PastField program at to n × Kept l
+  pub past-many : r ≡ Many n → PastField program at to n × Kept l × (at + 7 ≤ n)
   past-many e = rw e at h

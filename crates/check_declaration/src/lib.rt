@@ -7,14 +7,15 @@ ghost use lib.Seq.{slice};
 ghost use Rattle.language.specs.Tree.{badType};
 ghost use Rattle.language.specs.Read.{due, qbitsOf, readType, typesOf};
 ghost use Rattle.language.specs.Check.{Kind, Signature, kindOf, kindsOf};
-ghost use Rattle.language.specs.Limits.{mostVariables, furthest};
+ghost use Rattle.language.specs.Limits.{longestProgram, mostRegisters, mostVariables, furthest};
 ghost use Rattle.fields.specs.Header.{fieldsAt};
 ghost use Rattle.check_index.specs.Answers.{FormEndsAt, Passes, PassesCount};
 ghost use Rattle.check_operand.specs.Tables.{scopeWith};
 ghost use Rattle.check_declaration.specs.Registers.{checkedRegister, registerIn, RegisterSet};
-ghost use Rattle.check_declaration.specs.Types.{checkedSizedType, checkedType, TypePasses, OperandTable, Apart, checkedRow, checkedRows, tableRows};
+ghost use Rattle.check_declaration.specs.Types.{sizeRow, rowNumber, checkedSizedType, checkedType, TypePasses, OperandTable, InUse, InUseAfter, InUseBefore, Apart, checkedRow, checkedRows};
 ghost use Rattle.check_declaration.specs.Families.{checkedCounts, countsIn, BothRight};
 use check_index::Read;
+use check_operand::KINDS;
 use fields::Header;
 use forms::FORM_NUMBERS;
 use forms::Form;
@@ -25,9 +26,6 @@ use limits::MOST_FAMILIES;
 use limits::MOST_PARAMETERS;
 use limits::MOST_REGISTERS;
 use limits::MOST_VARIABLES;
-
-// The rows of the table of operands: one for each register, and then those of the families' parameters, as they come.
-pub const TABLE_ROWS: usize = MOST_REGISTERS + MOST_FAMILIES * MOST_PARAMETERS;
 
 // What a parameter's type is: Qbit, or Qbit[I], whose form lies beside; each with the position past it. Or a refusal.
 pub enum TypeRead {
@@ -102,7 +100,25 @@ fn parameter_type(
     }
 }
 
-// The type that is due at `at` in the family at `parent` of m index variables, put into a row of the tables.
+// The row of the size that is declared at `at`, after so many registers. A register takes 5 bytes and a type with a size 7 at least, so that
+// each has a row of its own; the row 0 is nobody's.
+fn size_row(at: usize, registers: usize) -> usize
+    requires { ⌜ at ≤ longestProgram ⌝ }
+    requires { ⌜ registers ≤ mostRegisters ⌝ }
+    ensures { λ r. ⌜ r ≡ sizeRow at registers ⌝ }
+{
+    1 + (at + 2 * registers) / 7
+}
+
+// The number in the table of operands for a kind whose size is in a row.
+fn row_number(kind: kinds::Kind, row: usize) -> u16
+    requires { ⌜ row < 16384 ⌝ }
+    ensures { λ r. ⌜ r ≡ rowNumber kind row ⌝ }
+{
+    (row as u16) * KINDS + fields::wider(kinds::number(kind))
+}
+
+// The type that is due at `at` in the family at `parent` of m index variables, put into a row of the tables, after so many registers.
 fn typed_row(
     program: &[u8],
     at: usize,
@@ -110,35 +126,39 @@ fn typed_row(
     parent: usize,
     m: usize,
     row: usize,
-    kinds: &mut [u8],
+    registers: usize,
+    kinds: &mut [u16],
     sizes: &mut [Size],
 ) -> Read
     requires { ⌜ to ≤ length (now program) ⌝ }
     requires { ⌜ m ≤ mostVariables ⌝ }
-    requires { ⌜ row < tableRows ⌝ }
-    requires { ⌜ OperandTable (now kinds) (now sizes) ⌝ }
+    requires { ⌜ length (now program) ≤ longestProgram ⌝ }
+    requires { ⌜ InUse row registers at (now kinds) ⌝ }
+    requires { ⌜ OperandTable (length (now program)) (now kinds) (now sizes) ⌝ }
     ensures { λ r. ⌜ ((fs : List Signature) (ks : List Kind) → checkedRow r row (now (kinds .exit)) (now (sizes .exit)) ≡ kindOf (scopeWith fs ks m []) (due readType (badType 4 parent) (fieldsAt (now (program .entry)) at to))) ⌝ }
     ensures { λ r. ⌜ Passes (now (program .entry)) at to r ⌝ }
-    ensures { λ _. ⌜ Apart row 1 (now (kinds .entry)) (now (sizes .entry)) (now (kinds .exit)) (now (sizes .exit)) ⌝ }
+    ensures { λ r. ⌜ InUseAfter (row + 1) registers r (now (kinds .exit)) ⌝ }
+    ensures { λ _. ⌜ Apart (length (now (program .entry))) row 1 (now (kinds .entry)) (now (sizes .entry)) (now (kinds .exit)) (now (sizes .exit)) ⌝ }
 {
     let mut f = [0i64; FORM_NUMBERS];
     match parameter_type(program, at, to, parent, m, &mut f) {
         TypeRead::Single(next) => {
-            kinds[row] = kinds::number(kinds::Kind::Qubit);
+            kinds[row] = row_number(kinds::Kind::Qubit, 0);
             Read::Upto(next)
         }
         TypeRead::Many(next) => {
-            let mut size = [0i64; SIZE_NUMBERS];
+            let mut size = [0i32; SIZE_NUMBERS];
             forms::store(&mut size, &f);
-            kinds[row] = kinds::number(kinds::Kind::Quantum);
-            sizes[row] = size;
+            let own = size_row(at, registers);
+            kinds[row] = row_number(kinds::Kind::Quantum, own);
+            sizes[own] = size;
             Read::Upto(next)
         }
         TypeRead::Bad(n, q) => Read::Refused(n, q),
     }
 }
 
-// The types of the `count` parameters of the family at `parent`, from `at` on, put into the rows from `first` on.
+// The types of the `count` parameters of the family at `parent`, from `at` on, put into the rows from `first` on, after so many registers.
 pub fn parameter_types(
     program: &[u8],
     at: usize,
@@ -147,21 +167,24 @@ pub fn parameter_types(
     m: usize,
     count: usize,
     first: usize,
-    kinds: &mut [u8],
+    registers: usize,
+    kinds: &mut [u16],
     sizes: &mut [Size],
 ) -> Read
     requires { ⌜ to ≤ length (now program) ⌝ }
     requires { ⌜ m ≤ mostVariables ⌝ }
-    requires { ⌜ first + count ≤ tableRows ⌝ }
-    requires { ⌜ OperandTable (now kinds) (now sizes) ⌝ }
+    requires { ⌜ (at ≤ to) × (length (now program) ≤ longestProgram) ⌝ }
+    requires { ⌜ InUse first registers at (now kinds) ⌝ }
+    requires { ⌜ OperandTable (length (now program)) (now kinds) (now sizes) ⌝ }
     ensures { λ r. ⌜ ((fs : List Signature) (ks : List Kind) → checkedRows r count first (now (kinds .exit)) (now (sizes .exit)) ≡ kindsOf (scopeWith fs ks m []) (typesOf parent count (fieldsAt (now (program .entry)) at to))) ⌝ }
     ensures { λ r. ⌜ PassesCount (now (program .entry)) at to count r ⌝ }
-    ensures { λ _. ⌜ Apart first count (now (kinds .entry)) (now (sizes .entry)) (now (kinds .exit)) (now (sizes .exit)) ⌝ }
+    ensures { λ r. ⌜ InUseBefore (first + count) registers to r (now (kinds .exit)) ⌝ }
+    ensures { λ _. ⌜ Apart (length (now (program .entry))) first count (now (kinds .entry)) (now (sizes .entry)) (now (kinds .exit)) (now (sizes .exit)) ⌝ }
 {
     let mut from = at;
     for j in 0..count {
         let row = first + j;
-        let r = typed_row(program, from, to, parent, m, row, kinds, sizes);
+        let r = typed_row(program, from, to, parent, m, row, registers, kinds, sizes);
         let Read::Upto(next) = r else {
             return r;
         };
@@ -241,15 +264,17 @@ pub fn register(
     count: usize,
     total: usize,
     most: usize,
-    kinds: &mut [u8],
+    kinds: &mut [u16],
     sizes: &mut [Size],
 ) -> Read
     requires { ⌜ (at + 3 ≤ next) × (next ≤ length (now program)) ⌝ }
     requires { ⌜ total ≤ most ⌝ }
     requires { ⌜ most ≤ furthest ⌝ }
-    requires { ⌜ OperandTable (now kinds) (now sizes) ⌝ }
+    requires { ⌜ length (now program) ≤ longestProgram ⌝ }
+    requires { ⌜ InUse 0 count at (now kinds) ⌝ }
+    requires { ⌜ OperandTable (length (now program)) (now kinds) (now sizes) ⌝ }
     ensures { λ r. ⌜ checkedRegister r ≡ registerIn at count total most (slice (at + 3) next (now (program .entry))) ⌝ }
-    ensures { λ r. ⌜ RegisterSet r kind count total most (now (kinds .entry)) (now (sizes .entry)) (now (kinds .exit)) (now (sizes .exit)) ⌝ }
+    ensures { λ r. ⌜ RegisterSet (length (now (program .entry))) next r kind count total most (now (kinds .entry)) (now (sizes .entry)) (now (kinds .exit)) (now (sizes .exit)) ⌝ }
 {
     let r = register_size(program, at, next, count, total, most);
     let Read::Upto(size) = r else {
@@ -257,9 +282,10 @@ pub fn register(
     };
     let mut f = [0i64; FORM_NUMBERS];
     forms::set_constant(&mut f, size as i64);
-    let mut short = [0i64; SIZE_NUMBERS];
+    let mut short = [0i32; SIZE_NUMBERS];
     forms::store(&mut short, &f);
-    kinds[count] = kinds::number(kind);
-    sizes[count] = short;
+    let own = size_row(at, count);
+    kinds[count] = row_number(kind, own);
+    sizes[own] = short;
     Read::Upto(size)
 }

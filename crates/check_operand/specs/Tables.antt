@@ -1,6 +1,6 @@
 -- The scope that the tables of operands and of loops stand for.
 use mathlib.Core.List.{List, [], _∷_}
-use Prim.Native.Nat.{ℕ, zero, suc, _+_, _≤_}
+use Prim.Native.Nat.{ℕ, zero, suc, _+_, _/_, _%_, _≤_, _<_}
 use lib.IntN.{ℤ}
 use lib.ListN.{length, getD}
 use Rattle.language.specs.Limits.{mostVariables, mostLoops}
@@ -20,12 +20,18 @@ kindIn Qubit f = qubit
 kindIn Quantum f = quantum f
 kindIn Classical f = classical f
 
--- a row of the table of operands: the number of a kind, and a size
-abbrev pub kindBy : ℕ → Form → Kind
-kindBy b f = kindIn (kindWith b) f
+-- a number in the table of operands stands for a kind and for the row of a size: it is four times that row, and the number of the kind
+unfoldable pub kindOfRow : ℕ → K.Kind
+kindOfRow number = kindWith (number % 4)
+
+unfoldable pub sizeOfRow : ℕ → ℕ
+sizeOfRow number = number / 4
+
+abbrev pub kindBy : ℕ → List (List ℤ) → Kind
+kindBy number sizes = kindIn (kindOfRow number) (asForm (widened (getD sizes (sizeOfRow number) [])))
 
 abbrev pub kindAt : ℕ → List ℕ → List (List ℤ) → Kind
-kindAt i kinds sizes = kindBy (getD kinds i 0) (asForm (widened (getD sizes i [])))
+kindAt i kinds sizes = kindBy (getD kinds i 0) sizes
 
 -- so many rows from a first one on
 unfoldable pub tabulated : {A : Type 0} → (ℕ → A) → (count first : ℕ) → List A
@@ -48,6 +54,7 @@ pub record TablesRight (s : Visible) (kinds : List ℕ) (sizes lows highs : List
   pub few : s .variables ≤ mostVariables
   pub nested : s .loops ≤ mostLoops
   pub kindRows : s .first + s .count ≤ length kinds
-  pub sizeRows : ShortRows sizes (length kinds)
+  pub sizeRows : ShortRows sizes (length sizes)
+  pub named : (j : ℕ) → sizeOfRow (getD kinds j 0) < length sizes
   pub lowRows : Rows lows mostLoops
   pub highRows : Rows highs mostLoops

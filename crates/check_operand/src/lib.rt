@@ -11,11 +11,10 @@ ghost use Rattle.language.specs.Read.{due, readOperand, readWhole, readElement}
 ghost use Rattle.language.specs.Form.{Form, built, differenceOf, _thenBuild_};
 ghost use Rattle.language.specs.Check.{Kind, Signature, elementSize, mustShow, wire, wholeFits, checkWithin, checkOperand};
 ghost use Rattle.language.specs.Limits.{allVariables};
-ghost use Rattle.kinds.specs.Numbers.{kindWith};
 ghost use Rattle.fields.specs.Header.{fieldsAt};
 ghost use Rattle.forms.specs.Flat.{formNumbers, Kept, Short, widened, asForm, builtOf};
 ghost use Rattle.forms.specs.Rows.{Rows, loopsOf};
-ghost use Rattle.check_operand.specs.Tables.{kindIn, TablesRight, scopeWith, scopeAt};
+ghost use Rattle.check_operand.specs.Tables.{kindIn, kindOfRow, sizeOfRow, TablesRight, scopeWith, scopeAt};
 ghost use Rattle.check_operand.specs.Operands.{checkedSize, wantedOf, SizeRight, oneWire, twoOperands};
 ghost use Rattle.check_index.specs.Answers.{checkedPart, EndsAt, Passes};
 use check_index::Read;
@@ -25,6 +24,9 @@ use forms::Form;
 use forms::Size;
 use forms::Verdict;
 use limits::DEEPEST;
+
+// A number in the table of operands stands for a kind and for the row of a size: it is so many times that row, and the number of the kind.
+pub const KINDS: u16 = 4;
 
 // What is in scope: how many families, the rows of the table of operands, and how many index variables and open loops.
 pub struct Visible {
@@ -43,10 +45,17 @@ pub enum Wanted {
 }
 
 // The kind that a number in the table of operands stands for.
-pub fn kind_by(number: u8) -> kinds::Kind
-    ensures { λ r. ⌜ r ≡ kindWith number ⌝ }
+pub fn kind_by(number: u16) -> kinds::Kind
+    ensures { λ r. ⌜ r ≡ kindOfRow number ⌝ }
 {
-    kinds::with_number(number as u16)
+    kinds::with_number(number % KINDS)
+}
+
+// The row of the size that a number in the table of operands stands for.
+pub fn size_by(number: u16) -> usize
+    ensures { λ r. ⌜ r ≡ sizeOfRow number ⌝ }
+{
+    fields::long(number / KINDS)
 }
 
 // Shows f, which is then of no use, to be 0 or more, for the field from `at` to `next`.
@@ -203,7 +212,7 @@ fn whole(
     wanted: Wanted,
     size: &Form,
     s: Visible,
-    kinds: &[u8],
+    kinds: &[u16],
     sizes: &[Size],
     lows: &[Form],
     highs: &[Form],
@@ -226,12 +235,14 @@ fn whole(
         return Read::Refused(4, at);
     }
     let row = s.first + n;
-    let kind = kind_by(kinds[row]);
+    let number = kinds[row];
+    let kind = kind_by(number);
+    let own = size_by(number);
     whole_fits(
         wanted,
         size,
         kind,
-        &sizes[row],
+        &sizes[own],
         at,
         next,
         s.variables,
@@ -249,7 +260,7 @@ fn element(
     wanted: Wanted,
     size: &Form,
     s: Visible,
-    kinds: &[u8],
+    kinds: &[u16],
     sizes: &[Size],
     lows: &[Form],
     highs: &[Form],
@@ -278,12 +289,14 @@ fn element(
     if end < next {
         return Read::Refused(4, at);
     }
-    let kind = kind_by(kinds[row]);
+    let number = kinds[row];
+    let kind = kind_by(number);
     let fits = element_kind(wanted, kind, at, next);
     let Read::Upto(_) = fits else {
         return fits;
     };
-    within(&f, &sizes[row], at, next, s.variables, s.loops, lows, highs)
+    let own = size_by(number);
+    within(&f, &sizes[own], at, next, s.variables, s.loops, lows, highs)
 }
 
 // The operand that is due at `at` in the field at `parent` whose content ends at `to`.
@@ -295,7 +308,7 @@ pub fn operand(
     wanted: Wanted,
     size: &Form,
     s: Visible,
-    kinds: &[u8],
+    kinds: &[u16],
     sizes: &[Size],
     lows: &[Form],
     highs: &[Form],
@@ -345,7 +358,7 @@ pub fn one_wire(
     at: usize,
     next: usize,
     s: Visible,
-    kinds: &[u8],
+    kinds: &[u16],
     sizes: &[Size],
     lows: &[Form],
     highs: &[Form],
@@ -386,7 +399,7 @@ pub fn two_operands(
     next: usize,
     second: Wanted,
     s: Visible,
-    kinds: &[u8],
+    kinds: &[u16],
     sizes: &[Size],
     lows: &[Form],
     highs: &[Form],
@@ -443,7 +456,7 @@ pub fn two_wires(
     at: usize,
     next: usize,
     s: Visible,
-    kinds: &[u8],
+    kinds: &[u16],
     sizes: &[Size],
     lows: &[Form],
     highs: &[Form],

@@ -27,7 +27,7 @@ use Rattle.check_index.specs.declared.Read.the-variants.{Upto, Refused}
 use Rattle.check_index.proofs.Read.{the-type}
 use Rattle.check_operand.proofs.Tables.{row-more, rows-same, length-rows}
 use Rattle.check_index.proofs.Answers.{not-first}
-use Rattle.check_declaration.specs.Types.{Apart, checkedRows}
+use Rattle.check_declaration.specs.Types.{InUse, InUseBefore, Apart, checkedRows}
 use Rattle.check_declaration.specs.Families.{firstIn, secondIn, countsIn, checkedCounts, BothRight}
 use Rattle.check_program.specs.Declarations.{familyIn, declaredIn, DeclaredRight, checkedStep}
 use Rattle.check_program.specs.declared.SoFar.{SoFar}
@@ -46,7 +46,7 @@ rows-then (Refused n p) count first kinds sizes = refl
 abbrev pub familyRows : SoFar → (m p : ℕ) → Visible
 familyRows t m p = record { families = t .families; first = t .rows; count = p; variables = m; loops = 0 }
 
-module _ (t : SoFar) (families : List (List ℕ)) (at m p : ℕ) (program : List ℕ) (from next : ℕ) {k₀ : List ℕ} {s₀ : List (List ℤ)} {k₁ : List ℕ} {s₁ : List (List ℤ)} (h : DeclaredRight t families k₀ s₀) (a : Apart (t .rows) p k₀ s₀ k₁ s₁)
+module _ (bytes : ℕ) (t : SoFar) (families : List (List ℕ)) (at m p : ℕ) (program : List ℕ) (from next : ℕ) {k₀ : List ℕ} {s₀ : List (List ℤ)} {k₁ : List ℕ} {s₁ : List (List ℤ)} (h : DeclaredRight bytes at t families k₀ s₀) (a : Apart bytes (t .rows) p k₀ s₀ k₁ s₁)
     (r : Read) (e : checkedRows r p (t .rows) k₁ s₁ ≡ kindsOf (familyScope (declaredIn t families k₀ s₀) m []) (typesOf at p (fieldsAt program from next))) where
   abbrev bodyAfter : List Kind → Checked (List Kind)
   bodyAfter ks = checkStatements (statementsBy outerStatement (drop p (fieldsAt program from next))) (familyScope (declaredIn t families k₀ s₀) m ks) >> good ks
@@ -61,7 +61,7 @@ module _ (t : SoFar) (families : List (List ℕ)) (at m p : ℕ) (program : List
 
   family-scope : (lows highs : List (List ℤ)) → scopeFull (familyRows t m p) families k₁ s₁ lows highs ≡ familyScope (declaredIn t families k₀ s₀) m (kindsAt p (t .rows) k₁ s₁)
   unfolding familyScope loopsOf
-  family-scope lows highs = ap (λ (fs : List Signature). record { families = fs; operands = kindsAt p (t .rows) k₁ s₁; variables = m; loops = [] }) (families-below t families h p a)
+  family-scope lows highs = ap (λ (fs : List Signature). record { families = fs; operands = kindsAt p (t .rows) k₁ s₁; variables = m; loops = [] }) (families-below bytes at t families h p a)
 
   pub body-goes : (mid : ℕ) → r ≡ Upto mid → Beyond program from next p mid → (o : Read) (lows highs : List (List ℤ))
       → checkedPart o ≡ checkStatements (statementsBy outerStatement (fieldsAt program mid next)) (scopeFull (familyRows t m p) families k₁ s₁ lows highs)
@@ -152,7 +152,7 @@ module _ (t : SoFar) (families : List (List ℕ)) (kinds : List ℕ) (sizes : Li
         by (Refused n q) o = absurd (let z : _≡_ {A = ℕ} 1 0 = o in omega arith)
 
 -- one family more
-module _ (t : SoFar) (families : List (List ℕ)) (m p : ℕ) {k₀ : List ℕ} {s₀ : List (List ℤ)} {k₁ : List ℕ} {s₁ : List (List ℤ)} (h : DeclaredRight t families k₀ s₀) (a : Apart (t .rows) p k₀ s₀ k₁ s₁) (room : t .families < mostFamilies) (few : m ≤ mostVariables) (some : p ≤ mostParameters) where
+module _ (bytes at next : ℕ) (t : SoFar) (families : List (List ℕ)) (m p : ℕ) {k₀ : List ℕ} {s₀ : List (List ℤ)} {k₁ : List ℕ} {s₁ : List (List ℤ)} (h : DeclaredRight bytes at t families k₀ s₀) (a : Apart bytes (t .rows) p k₀ s₀ k₁ s₁) (room : t .families < mostFamilies) (few : m ≤ mostVariables) where
   abbrev more : SoFar
   more = record { families = t .families + 1; rows = t .rows + p; registers = t .registers; qubits = t .qubits; bits = t .bits }
 
@@ -176,7 +176,7 @@ module _ (t : SoFar) (families : List (List ℕ)) (m p : ℕ) {k₀ : List ℕ} 
   signatures-more =
       row-more (signatureAt newFamilies k₁ s₁) (t .families) 0
       ∙ ap (λ (k : ℕ). tabulated (signatureAt newFamilies k₁ s₁) (t .families) 0 ++ (signatureAt newFamilies k₁ s₁ k ∷ [])) (zero-add (t .families))
-      ∙ (λ i. (earlier ∙ families-below t families h p a) i ++ (signed (own i) ∷ []))
+      ∙ (λ i. (earlier ∙ families-below bytes at t families h p a) i ++ (signed (own i) ∷ []))
     where
       earlier : tabulated (signatureAt newFamilies k₁ s₁) (t .families) 0 ≡ tabulated (signatureAt families k₁ s₁) (t .families) 0
       earlier = rows-same (signatureAt newFamilies k₁ s₁) (signatureAt families k₁ s₁) (t .families) 0 (λ k x y. ap signed (other k (omega arith)))
@@ -184,15 +184,14 @@ module _ (t : SoFar) (families : List (List ℕ)) (m p : ℕ) {k₀ : List ℕ} 
   pub with-family : declaredIn more newFamilies k₁ s₁ ≡ withFamily (declaredIn t families k₀ s₀) (record { variables = m; parameters = kindsAt p (t .rows) k₁ s₁ })
   unfolding withFamily
   with-family =
-      let x = h .registersFit in
+      let x = h .used .fewRegisters in
       let y = h .leastRows in
-      λ i. record { families = signatures-more i; registers = rows-below (t .rows) p (t .registers) 0 a (omega arith) i; qubits = t .qubits; bits = t .bits }
+      λ i. record { families = signatures-more i; registers = rows-below bytes (t .rows) p (t .registers) 0 a (omega arith) i; qubits = t .qubits; bits = t .bits }
 
-  pub holds-family : DeclaredRight more newFamilies k₁ s₁
-  holds-family =
+  pub holds-family : InUse (t .rows + p) (t .registers) next k₁ → DeclaredRight bytes next more newFamilies k₁ s₁
+  holds-family u =
       let x = h .leastRows in
-      let y = h .rowsFit in
-      record { table = a .table; long = length-set families (t .families) entry ∙ h .long; familiesFit = omega arith; registersFit = h .registersFit; qubitsFit = h .qubitsFit; bitsFit = h .bitsFit; leastRows = omega arith; rowsFit = omega arith; each = entered; behind = after }
+      record { short = h .short; table = a .table; used = u; long = length-set families (t .families) entry ∙ h .long; familiesFit = omega arith; qubitsFit = h .qubitsFit; bitsFit = h .bitsFit; leastRows = omega arith; each = entered; behind = after }
     where
       entered : (k : ℕ) → k < t .families + 1 → FamilyRight (getD newFamilies k []) (t .rows + p)
       entered k q = by (eqb k (t .families)) refl
@@ -215,3 +214,14 @@ module _ (t : SoFar) (families : List (List ℕ)) (m p : ℕ) {k₀ : List ℕ} 
 
 pub counts-right : (at next families : ℕ) (c : Counts) (m p : ℕ) → c ≡ Both m p → BothRight at next families c → BothRight at next families (Both m p)
 counts-right at next families c m p e h = rw e at h
+
+pub in-use-goes : (rows registers to : ℕ) (r : Read) (kinds : List ℕ) → OneOf (0 ∷ []) (tagOf the-type r) → InUseBefore rows registers to r kinds → InUse rows registers to kinds
+in-use-goes rows registers to (Upto n) kinds o u = u
+in-use-goes rows registers to (Refused n p) kinds o u = absurd (let z : _≡_ {A = ℕ} 1 0 = o in omega arith)
+
+pub before-upto : (rows registers to n : ℕ) (r : Read) (kinds : List ℕ) → r ≡ Upto n → InUseBefore rows registers to r kinds → InUse rows registers to kinds
+before-upto rows registers to n r kinds e u = rw e at u
+
+pub before-kept : (rows registers to : ℕ) (r : Read) (kinds : List ℕ) → InUse rows registers to kinds → InUseBefore rows registers to r kinds
+before-kept rows registers to (Upto n) kinds u = u
+before-kept rows registers to (Refused n p) kinds u = tt

@@ -58,15 +58,15 @@ module _ (t : SoFar) (families : List (List ℕ)) (kinds : List ℕ) (sizes : Li
     creg-stops n q k₁ s₁ u e = number-stops r n q _ (withBits now) u e ∙ sym creg-meant
 
 -- one register more
-module _ (t : SoFar) (families : List (List ℕ)) (n : ℕ) (kind : Kind) (total most : ℕ) {k₀ : List ℕ} {s₀ : List (List ℤ)} {k₁ : List ℕ} {s₁ : List (List ℤ)} (h : DeclaredRight t families k₀ s₀) (r : RegisterRow n kind (t .registers) total most k₀ s₀ k₁ s₁) where
+module _ (bytes at next : ℕ) (t : SoFar) (families : List (List ℕ)) (n : ℕ) (kind : Kind) (total most : ℕ) {k₀ : List ℕ} {s₀ : List (List ℤ)} {k₁ : List ℕ} {s₁ : List (List ℤ)} (h : DeclaredRight bytes at t families k₀ s₀) (r : RegisterRow bytes next n kind (t .registers) total most k₀ s₀ k₁ s₁) where
   families-same : tabulated (signatureAt families k₁ s₁) (t .families) 0 ≡ tabulated (signatureAt families k₀ s₀) (t .families) 0
-  families-same = families-above t families h (t .registers) (r .room) (r .apart)
+  families-same = families-above bytes at t families h (t .registers) (r .room) (r .apart)
 
   registers-more : kindsAt (t .registers + 1) 0 k₁ s₁ ≡ (kindsAt (t .registers) 0 k₀ s₀ ++ (kindIn kind (constantForm (pos n)) ∷ []))
   registers-more =
       row-more (λ j. kindAt j k₁ s₁) (t .registers) 0
       ∙ ap (λ (k : ℕ). kindsAt (t .registers) 0 k₁ s₁ ++ (kindAt k k₁ s₁ ∷ [])) (zero-add (t .registers))
-      ∙ (λ i. rows-below (t .registers) 1 (t .registers) 0 (r .apart) (omega arith) i ++ (r .row i ∷ []))
+      ∙ (λ i. rows-below bytes (t .registers) 1 (t .registers) 0 (r .apart) (omega arith) i ++ (r .row i ∷ []))
 
   pub with-qubits : kind ≡ Quantum → declaredIn (record { families = t .families; rows = t .rows; registers = t .registers + 1; qubits = t .qubits + n; bits = t .bits }) families k₁ s₁ ≡ withQubits (declaredIn t families k₀ s₀) n
   unfolding withQubits kindIn
@@ -80,21 +80,20 @@ module _ (t : SoFar) (families : List (List ℕ)) (n : ℕ) (kind : Kind) (total
       (λ i. record { families = families-same i; registers = registers-more i; qubits = t .qubits; bits = t .bits + n })
       ∙ ap (λ (k : Kind). record { families = tabulated (signatureAt families k₀ s₀) (t .families) 0; registers = kindsAt (t .registers) 0 k₀ s₀ ++ (kindIn k (constantForm (pos n)) ∷ []); qubits = t .qubits; bits = t .bits + n }) e
 
-  pub holds-register : (q b : ℕ) → q ≤ mostWires → b ≤ mostBits → DeclaredRight (record { families = t .families; rows = t .rows; registers = t .registers + 1; qubits = q; bits = b }) families k₁ s₁
-  holds-register q b x y =
-      let z = r .room in
-      record { table = r .apart .table; long = h .long; familiesFit = h .familiesFit; registersFit = omega arith; qubitsFit = x; bitsFit = y; leastRows = h .leastRows; rowsFit = h .rowsFit; each = h .each; behind = h .behind }
+  pub holds-register : (q b : ℕ) → at ≤ next → q ≤ mostWires → b ≤ mostBits → DeclaredRight bytes next (record { families = t .families; rows = t .rows; registers = t .registers + 1; qubits = q; bits = b }) families k₁ s₁
+  holds-register q b j x y =
+      record { short = h .short; table = r .apart .table; used = r .used (t .rows) (omega (arith, h .used .few)); long = h .long; familiesFit = h .familiesFit; qubitsFit = x; bitsFit = y; leastRows = h .leastRows; each = h .each; behind = h .behind }
 
-module _ (t : SoFar) (families : List (List ℕ)) (k₀ : List ℕ) (s₀ : List (List ℤ)) (at : ℕ) (content : List ℕ) (r : Read) (n : ℕ) (u : r ≡ Upto n) (h : DeclaredRight t families k₀ s₀) where
-  pub register-row : (kind : Kind) (count total most : ℕ) (k₁ : List ℕ) (s₁ : List (List ℤ)) → RegisterSet r kind count total most k₀ s₀ k₁ s₁ → RegisterRow n kind count total most k₀ s₀ k₁ s₁
+module _ (t : SoFar) (families : List (List ℕ)) (k₀ : List ℕ) (s₀ : List (List ℤ)) (bytes next at : ℕ) (content : List ℕ) (r : Read) (n : ℕ) (u : r ≡ Upto n) (h : DeclaredRight bytes at t families k₀ s₀) where
+  pub register-row : (kind : Kind) (count total most : ℕ) (k₁ : List ℕ) (s₁ : List (List ℤ)) → RegisterSet bytes next r kind count total most k₀ s₀ k₁ s₁ → RegisterRow bytes next n kind count total most k₀ s₀ k₁ s₁
   register-row kind count total most k₁ s₁ s = rw u at s
 
-  pub qreg-goes : {k₁ : List ℕ} {s₁ : List (List ℤ)} → RegisterRow n Quantum (t .registers) (t .qubits) mostWires k₀ s₀ k₁ s₁ → checkedRegister r ≡ registerIn at (t .registers) (t .qubits) mostWires content
+  pub qreg-goes : {k₁ : List ℕ} {s₁ : List (List ℤ)} → RegisterRow bytes next n Quantum (t .registers) (t .qubits) mostWires k₀ s₀ k₁ s₁ → checkedRegister r ≡ registerIn at (t .registers) (t .qubits) mostWires content
       → checkedStep (Going (record { families = t .families; rows = t .rows; registers = t .registers + 1; qubits = t .qubits + n; bits = t .bits })) families k₁ s₁ ≡ checkTop (readRegister qreg at content) (declaredIn t families k₀ s₀)
   unfolding checkedStep
-  qreg-goes s e = ap good (with-qubits t families n Quantum (t .qubits) mostWires h s refl) ∙ number-goes r n _ (withQubits (declaredIn t families k₀ s₀)) u e ∙ sym (qreg-meant t families k₀ s₀ at content)
+  qreg-goes s e = ap good (with-qubits bytes at next t families n Quantum (t .qubits) mostWires h s refl) ∙ number-goes r n _ (withQubits (declaredIn t families k₀ s₀)) u e ∙ sym (qreg-meant t families k₀ s₀ at content)
 
-  pub creg-goes : {k₁ : List ℕ} {s₁ : List (List ℤ)} → RegisterRow n Classical (t .registers) (t .bits) mostBits k₀ s₀ k₁ s₁ → checkedRegister r ≡ registerIn at (t .registers) (t .bits) mostBits content
+  pub creg-goes : {k₁ : List ℕ} {s₁ : List (List ℤ)} → RegisterRow bytes next n Classical (t .registers) (t .bits) mostBits k₀ s₀ k₁ s₁ → checkedRegister r ≡ registerIn at (t .registers) (t .bits) mostBits content
       → checkedStep (Going (record { families = t .families; rows = t .rows; registers = t .registers + 1; qubits = t .qubits; bits = t .bits + n })) families k₁ s₁ ≡ checkTop (readRegister creg at content) (declaredIn t families k₀ s₀)
   unfolding checkedStep
-  creg-goes s e = ap good (with-bits t families n Classical (t .bits) mostBits h s refl) ∙ number-goes r n _ (withBits (declaredIn t families k₀ s₀)) u e ∙ sym (creg-meant t families k₀ s₀ at content)
+  creg-goes s e = ap good (with-bits bytes at next t families n Classical (t .bits) mostBits h s refl) ∙ number-goes r n _ (withBits (declaredIn t families k₀ s₀)) u e ∙ sym (creg-meant t families k₀ s₀ at content)

@@ -1,16 +1,17 @@
 -- The fields at the top, one after the other. Assumes nothing.
 use mathlib.Core.Path.{_≡_, refl, sym, ap, _∙_}
 use mathlib.Core.List.{List, [], _∷_, map}
-use Prim.Native.Nat.{ℕ, _+_, _≤_, _<_}
+use Prim.Native.Nat.{ℕ, zero, suc, _+_, _*_, _≤_, _<_}
 use native.Mathlib.Omega.{arith}
 use lib.IntN.{ℤ, pos}
-use lib.ListN.{length, replicate, length-replicate, getD-replicate}
+use lib.ListN.{length, getD, replicate, length-replicate, getD-replicate}
 use lib.Seq.{slice, take-length}
 use borrow.Author.Tests.{le-leb, lt-leb}
 use types.Run.{OneOf}
 use denote.Enum.Declared.{tagOf}
-use Rattle.language.specs.Limits.{mostFamilies, longestProgram}
-use Rattle.check_declaration.specs.Types.{tableRows}
+use Rattle.language.specs.Limits.{mostFamilies, mostRegisters, longestProgram}
+use Rattle.check_declaration.specs.Types.{sizeRow}
+use Rattle.check_declaration.proofs.Tables.{in-use-later}
 use Rattle.language.specs.Read.{Field, field, badHeader, fields, choose, readFamily, readRegister, readTop, read}
 use Rattle.language.specs.Check.{Checked, _>>=_, _>>_, require, Declared, checkTop, checkTops, check}
 use Rattle.language.specs.Tree.{qreg, creg}
@@ -18,7 +19,7 @@ use Rattle.language.specs.Result.{verdict, checkProgram, checkResult}
 use Rattle.language.specs.Form.{inRange, allInRange}
 use Rattle.fields.specs.Header.{fieldsAt}
 use Rattle.fields.proofs.Headers.{Wholly}
-use Rattle.check_operand.specs.Tables.{tabulated}
+use Rattle.check_operand.specs.Tables.{sizeOfRow, tabulated}
 use Rattle.check_statement.specs.Statements.{checkedDeclared}
 use Rattle.check_index.specs.declared.Read.{Read}
 use Rattle.check_index.specs.declared.Read.the-variants.{Upto, Refused}
@@ -81,28 +82,51 @@ module _ (program : List ℕ) (at to : ℕ) (d : Declared) where
     unfolding checkedStep _>>=_
     tops-go t u = tops-next ∙ ap (λ (x : Step). checkedStep x families kinds sizes >>= topsAt program next to) u
 
-pub step-holds : (s : Step) (t : SoFar) (families : List (List ℕ)) (kinds : List ℕ) (sizes : List (List ℤ)) → s ≡ Going t → StepRight s families kinds sizes → DeclaredRight t families kinds sizes
-step-holds s t families kinds sizes e h = rw e at h
+pub step-holds : (bytes next : ℕ) (s : Step) (t : SoFar) (families : List (List ℕ)) (kinds : List ℕ) (sizes : List (List ℤ)) → s ≡ Going t → StepRight bytes next s families kinds sizes → DeclaredRight bytes next t families kinds sizes
+step-holds bytes next s t families kinds sizes e h = rw e at h
 
 pub tops-all : (program : List ℕ) (families : List (List ℕ)) (kinds : List ℕ) (sizes : List (List ℤ)) → check (read program) ≡ topsAt program 0 (length program) (declaredIn noneSoFar families kinds sizes)
 unfolding check read fieldsAt tabulated
 tops-all program families kinds sizes = sym (ap (λ (l : List ℕ). checkTops (map readTop (fields 0 l)) (declaredIn noneSoFar families kinds sizes)) (take-length program))
 
-pub zeros-hold : DeclaredRight noneSoFar (replicate mostFamilies (replicate 3 0)) (replicate tableRows 0) (replicate tableRows (replicate 5 (pos 0)))
-unfolding inRange allInRange
-zeros-hold = record {
+-- what is declared before a place is declared before a later one
+pub declared-later : (bytes at to : ℕ) (t : SoFar) (families : List (List ℕ)) (kinds : List ℕ) (sizes : List (List ℤ)) → at ≤ to → DeclaredRight bytes at t families kinds sizes → DeclaredRight bytes to t families kinds sizes
+declared-later bytes at to t families kinds sizes k h = record {
+  short = h .short;
+  table = h .table;
+  used = in-use-later (t .rows) (t .rows) (t .registers) at to kinds (h .used) k (omega (arith, h .used .few));
+  long = h .long;
+  familiesFit = h .familiesFit;
+  qubitsFit = h .qubitsFit;
+  bitsFit = h .bitsFit;
+  leastRows = h .leastRows;
+  each = h .each;
+  behind = h .behind;
+}
+
+-- every number of a table of zeros is 0
+getD-zeros : (n j : ℕ) → _≡_ {A = ℕ} (getD (replicate n 0) j 0) 0
+getD-zeros zero j = refl
+getD-zeros (suc n) zero = refl
+getD-zeros (suc n) (suc j) = getD-zeros n j
+
+-- nothing is declared in tables of zeros that are long enough
+pub zeros-hold : (bytes rows named : ℕ) → bytes ≤ longestProgram → 3 * mostRegisters + bytes ≤ 3 * rows → sizeRow bytes mostRegisters < named
+    → DeclaredRight bytes 0 noneSoFar (replicate mostFamilies (replicate 3 0)) (replicate rows 0) (replicate named (replicate 5 (pos 0)))
+unfolding inRange allInRange sizeOfRow
+zeros-hold bytes rows named s k n = record {
+  short = s;
   table = record {
-    kindsLong = length-replicate {A = ℕ} tableRows 0;
-    sizesLong = length-replicate tableRows (replicate 5 (pos 0));
-    sizeRows = record { enough = omega (arith, length-replicate tableRows (replicate 5 (pos 0))); each = λ i h. rw (getD-replicate tableRows i (replicate 5 (pos 0)) [] h) (record { long = refl; inside = refl }) };
+    kindsLong = omega (arith, length-replicate {A = ℕ} rows 0);
+    sizesLong = omega (arith, length-replicate named (replicate 5 (pos 0)));
+    sizeRows = record { enough = omega arith; each = λ i h. rw (getD-replicate named i (replicate 5 (pos 0)) [] (omega (arith, length-replicate named (replicate 5 (pos 0))))) (record { long = refl; inside = refl }) };
   };
+  used = record { few = omega arith; fewRegisters = omega arith; named = λ j. rw (getD-zeros rows j) (omega arith) };
   long = length-replicate {A = List ℕ} mostFamilies (replicate 3 0);
   familiesFit = omega arith;
-  registersFit = omega arith;
   qubitsFit = omega arith;
   bitsFit = omega arith;
   leastRows = omega arith;
-  rowsFit = omega arith;
   each = λ k h. absurd (omega arith);
   behind = λ k h. absurd (omega arith);
 }

@@ -1,10 +1,10 @@
 -- What the tables say is declared.
 use mathlib.Core.Path.{_≡_}
 use mathlib.Core.List.{List, []}
-use Prim.Native.Nat.{ℕ, _+_, _*_, _≤_, _<_}
+use Prim.Native.Nat.{ℕ, _≤_, _<_}
 use lib.IntN.{ℤ}
 use lib.ListN.{length, getD, drop}
-use Rattle.language.specs.Limits.{mostFamilies, mostRegisters, mostWires, mostBits, mostParameters}
+use Rattle.language.specs.Limits.{longestProgram, mostFamilies, mostRegisters, mostWires, mostBits}
 use Rattle.language.specs.Tree.{Place}
 use Rattle.language.specs.Read.{Field, typesOf, statementsBy, outerStatement}
 use Rattle.language.specs.Check.{Checked, good, refused, Kind, Declared, checkFamily}
@@ -13,23 +13,27 @@ use Rattle.check_call.specs.Calls.{signatureAt, FamilyRight}
 use Rattle.check_program.specs.declared.SoFar.{SoFar}
 use Rattle.check_program.specs.declared.Step.{Step}
 use Rattle.check_program.specs.declared.Step.the-variants.{Going, Stopped}
-use Rattle.check_declaration.specs.Types.{OperandTable}
+use Rattle.check_declaration.specs.Types.{OperandTable, InUse}
+
+-- bytes of a program that is short
+abbrev pub shortProgram : ℕ
+shortProgram = 4_096
 
 -- what the tables say is declared
 abbrev pub declaredIn : SoFar → List (List ℕ) → List ℕ → List (List ℤ) → Declared
 declaredIn t families kinds sizes = record
     { families = tabulated (signatureAt families kinds sizes) (t .families) 0; registers = kindsAt (t .registers) 0 kinds sizes; qubits = t .qubits; bits = t .bits }
 
--- what the tables hold is right: rows of parameters stand behind those of registers
-pub record DeclaredRight (t : SoFar) (families : List (List ℕ)) (kinds : List ℕ) (sizes : List (List ℤ)) : Type 0 where
-  pub table : OperandTable kinds sizes
+-- what the tables hold before a place of a program of so many bytes is right: rows of parameters stand behind those of registers
+pub record DeclaredRight (bytes at : ℕ) (t : SoFar) (families : List (List ℕ)) (kinds : List ℕ) (sizes : List (List ℤ)) : Type 0 where
+  pub short : bytes ≤ longestProgram
+  pub table : OperandTable bytes kinds sizes
+  pub used : InUse (t .rows) (t .registers) at kinds
   pub long : length families ≡ mostFamilies
   pub familiesFit : t .families ≤ mostFamilies
-  pub registersFit : t .registers ≤ mostRegisters
   pub qubitsFit : t .qubits ≤ mostWires
   pub bitsFit : t .bits ≤ mostBits
   pub leastRows : mostRegisters ≤ t .rows
-  pub rowsFit : t .rows ≤ mostRegisters + mostParameters * t .families
   pub each : (k : ℕ) → k < t .families → FamilyRight (getD families k []) (t .rows)
   pub behind : (k : ℕ) → k < t .families → mostRegisters ≤ getD (getD families k []) 2 0
 
@@ -41,9 +45,9 @@ unfoldable pub checkedStep : Step → List (List ℕ) → List ℕ → List (Lis
 checkedStep (Going t) families kinds sizes = good (declaredIn t families kinds sizes)
 checkedStep (Stopped n p) families kinds sizes = refused n p
 
-abbrev pub StepRight : Step → List (List ℕ) → List ℕ → List (List ℤ) → Type 0
-StepRight (Going t) families kinds sizes = DeclaredRight t families kinds sizes
-StepRight (Stopped n p) families kinds sizes = Unit {0}
+abbrev pub StepRight : (bytes next : ℕ) → Step → List (List ℕ) → List ℕ → List (List ℤ) → Type 0
+StepRight bytes next (Going t) families kinds sizes = DeclaredRight bytes next t families kinds sizes
+StepRight bytes next (Stopped n p) families kinds sizes = Unit {0}
 
 -- the kinds of the parameters of the family at q with these fields, of m index variables and n parameters
 abbrev pub familyIn : Declared → Place → (m n : ℕ) → List Field → Checked (List Kind)

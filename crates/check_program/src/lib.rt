@@ -7,14 +7,13 @@ ghost use Rattle.language.specs.Read.{field, readTop, readFamily, readRegister,
 ghost use Rattle.language.specs.Check.{checkTop, check};
 ghost use Rattle.language.specs.Tree.{qreg, creg};
 ghost use Rattle.language.specs.Result.{verdict, checkResult};
-ghost use Rattle.language.specs.Limits.{mostFamilies, mostVariables, mostParameters};
+ghost use Rattle.language.specs.Limits.{longestProgram, mostFamilies, mostVariables, mostParameters};
 ghost use Rattle.fields.specs.Header.{fieldsAt};
-ghost use Rattle.check_declaration.specs.Types.{Apart, checkedRows};
-ghost use Rattle.check_program.specs.Declarations.{familyIn, declaredIn, DeclaredRight, checkedStep, StepRight, noneSoFar};
+ghost use Rattle.check_declaration.specs.Types.{InUseBefore, Apart, checkedRows};
+ghost use Rattle.check_program.specs.Declarations.{shortProgram, familyIn, declaredIn, DeclaredRight, checkedStep, StepRight, noneSoFar};
 ghost use Rattle.check_program.specs.Answers.{resultTold};
 use check_call::FamilyRow;
 use check_declaration::Counts;
-use check_declaration::TABLE_ROWS;
 use check_index::Read;
 use check_operand::Visible;
 use fields::Header;
@@ -28,6 +27,19 @@ use limits::MOST_FAMILIES;
 use limits::MOST_LOOPS;
 use limits::MOST_REGISTERS;
 use limits::MOST_WIRES;
+
+// Bytes of a program that is short.
+const SHORT_PROGRAM: usize = 4_096;
+
+// The rows of the tables of operands and of sizes, by what so many bytes can declare: a row for each register and one for each type, which
+// takes 3 bytes at least; and a size for each register and for each type that has one, which takes 7 bytes at least.
+const SHORT_ROWS: usize = MOST_REGISTERS + SHORT_PROGRAM / 3 + 1;
+
+const SHORT_SIZES: usize = (SHORT_PROGRAM + 2 * MOST_REGISTERS) / 7 + 2;
+
+const MOST_ROWS: usize = MOST_REGISTERS + LONGEST_PROGRAM / 3;
+
+const MOST_SIZES: usize = (LONGEST_PROGRAM + 2 * MOST_REGISTERS) / 7 + 2;
 
 // How much is declared so far: families, registers, qubits and bits; and how many rows of the table of operands are in use.
 pub struct SoFar {
@@ -59,16 +71,17 @@ fn family_body(
     parameters: usize,
     t: SoFar,
     families: &[FamilyRow],
-    kinds: &mut [u8],
+    kinds: &mut [u16],
     sizes: &mut [Size],
 ) -> Read
     requires { ⌜ (at + 5 ≤ next) × (next ≤ length (now program)) ⌝ }
     requires { ⌜ m ≤ mostVariables ⌝ }
     requires { ⌜ parameters ≤ mostParameters ⌝ }
     requires { ⌜ t .families < mostFamilies ⌝ }
-    requires { ⌜ DeclaredRight t (now families) (now kinds) (now sizes) ⌝ }
+    requires { ⌜ DeclaredRight (length (now program)) at t (now families) (now kinds) (now sizes) ⌝ }
     ensures { λ r. ⌜ checkedRows r parameters (t .rows) (now (kinds .exit)) (now (sizes .exit)) ≡ familyIn (declaredIn t (now (families .entry)) (now (kinds .entry)) (now (sizes .entry))) at m parameters (fieldsAt (now (program .entry)) (at + 5) next) ⌝ }
-    ensures { λ _. ⌜ Apart (t .rows) parameters (now (kinds .entry)) (now (sizes .entry)) (now (kinds .exit)) (now (sizes .exit)) ⌝ }
+    ensures { λ r. ⌜ InUseBefore (t .rows + parameters) (t .registers) next r (now (kinds .exit)) ⌝ }
+    ensures { λ _. ⌜ Apart (length (now (program .entry))) (t .rows) parameters (now (kinds .entry)) (now (sizes .entry)) (now (kinds .exit)) (now (sizes .exit)) ⌝ }
 {
     let from = at + 5;
     let first = t.rows;
@@ -80,6 +93,7 @@ fn family_body(
         m,
         parameters,
         first,
+        t.registers,
         kinds,
         sizes,
     );
@@ -115,13 +129,13 @@ fn family(
     next: usize,
     t: SoFar,
     families: &mut [FamilyRow],
-    kinds: &mut [u8],
+    kinds: &mut [u16],
     sizes: &mut [Size],
 ) -> Step
     requires { ⌜ (at + 3 ≤ next) × (next ≤ length (now program)) ⌝ }
-    requires { ⌜ DeclaredRight t (now families) (now kinds) (now sizes) ⌝ }
+    requires { ⌜ DeclaredRight (length (now program)) at t (now families) (now kinds) (now sizes) ⌝ }
     ensures { λ r. ⌜ checkedStep r (now (families .exit)) (now (kinds .exit)) (now (sizes .exit)) ≡ checkTop (readFamily at (slice (at + 3) next (now (program .entry)))) (declaredIn t (now (families .entry)) (now (kinds .entry)) (now (sizes .entry))) ⌝ }
-    ensures { λ r. ⌜ StepRight r (now (families .exit)) (now (kinds .exit)) (now (sizes .exit)) ⌝ }
+    ensures { λ r. ⌜ StepRight (length (now (program .entry))) next r (now (families .exit)) (now (kinds .exit)) (now (sizes .exit)) ⌝ }
 {
     let n = t.families;
     match check_declaration::family_counts(program, at, next, n) {
@@ -131,7 +145,7 @@ fn family(
             match family_body(program, at, next, m, parameters, t, families, kinds, sizes) {
                 Read::Refused(k, q) => Step::Stopped(k, q),
                 Read::Upto(_) => {
-                    let entry = [m, parameters, first];
+                    let entry = [m as u16, parameters as u16, first as u16];
                     families[n] = entry;
                     let after = n + 1;
                     let rows = first + parameters;
@@ -155,13 +169,13 @@ fn quantum_register(
     next: usize,
     t: SoFar,
     families: &[FamilyRow],
-    kinds: &mut [u8],
+    kinds: &mut [u16],
     sizes: &mut [Size],
 ) -> Step
     requires { ⌜ (at + 3 ≤ next) × (next ≤ length (now program)) ⌝ }
-    requires { ⌜ DeclaredRight t (now families) (now kinds) (now sizes) ⌝ }
+    requires { ⌜ DeclaredRight (length (now program)) at t (now families) (now kinds) (now sizes) ⌝ }
     ensures { λ r. ⌜ checkedStep r (now (families .entry)) (now (kinds .exit)) (now (sizes .exit)) ≡ checkTop (readRegister qreg at (slice (at + 3) next (now (program .entry)))) (declaredIn t (now (families .entry)) (now (kinds .entry)) (now (sizes .entry))) ⌝ }
-    ensures { λ r. ⌜ StepRight r (now (families .entry)) (now (kinds .exit)) (now (sizes .exit)) ⌝ }
+    ensures { λ r. ⌜ StepRight (length (now (program .entry))) next r (now (families .entry)) (now (kinds .exit)) (now (sizes .exit)) ⌝ }
 {
     let n = t.registers;
     let total = t.qubits;
@@ -198,13 +212,13 @@ fn classical_register(
     next: usize,
     t: SoFar,
     families: &[FamilyRow],
-    kinds: &mut [u8],
+    kinds: &mut [u16],
     sizes: &mut [Size],
 ) -> Step
     requires { ⌜ (at + 3 ≤ next) × (next ≤ length (now program)) ⌝ }
-    requires { ⌜ DeclaredRight t (now families) (now kinds) (now sizes) ⌝ }
+    requires { ⌜ DeclaredRight (length (now program)) at t (now families) (now kinds) (now sizes) ⌝ }
     ensures { λ r. ⌜ checkedStep r (now (families .entry)) (now (kinds .exit)) (now (sizes .exit)) ≡ checkTop (readRegister creg at (slice (at + 3) next (now (program .entry)))) (declaredIn t (now (families .entry)) (now (kinds .entry)) (now (sizes .entry))) ⌝ }
-    ensures { λ r. ⌜ StepRight r (now (families .entry)) (now (kinds .exit)) (now (sizes .exit)) ⌝ }
+    ensures { λ r. ⌜ StepRight (length (now (program .entry))) next r (now (families .entry)) (now (kinds .exit)) (now (sizes .exit)) ⌝ }
 {
     let n = t.registers;
     let total = t.bits;
@@ -242,14 +256,14 @@ fn top_action(
     tag: u8,
     t: SoFar,
     families: &[FamilyRow],
-    kinds: &[u8],
+    kinds: &[u16],
     sizes: &[Size],
 ) -> Step
     requires { ⌜ (at + 3 ≤ next) × (next ≤ length (now program)) ⌝ }
-    requires { ⌜ DeclaredRight t (now families) (now kinds) (now sizes) ⌝ }
+    requires { ⌜ DeclaredRight (length (now program)) at t (now families) (now kinds) (now sizes) ⌝ }
     requires { ⌜ (tag ≡ 1 → ⊥) × (tag ≡ 2 → ⊥) × (tag ≡ 3 → ⊥) ⌝ }
     ensures { λ r. ⌜ checkedStep r (now (families .entry)) (now (kinds .entry)) (now (sizes .entry)) ≡ checkTop (readTop (field at tag (slice (at + 3) next (now (program .entry))))) (declaredIn t (now (families .entry)) (now (kinds .entry)) (now (sizes .entry))) ⌝ }
-    ensures { λ r. ⌜ StepRight r (now (families .entry)) (now (kinds .entry)) (now (sizes .entry)) ⌝ }
+    ensures { λ r. ⌜ StepRight (length (now (program .entry))) next r (now (families .entry)) (now (kinds .entry)) (now (sizes .entry)) ⌝ }
 {
     let s = Visible {
         families: t.families,
@@ -284,13 +298,13 @@ fn top_field(
     tag: u8,
     t: SoFar,
     families: &mut [FamilyRow],
-    kinds: &mut [u8],
+    kinds: &mut [u16],
     sizes: &mut [Size],
 ) -> Step
     requires { ⌜ (at + 3 ≤ next) × (next ≤ length (now program)) ⌝ }
-    requires { ⌜ DeclaredRight t (now families) (now kinds) (now sizes) ⌝ }
+    requires { ⌜ DeclaredRight (length (now program)) at t (now families) (now kinds) (now sizes) ⌝ }
     ensures { λ r. ⌜ checkedStep r (now (families .exit)) (now (kinds .exit)) (now (sizes .exit)) ≡ checkTop (readTop (field at tag (slice (at + 3) next (now (program .entry))))) (declaredIn t (now (families .entry)) (now (kinds .entry)) (now (sizes .entry))) ⌝ }
-    ensures { λ r. ⌜ StepRight r (now (families .exit)) (now (kinds .exit)) (now (sizes .exit)) ⌝ }
+    ensures { λ r. ⌜ StepRight (length (now (program .entry))) next r (now (families .exit)) (now (kinds .exit)) (now (sizes .exit)) ⌝ }
 {
     match tag {
         1 => family(program, at, next, t, families, kinds, sizes),
@@ -304,10 +318,10 @@ fn top_field(
 fn top_fields(
     program: &[u8],
     families: &mut [FamilyRow],
-    kinds: &mut [u8],
+    kinds: &mut [u16],
     sizes: &mut [Size],
 ) -> Outcome
-    requires { ⌜ DeclaredRight noneSoFar (now families) (now kinds) (now sizes) ⌝ }
+    requires { ⌜ DeclaredRight (length (now program)) 0 noneSoFar (now families) (now kinds) (now sizes) ⌝ }
     ensures { λ r. ⌜ resultTold r ≡ verdict (check (read (now (program .entry)))) ⌝ }
 {
     let to = program.len();
@@ -337,6 +351,28 @@ fn top_fields(
     }
 }
 
+// The check of a program that is short: its tables are small, so that they are cleared in less time.
+fn check_short(program: &[u8]) -> Outcome
+    requires { ⌜ length (now program) ≤ shortProgram ⌝ }
+    ensures { λ r. ⌜ resultTold r ≡ verdict (check (read (now (program .entry)))) ⌝ }
+{
+    let mut families = [[0u16; 3]; MOST_FAMILIES];
+    let mut kinds = [0u16; SHORT_ROWS];
+    let mut sizes = [[0i32; SIZE_NUMBERS]; SHORT_SIZES];
+    top_fields(program, &mut families, &mut kinds, &mut sizes)
+}
+
+// The check of any program within the limit.
+fn check_long(program: &[u8]) -> Outcome
+    requires { ⌜ length (now program) ≤ longestProgram ⌝ }
+    ensures { λ r. ⌜ resultTold r ≡ verdict (check (read (now (program .entry)))) ⌝ }
+{
+    let mut families = [[0u16; 3]; MOST_FAMILIES];
+    let mut kinds = [0u16; MOST_ROWS];
+    let mut sizes = [[0i32; SIZE_NUMBERS]; MOST_SIZES];
+    top_fields(program, &mut families, &mut kinds, &mut sizes)
+}
+
 // The check of a program.
 pub fn check_program(program: &[u8]) -> Outcome
     ensures { λ r. ⌜ resultTold r ≡ checkResult (now (program .entry)) ⌝ }
@@ -344,8 +380,8 @@ pub fn check_program(program: &[u8]) -> Outcome
     if LONGEST_PROGRAM < program.len() {
         return Outcome::Turned(1, 0);
     }
-    let mut families = [[0usize; 3]; MOST_FAMILIES];
-    let mut kinds = [0u8; TABLE_ROWS];
-    let mut sizes = [[0i64; SIZE_NUMBERS]; TABLE_ROWS];
-    top_fields(program, &mut families, &mut kinds, &mut sizes)
+    if program.len() <= SHORT_PROGRAM {
+        return check_short(program);
+    }
+    check_long(program)
 }

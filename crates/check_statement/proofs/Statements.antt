@@ -24,11 +24,11 @@ module _ (p tag : ℕ) (content : List ℕ) where
   pub deep-below : tag < 32 → badStatement 3 p ≡ deepStatement (field p tag content)
   deep-below h = deep-by false (rw (lt-leb 32 tag h))
 
-  pub deep-above : 38 < tag → badStatement 3 p ≡ deepStatement (field p tag content)
-  deep-above h = deep-by false (rw (le-leb 32 tag (omega arith), lt-leb tag 38 h))
+  pub deep-above : 39 < tag → badStatement 3 p ≡ deepStatement (field p tag content)
+  deep-above h = deep-by false (rw (le-leb 32 tag (omega arith), lt-leb tag 39 h))
 
-  pub deep-statement : 32 ≤ tag → tag ≤ 38 → badStatement 5 p ≡ deepStatement (field p tag content)
-  deep-statement h k = deep-by true (rw (le-leb 32 tag h, le-leb tag 38 k))
+  pub deep-statement : 32 ≤ tag → tag ≤ 39 → badStatement 5 p ≡ deepStatement (field p tag content)
+  deep-statement h k = deep-by true (rw (le-leb 32 tag h, le-leb tag 39 k))
 
 module _ (levels at tag next : ℕ) (program : List ℕ) (s : C.Scope) where
   abbrev pub stated : Checked (Unit {0})
@@ -39,15 +39,15 @@ module _ (levels at tag next : ℕ) (program : List ℕ) (s : C.Scope) where
   statement-deep r e z =
       sym (ap (λ (k : ℕ). checkStatement (readStatement k (field at tag (slice (at + 3) next program))) s) z ∙ ap (λ (x : Statement). checkStatement x s) (sym e))
 
-  pub statement-acts : (k : StatementTag) → (levels ≡ 0 → ⊥) → (i : StatementTag) → StatementSays tag i → i ≡ k → checkStatement (statementReader (readStatement (levels - 1)) k at (slice (at + 3) next program)) s ≡ stated
+  pub statement-acts : (k : StatementTag) → (levels ≡ 0 → ⊥) → (i : StatementTag) → StatementSays tag i → i ≡ k → checkStatement (statementReader (readStatement (levels - 1)) tag k at (slice (at + 3) next program)) s ≡ stated
   unfolding readStatement
   statement-acts k z i says e = sym (by levels z)
     where
-      by : (m : ℕ) → (m ≡ 0 → ⊥) → checkStatement (readStatement m (field at tag (slice (at + 3) next program))) s ≡ checkStatement (statementReader (readStatement (m - 1)) k at (slice (at + 3) next program)) s
+      by : (m : ℕ) → (m ≡ 0 → ⊥) → checkStatement (readStatement m (field at tag (slice (at + 3) next program))) s ≡ checkStatement (statementReader (readStatement (m - 1)) tag k at (slice (at + 3) next program)) s
       by zero z = absurd (z refl)
       by (suc m) z =
           let q : suc m - 1 ≡ m = omega arith in
-          rw q (says (readStatement m) at (slice (at + 3) next program) s ∙ ap (λ (k : StatementTag). checkStatement (statementReader (readStatement m) k at (slice (at + 3) next program)) s) e)
+          rw q (says (readStatement m) at (slice (at + 3) next program) s ∙ ap (λ (k : StatementTag). checkStatement (statementReader (readStatement m) tag k at (slice (at + 3) next program)) s) e)
 
 module _ (levels : ℕ) (program : List ℕ) (at to : ℕ) (s : C.Scope) where
   abbrev pub listed : Checked (Unit {0})

@@ -5,9 +5,10 @@ use Prim.Native.Nat.{ℕ, _≤_}
 use lib.IntN.{ℤ}
 use lib.ListN.{drop}
 use Rattle.language.specs.Tree.{Statement, badIndex, reverse, badStatement, gateH}
-use Rattle.language.specs.Read.{Field, field, due, outerIndex, Reader, ofFields, gateOf, cxOf, readCall, statementBy, statementsBy, forOf}
+use Rattle.language.specs.Read.{Field, field, due, outerIndex, Reader, ofFields, gateOf, cxOf, statementBy, statementsBy, forOf}
 use Rattle.language.specs.Form.{Loop}
 use Rattle.language.specs.Check.{Checked, good, refused, checkBounds, checkStatement, Declared}
+use Rattle.fields.specs.CallNumber.{callReader}
 use Rattle.forms.specs.Flat.{Kept, asForm}
 use Rattle.check_statement.specs.declared.StatementTag.{StatementTag}
 use Rattle.check_statement.specs.declared.StatementTag.the-variants.{Gate, Cx, Call, Reverse, For, Other}
@@ -31,17 +32,17 @@ BoundsPass program at to (Upto n) l h = Beyond program at to 2 n × Kept l × Ke
 BoundsPass program at to (Refused n p) l h = Unit {0}
 
 -- how the content of a statement is read, by what its tag says; the check asks the same of every gate
-abbrev pub statementReader : (Field → Statement) → StatementTag → Reader Statement
-statementReader part Gate = ofFields (gateOf gateH)
-statementReader part Cx = ofFields cxOf
-statementReader part Call = readCall
-statementReader part Reverse = ofFields (λ p fs. reverse p (statementsBy part fs))
-statementReader part For = ofFields (forOf part)
-statementReader part Other = λ p content. badStatement 3 p
+abbrev pub statementReader : (Field → Statement) → (tag : ℕ) → StatementTag → Reader Statement
+statementReader part tag Gate = ofFields (gateOf gateH)
+statementReader part tag Cx = ofFields cxOf
+statementReader part tag Call = callReader tag
+statementReader part tag Reverse = ofFields (λ p fs. reverse p (statementsBy part fs))
+statementReader part tag For = ofFields (forOf part)
+statementReader part tag Other = λ p content. badStatement 3 p
 
 -- what a tag says of a statement: the check of it is that of a statement read so
 abbrev pub StatementSays : ℕ → StatementTag → Type 0
-StatementSays tag k = (part : Field → Statement) (p : ℕ) (content : List ℕ) (s : C.Scope) → checkStatement (statementBy part (field p tag content)) s ≡ checkStatement (statementReader part k p content) s
+StatementSays tag k = (part : Field → Statement) (p : ℕ) (content : List ℕ) (s : C.Scope) → checkStatement (statementBy part (field p tag content)) s ≡ checkStatement (statementReader part tag k p content) s
 
 -- what the answer on a top field that declares nothing stands for
 unfoldable pub checkedDeclared : Read → Declared → Checked Declared

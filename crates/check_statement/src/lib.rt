@@ -34,7 +34,7 @@ const IN_CONDITIONAL: usize = DEEPEST - 1;
 // The tags of statements, from the first to the last.
 const FIRST_TAG: u8 = 32;
 
-const LAST_TAG: u8 = 38;
+const LAST_TAG: u8 = 39;
 
 // What a statement's tag says.
 pub enum StatementTag {
@@ -83,6 +83,7 @@ fn statement_tag(tag: u8) -> StatementTag
         36 => StatementTag::Call,
         37 => StatementTag::Reverse,
         38 => StatementTag::For,
+        39 => StatementTag::Call,
         _ => StatementTag::Other,
     }
 }
@@ -109,7 +110,7 @@ fn one_statement(
     levels: usize,
     s: Visible,
     families: &[FamilyRow],
-    kinds: &[u8],
+    kinds: &[u16],
     sizes: &[Size],
     lows: &[Form; MOST_LOOPS],
     highs: &[Form; MOST_LOOPS],
@@ -127,7 +128,20 @@ fn one_statement(
     match statement_tag(tag) {
         StatementTag::Gate => one_wire(program, at, next, s, kinds, sizes, lows, highs),
         StatementTag::Cx => two_wires(program, at, next, s, kinds, sizes, lows, highs),
-        StatementTag::Call => call(program, at, next, s, families, kinds, sizes, lows, highs),
+        StatementTag::Call => {
+            call(
+                program,
+                at,
+                next,
+                tag,
+                s,
+                families,
+                kinds,
+                sizes,
+                lows,
+                highs,
+            )
+        }
         StatementTag::Reverse => {
             list(
                 program,
@@ -168,7 +182,7 @@ pub fn list(
     levels: usize,
     s: Visible,
     families: &[FamilyRow],
-    kinds: &[u8],
+    kinds: &[u16],
     sizes: &[Size],
     lows: &[Form; MOST_LOOPS],
     highs: &[Form; MOST_LOOPS],
@@ -214,7 +228,7 @@ fn repeated(
     levels: usize,
     s: Visible,
     families: &[FamilyRow],
-    kinds: &[u8],
+    kinds: &[u16],
     sizes: &[Size],
     lows: &[Form; MOST_LOOPS],
     highs: &[Form; MOST_LOOPS],
@@ -268,7 +282,7 @@ fn conditional(
     next: usize,
     s: Visible,
     families: &[FamilyRow],
-    kinds: &[u8],
+    kinds: &[u16],
     sizes: &[Size],
     lows: &[Form; MOST_LOOPS],
     highs: &[Form; MOST_LOOPS],
@@ -326,7 +340,7 @@ pub fn action(
     tag: u8,
     s: Visible,
     families: &[FamilyRow],
-    kinds: &[u8],
+    kinds: &[u16],
     sizes: &[Size],
     lows: &[Form; MOST_LOOPS],
     highs: &[Form; MOST_LOOPS],

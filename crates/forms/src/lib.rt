@@ -27,7 +27,7 @@ const LOWEST: i64 = -FURTHEST;
 
 pub type Form = [i64; FORM_NUMBERS];
 
-pub type Size = [i64; SIZE_NUMBERS];
+pub type Size = [i32; SIZE_NUMBERS];
 
 // A number of a form, or that it is out of range.
 pub enum Num {
@@ -257,11 +257,11 @@ pub fn load(f: &mut Form, row: &Size)
     ensures { λ _. ⌜ Kept (now (f .exit)) ⌝ }
 {
     *f = [0i64; FORM_NUMBERS];
-    f[0] = row[0];
-    f[1] = row[1];
-    f[2] = row[2];
-    f[3] = row[3];
-    f[4] = row[4];
+    f[0] = row[0] as i64;
+    f[1] = row[1] as i64;
+    f[2] = row[2] as i64;
+    f[3] = row[3] as i64;
+    f[4] = row[4] as i64;
 }
 
 // The row of a table for f, whose coefficients but for those of a family's variables are 0.
@@ -271,12 +271,12 @@ pub fn store(row: &mut Size, f: &Form)
     ensures { λ _. ⌜ widened (now (row .exit)) ≡ now (f .entry) ⌝ }
     ensures { λ _. ⌜ Short (now (row .exit)) ⌝ }
 {
-    *row = [0i64; SIZE_NUMBERS];
-    row[0] = f[0];
-    row[1] = f[1];
-    row[2] = f[2];
-    row[3] = f[3];
-    row[4] = f[4];
+    *row = [0i32; SIZE_NUMBERS];
+    row[0] = f[0] as i32;
+    row[1] = f[1] as i32;
+    row[2] = f[2] as i32;
+    row[3] = f[3] as i32;
+    row[4] = f[4] as i32;
 }
 
 // f becomes a parameter's size with a call's forms put in for the family's m variables, all together.
@@ -287,10 +287,10 @@ pub fn put_in(f: &mut Form, size: &Size, forms: &[Form], m: usize) -> bool
     ensures { λ r. ⌜ builtOf r (now (f .exit)) ≡ putIn (asForm (widened (now (size .entry)))) (formsOf m (now (forms .entry))) ⌝ }
     ensures { λ r. ⌜ (r ≡ true → Kept (now (f .exit))) ⌝ }
 {
-    let z = size[0];
+    let z = size[0] as i64;
     set_constant(f, z);
     for j in 0..m {
-        let k = size[j + 1];
+        let k = size[j + 1] as i64;
         if add_scaled(f, k, &forms[j]) {} else {
             return false;
         }

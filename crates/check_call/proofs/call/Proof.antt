@@ -3,156 +3,87 @@ use Rattle.check_call.proofs.call.Statement.{statement}
 use Rattle.check_call.proofs.call.Tie as tie
 use Rattle.check_call.proofs.call.Reads as reads
 use Rattle.check_call.proofs.call.Lts as lts
-use Rattle.check_call.proofs.call_forms.Reads as call-forms-reads
-use Rattle.check_call.proofs.call_operands.Reads as call-operands-reads
-use Rattle.fields.proofs.wide.Reads as wide-reads
-use mathlib.Core.Path.{refl, sym, ap, _∙_}
-use mathlib.Core.List.{_∷_, []}
-use Prim.Native.Nat.{ℕ, _+_}
+use Rattle.check_call.proofs.call_of.Reads as call-of-reads
+use Rattle.fields.proofs.family_named.Reads as family-named-reads
+use Rattle.fields.proofs.long.Reads as long-reads
+use borrow.Author.Needs.{needs}
+use mathlib.Core.Path.{_≡_, sym, ap, _∙_}
+use Prim.Native.Nat.{ℕ, _+_, _-_}
 use native.Mathlib.Omega.{arith}
-use native.Mathlib.Nat.{zero-add}
-use mathlib.Core.Option.{some}
 use denote.Ref.{now}
-use lib.ListN.{getD}
 use lib.Seq.{slice}
-use Rattle.fields.proofs.Headers.{one-byte, slice-none}
+use Rattle.language.specs.Tree.{Statement}
+use Rattle.language.specs.Read.{callOf}
+use Rattle.language.specs.Check.{checkStatement}
+use Rattle.fields.specs.Header.{fieldsAt}
+use Rattle.fields.proofs.CallNumbers.{named-bad, named-in}
 use Rattle.check_index.specs.Answers.{checkedPart}
-use Rattle.check_operand.specs.Tables.{tabulated, kindsAt}
-use Rattle.check_call.specs.Calls.{scopeFull, signatureAt}
-use Rattle.check_operand.proofs.Tables.{row-get, row-none}
-use Rattle.check_call.proofs.Calls.{call-none, call-beyond, call-stops, call-good}
-use Rattle.check_index.proofs.Answers.{count-upto}
-use Rattle.check_call.proofs.Forms.{four-rows}
+use Rattle.check_call.specs.Calls.{scopeFull}
+use Rattle.check_call.proofs.Calls.{call-unnamed}
 
-add-from : tie.Need-add-from
-add-from c = search needs
+-- src/lib.rt:212:41
+add-family-named : tie.Need-add-family-named
+add-family-named c =
+    search needs
 
+-- src/lib.rt:212:11
+family-named-requires : tie.Need-family-named-requires
+family-named-requires c κs =
+    search needs
+
+-- src/lib.rt:213:20
+enum-known-k : tie.Need-enum-known-k
+enum-known-k c =
+    search needs
+
+-- src/lib.rt:214:23
+enum-known-n : tie.Need-enum-known-n
+enum-known-n c =
+    search needs
+
+-- src/lib.rt:219:13
+long-requires : tie.Need-long-requires
+long-requires c κs =
+    search needs
+
+-- src/lib.rt:214:35
+call-of-requires : tie.Need-call-of-requires
+call-of-requires c κs =
+    (c .before .before .before .before .before .before .before .pre .0 .1, (c .before .before .before .before .before .before .before .pre .1 .0, c .before .before .before .before .before .before .before .pre .1 .1))
+
+-- src/lib.rt:195:1
 returns : tie.Need-returns
 unfolding checkedPart
 returns c =
-    let a = c .before .before .before .args in
+    let a = c .before .before .before .before .before .before .args in
     let program = now (a .program) in
-    let from = a .at + 3 in
-    let content = slice from (a .next) program in
     let s = scopeFull (a .s) (now (a .families)) (now (a .kinds)) (now (a .sizes)) (now (a .lows)) (now (a .highs)) in
-    let fs = tabulated (signatureAt (now (a .families)) (now (a .kinds)) (now (a .sizes))) (a .s .families) 0 in
-    call-none s (a .at) content (slice-none from (a .next) program (c .if1 .taken))
+    let content = slice (a .at + 3) (a .next) program in
+    call-unnamed s (a .at) (c .before .k .given .0 .0) (a .tag) content (named-bad (a .tag) (a .at + 3) content (c .before .k .given .0 .0) (sym (c .before .before .before .family-named .ensures) ∙ c .before .k .given .1) (a .at))
 
-shared-slice-read-wide : tie.Need-shared-slice-read-wide
-shared-slice-read-wide c = search needs
-
-wide-requires : tie.Need-wide-requires
-wide-requires c κs = search needs
-
+-- src/lib.rt:195:1
 returns-2 : tie.Need-returns-2
-unfolding checkedPart
+unfolding fieldsAt
 returns-2 c =
-    let a = c .before .before .before .before .before .before .before .args in
+    let a = c .before .before .before .before .before .before .before .before .args in
     let program = now (a .program) in
-    let from = a .at + 3 in
-    let content = slice from (a .next) program in
     let s = scopeFull (a .s) (now (a .families)) (now (a .kinds)) (now (a .sizes)) (now (a .lows)) (now (a .highs)) in
-    let fs = tabulated (signatureAt (now (a .families)) (now (a .kinds)) (now (a .sizes))) (a .s .families) 0 in
-    let n = c .before .before .wide .result in
-    let e = one-byte from (a .next) program (c .before .before .before .before .if1 .left) (c .before .before .before .before .before .before .before .pre .0 .1) ∙ ap (λ (x : ℕ). x ∷ slice (from + 1) (a .next) program) (sym (c .before .before .wide .ensures .0)) in
-    call-beyond s (a .at) content n program (a .next) e (row-none (signatureAt (now (a .families)) (now (a .kinds)) (now (a .sizes))) (a .s .families) 0 n (c .if2 .taken))
-
-mul-family : tie.Need-mul-family
-mul-family c =
-    let d = c .before .before .before .before .before .before .before .pre .1 .1 .enough in
-    let h = c .if2 .left in
-    omega (arith, c .before .before .before .before .before .before .before .good)
-
-shared-slice-copy-out-family : tie.Need-shared-slice-copy-out-family
-shared-slice-copy-out-family c =
-    let d = c .before .before .before .before .before .before .before .pre .1 .1 .enough in
-    let h = c .if2 .left in
-    omega (arith, c .before .before .before .before .before .before .before .good)
-
-array-read-m : tie.Need-array-read-m
-array-read-m c = search needs
-
-array-read-count : tie.Need-array-read-count
-array-read-count c = search needs
-
-array-read-first : tie.Need-array-read-first
-array-read-first c = search needs
-
-add-inner : tie.Need-add-inner
-add-inner c = search needs
-
-call-forms-requires : tie.Need-call-forms-requires
-call-forms-requires c κs =
-    let r = c .before .before .before .before .before .before .before .before .before .pre .1 .0 in
-    let d = c .before .before .before .before .before .before .before .before .before .pre .1 .1 .each (c .before .before .before .before .wide .result) (c .before .before .if2 .left) in
-    (c .before .before .before .before .before .before .before .before .before .pre .0 .1, (d .few, (record { few = r .few; nested = r .nested; lowRows = r .lowRows; highRows = r .highRows }, four-rows)))
-
-enum-known-r : tie.Need-enum-known-r
-enum-known-r c = search needs
-
-enum-told : tie.Need-enum-told
-enum-told c = search needs
-
-returns-3 : tie.Need-returns-3
-returns-3 c =
-    let a = c .before .before .before .before .before .before .before .before .before .before .before .before .args in
-    let program = now (a .program) in
-    let from = a .at + 3 in
-    let content = slice from (a .next) program in
-    let s = scopeFull (a .s) (now (a .families)) (now (a .kinds)) (now (a .sizes)) (now (a .lows)) (now (a .highs)) in
-    let fs = tabulated (signatureAt (now (a .families)) (now (a .kinds)) (now (a .sizes))) (a .s .families) 0 in
-    let n = c .before .before .before .before .before .before .before .wide .result in
-    let e = one-byte from (a .next) program (c .before .before .before .before .before .before .before .before .before .if1 .left) (c .before .before .before .before .before .before .before .before .before .before .before .before .pre .0 .1) ∙ ap (λ (x : ℕ). x ∷ slice (from + 1) (a .next) program) (sym (c .before .before .before .before .before .before .before .wide .ensures .0)) in
-    let f = signatureAt (now (a .families)) (now (a .kinds)) (now (a .sizes)) n in
-    let get = row-get (signatureAt (now (a .families)) (now (a .kinds)) (now (a .sizes))) (a .s .families) 0 n (c .before .before .before .before .before .if2 .left) ∙ ap (λ (k : ℕ). some (signatureAt (now (a .families)) (now (a .kinds)) (now (a .sizes)) k)) (zero-add n) in
-    let ks = kindsAt (a .s .count) (a .s .first) (now (a .kinds)) (now (a .sizes)) in
-    let l = c .before .before .call-forms .last .1 .1 .1 .1 .1 .1 .1 .1 .0 in
-    let m = getD (getD (now (a .families)) n []) 0 0 in
-    call-stops s (a .at) content n program (a .next) e f (get) (c .before .before .call-forms .result) l m refl (c .before .before .call-forms .ensures .0 fs ks) (c .before .match .keys2)
-
-call-operands-requires : tie.Need-call-operands-requires
-call-operands-requires c κs =
-    let d = c .before .before .before .before .before .before .before .before .before .before .before .before .before .before .pre .1 .1 .each (c .before .before .before .before .before .before .before .before .before .wide .result) (c .before .before .before .before .before .before .before .if2 .left) in
-    (c .before .before .before .before .before .before .before .before .before .before .before .before .before .before .pre .0 .1, (d .few, (c .before .before .before .before .call-forms .ensures .1 .1, (d .inside, c .before .before .before .before .before .before .before .before .before .before .before .before .before .before .pre .1 .0))))
-
-returns-4 : tie.Need-returns-4
-returns-4 c =
-    let a = c .before .before .before .before .before .before .before .before .before .before .before .before .before .before .before .args in
-    let program = now (a .program) in
-    let from = a .at + 3 in
-    let content = slice from (a .next) program in
-    let s = scopeFull (a .s) (now (a .families)) (now (a .kinds)) (now (a .sizes)) (now (a .lows)) (now (a .highs)) in
-    let fs = tabulated (signatureAt (now (a .families)) (now (a .kinds)) (now (a .sizes))) (a .s .families) 0 in
-    let n = c .before .before .before .before .before .before .before .before .before .before .wide .result in
-    let e = one-byte from (a .next) program (c .before .before .before .before .before .before .before .before .before .before .before .before .if1 .left) (c .before .before .before .before .before .before .before .before .before .before .before .before .before .before .before .pre .0 .1) ∙ ap (λ (x : ℕ). x ∷ slice (from + 1) (a .next) program) (sym (c .before .before .before .before .before .before .before .before .before .before .wide .ensures .0)) in
-    let f = signatureAt (now (a .families)) (now (a .kinds)) (now (a .sizes)) n in
-    let get = row-get (signatureAt (now (a .families)) (now (a .kinds)) (now (a .sizes))) (a .s .families) 0 n (c .before .before .before .before .before .before .before .before .if2 .left) ∙ ap (λ (k : ℕ). some (signatureAt (now (a .families)) (now (a .kinds)) (now (a .sizes)) k)) (zero-add n) in
-    let ks = kindsAt (a .s .count) (a .s .first) (now (a .kinds)) (now (a .sizes)) in
-    let l = c .before .before .before .before .before .call-forms .last .1 .1 .1 .1 .1 .1 .1 .1 .0 in
-    let m = getD (getD (now (a .families)) n []) 0 0 in
-    let mid = c .before .before .before .r .given .0 .0 in
-    let b = count-upto program (a .at + 4) (a .next) m (c .before .before .before .before .before .call-forms .result) mid (c .before .before .before .r .given .1) (c .before .before .before .before .before .call-forms .ensures .1 .0) in
-    c .call-operands .ensures .0 fs
-    ∙ call-good s (a .at) content n program (a .next) e f (get) (c .before .before .before .before .before .call-forms .result) l m refl (c .before .before .before .before .before .call-forms .ensures .0 fs ks) mid (c .before .before .before .r .given .1) b
+    let n = c .before .before .before .n .given .0 .0 in
+    let from = c .before .before .before .n .given .0 .1 .0 in
+    let w = named-in (a .tag) (a .at + 3) (a .next) program (c .before .before .before .before .before .before .before .before .pre .0 .0) (c .before .before .before .before .before .before .before .before .pre .0 .1) n from (sym (c .before .before .before .before .before .family-named .ensures) ∙ c .before .before .before .n .given .1) in
+    c .call-of .ensures
+    ∙ ap (λ (k : ℕ). checkStatement (callOf (a .at) k (fieldsAt program from (a .next))) s) (c .before .long .ensures .0)
+    ∙ ap (λ (x : Statement). checkStatement x s) (sym (w .reads (a .at) from (omega (arith, w .low))))
 
 pub call-spec : {M : Type 1} → statement M
 call-spec =
     tie.close
     (tie.spec
-    add-from
+    add-family-named
+    family-named-requires
+    enum-known-k
+    enum-known-n
+    long-requires
+    call-of-requires
     returns
-    shared-slice-read-wide
-    wide-requires
-    returns-2
-    mul-family
-    shared-slice-copy-out-family
-    array-read-m
-    array-read-count
-    array-read-first
-    add-inner
-    call-forms-requires
-    enum-known-r
-    enum-told
-    returns-3
-    call-operands-requires
-    returns-4)
+    returns-2)

@@ -9,110 +9,124 @@ use Prim.Native.Nat.{ℕ, suc, _+_, _-_, _≤_}
 use native.Mathlib.Omega.{arith}
 use borrow.Author.Needs.{needs}
 use denote.Ref.{now}
+use lib.ListN.{length}
 use Rattle.language.specs.Read.{typesOf}
 use Rattle.language.specs.Check.{Checked, good, _>>=_, Kind, Signature, kindsOf}
 use Rattle.fields.specs.Header.{fieldsAt}
 use Rattle.check_operand.specs.Tables.{scopeWith, kindsAt}
 use Rattle.check_index.specs.Answers.{Beyond}
 use Rattle.check_index.proofs.Answers.{beyond-none, beyond-more, beyond-stops, passes-upto}
-use Rattle.check_declaration.specs.Types.{Apart, checkedRows}
-use Rattle.check_declaration.proofs.Tables.{apart-none, apart-more}
+use Rattle.check_declaration.specs.Types.{Apart, InUse, checkedRows}
+use Rattle.check_declaration.proofs.Tables.{apart-none, apart-more, in-use-later, in-use-stops, in-use-upto}
 use Rattle.check_declaration.proofs.Types.{rows-stop, types-stop, types-go, more-kinds, no-kinds, all-kinds}
 
 abbrev Inv-loop : tie.InvT-loop
-Inv-loop program at to parent m count first kinds₀ sizes₀ from₀ j₀ kinds sizes from j =
-    (j ≤ count) × Apart first count kinds₀ sizes₀ kinds sizes × Beyond program at to j from × ((fs : List Signature) (ks : List Kind) → kindsOf (scopeWith fs ks m []) (typesOf parent count (fieldsAt program at to)) ≡ (kindsOf (scopeWith fs ks m []) (typesOf parent (count - j) (fieldsAt program from to)) >>= λ rest. good (kindsAt j first kinds sizes ++ rest)))
+Inv-loop program at to parent m count first registers kinds₀ sizes₀ from₀ j₀ kinds sizes from j =
+    (j ≤ count) × Apart (length program) first count kinds₀ sizes₀ kinds sizes × Beyond program at to j from × InUse (first + j) registers from kinds × (from ≤ to) × ((fs : List Signature) (ks : List Kind) → kindsOf (scopeWith fs ks m []) (typesOf parent count (fieldsAt program at to)) ≡ (kindsOf (scopeWith fs ks m []) (typesOf parent (count - j) (fieldsAt program from to)) >>= λ rest. good (kindsAt j first kinds sizes ++ rest)))
 
 abbrev μ-loop : tie.MeasureT-loop
-μ-loop program at to parent m count first kinds₀ sizes₀ from₀ j₀ kinds sizes from j =
+μ-loop program at to parent m count first registers kinds₀ sizes₀ from₀ j₀ kinds sizes from j =
     count - j
 
+-- src/lib.rt:185:5
 loop-holds : tie.Need-loop-holds Inv-loop μ-loop
 loop-holds c =
     let a = c .before .before .args in
-    (omega arith, apart-none (a .first) (a .count) (now (a .kinds)) (now (a .sizes)) (c .before .before .pre .1 .1 .1), beyond-none (now (a .program)) (a .at) (a .to), (λ fs ks. let z : a .count - 0 ≡ a .count = omega arith in rw z (no-kinds _ (a .first) (now (a .kinds)) (now (a .sizes)))))
+    (omega arith, apart-none (length (now (a .program))) (a .first) (a .count) (now (a .kinds)) (now (a .sizes)) (c .before .before .pre .1 .1 .1 .1), beyond-none (now (a .program)) (a .at) (a .to), in-use-later (a .first) (a .first + 0) (a .registers) (a .at) (a .at) (now (a .kinds)) (c .before .before .pre .1 .1 .1 .0) (omega arith) (omega (arith, c .before .before .pre .1 .1 .1 .0 .few)), c .before .before .pre .1 .1 .0 .0, (λ fs ks. let z : a .count - 0 ≡ a .count = omega arith in rw z (no-kinds _ (a .first) (now (a .kinds)) (now (a .sizes)))))
 
+-- src/lib.rt:186:19
 add-row : tie.Need-add-row Inv-loop μ-loop
 add-row c =
-    let h = c .loop-test .taken in
-    let k = c .before .before .before .before .pre .1 .1 .0 in
-    omega arith
+    omega (arith, c .before .loop .inv .3 .few, c .before .loop .inv .4, c .before .before .before .before .pre .0, c .before .before .before .before .pre .1 .1 .0 .1)
 
+-- src/lib.rt:187:13
 typed-row-requires : tie.Need-typed-row-requires Inv-loop μ-loop
 typed-row-requires c κs =
-    let h = c .before .before .loop-test .taken in
-    let k = c .before .before .before .before .before .before .pre .1 .1 .0 in
-    (c .before .before .before .before .before .before .pre .0, (c .before .before .before .before .before .before .pre .1 .0, (omega arith, c .before .before .before .loop .inv .1 .table)))
+    (c .before .before .before .before .before .before .pre .0, (c .before .before .before .before .before .before .pre .1 .0, (c .before .before .before .before .before .before .pre .1 .1 .0 .1, (c .before .before .before .loop .inv .3, c .before .before .before .loop .inv .1 .table))))
 
+-- src/lib.rt:188:24
 enum-known-r : tie.Need-enum-known-r Inv-loop μ-loop
 enum-known-r c =
     search needs
 
+-- src/lib.rt:189:13
 enum-told : tie.Need-enum-told Inv-loop μ-loop
 enum-told c =
     search needs
 
+-- src/lib.rt:189:13
 same-length : tie.Need-same-length Inv-loop μ-loop
 same-length c =
-    c .before .before .before .before .before .typed-row .ensures .1 .1 .table .kindsLong ∙ sym (c .before .before .before .before .before .before .before .before .before .before .before .before .pre .1 .1 .1 .kindsLong)
+    c .before .before .before .before .before .typed-row .ensures .1 .1 .1 .kindsSame ∙ c .before .before .before .before .before .before .before .before .before .loop .inv .1 .kindsSame
 
+-- src/lib.rt:189:13
 same-length-2 : tie.Need-same-length-2 Inv-loop μ-loop
 same-length-2 c =
-    c .before .before .before .before .before .typed-row .ensures .1 .1 .table .sizesLong ∙ sym (c .before .before .before .before .before .before .before .before .before .before .before .before .pre .1 .1 .1 .sizesLong)
+    c .before .before .before .before .before .typed-row .ensures .1 .1 .1 .sizesSame ∙ c .before .before .before .before .before .before .before .before .before .loop .inv .1 .sizesSame
 
+-- src/lib.rt:189:13
 returns : tie.Need-returns Inv-loop μ-loop
 returns c =
     let a = c .before .before .before .before .before .before .before .before .before .before .before .before .args in
     let program = now (a .program) in
     let i = c .before .before .before .before .before .before .before .before .before .loop in
-    let kinds = c .before .before .before .before .before .typed-row .last .1 .1 .1 .1 .1 .1 .0 in
-    let sizes = c .before .before .before .before .before .typed-row .last .1 .1 .1 .1 .1 .1 .1 .0 in
+    let kinds = c .before .before .before .before .before .typed-row .last .1 .1 .1 .1 .1 .1 .1 .0 in
+    let sizes = c .before .before .before .before .before .typed-row .last .1 .1 .1 .1 .1 .1 .1 .1 .0 in
     let e : a .count - i .j ≡ suc (a .count - (i .j + 1)) = (let h = c .before .before .before .before .before .before .before .before .loop-test .taken in omega arith) in
     let sofar : List Kind → Checked (List Kind) = λ rest. good (kindsAt (i .j) (a .first) (i .kinds) (i .sizes) ++ rest) in (
       λ fs ks. rows-stop (c .before .before .before .before .before .typed-row .result) (a .count) (a .first) kinds sizes sofar (c .before .match .keys2)
           ∙ ap (λ (c : Checked (List Kind)). c >>= sofar) (types-stop (scopeWith fs ks (a .m) []) (a .parent) (a .count - (i .j + 1)) program (i .from) (a .to) (c .before .before .before .before .before .typed-row .result) (a .first + i .j) kinds sizes (c .before .before .before .before .before .typed-row .ensures .0 fs ks) (a .count) (a .first) (c .before .match .keys2)
           ∙ ap (λ (n : ℕ). kindsOf (scopeWith fs ks (a .m) []) (typesOf (a .parent) n (fieldsAt program (i .from) (a .to)))) (sym e))
-          ∙ sym (i .inv .3 fs ks),
-      (beyond-stops program (a .at) (a .to) (a .count) (c .before .before .before .before .before .typed-row .result) (c .before .match .keys2), apart-more (a .first) (a .count) (i .j) (c .before .before .before .before .before .before .before .before .loop-test .taken) (i .inv .1) (c .before .before .before .before .before .typed-row .ensures .1 .1)),
+          ∙ sym (i .inv .5 fs ks),
+      (beyond-stops program (a .at) (a .to) (a .count) (c .before .before .before .before .before .typed-row .result) (c .before .match .keys2), (in-use-stops (a .first + a .count) (a .registers) (a .to) (c .before .before .before .before .before .typed-row .result) kinds (c .before .match .keys2), apart-more (length program) (a .first) (a .count) (i .j) (c .before .before .before .before .before .before .before .before .loop-test .taken) (i .inv .1) (c .before .before .before .before .before .typed-row .ensures .1 .1 .1))),
     )
 
+-- src/lib.rt:185:9
 add-j : tie.Need-add-j Inv-loop μ-loop
 add-j c =
     search needs
 
+-- src/lib.rt:185:5
 loop-less : tie.Need-loop-less Inv-loop μ-loop
 loop-less c =
     search needs
 
+-- src/lib.rt:185:5
 loop-again : tie.Need-loop-again Inv-loop μ-loop
 loop-again c =
     let a = c .before .before .before .before .before .before .before .before .before .before .before .before .before .args in
     let program = now (a .program) in
     let i = c .before .before .before .before .before .before .before .before .before .before .loop in
-    let kinds = c .before .before .before .before .before .before .typed-row .last .1 .1 .1 .1 .1 .1 .0 in
-    let sizes = c .before .before .before .before .before .before .typed-row .last .1 .1 .1 .1 .1 .1 .1 .0 in
+    let kinds = c .before .before .before .before .before .before .typed-row .last .1 .1 .1 .1 .1 .1 .1 .0 in
+    let sizes = c .before .before .before .before .before .before .typed-row .last .1 .1 .1 .1 .1 .1 .1 .1 .0 in
     let e : a .count - i .j ≡ suc (a .count - (i .j + 1)) = (let h = c .before .before .before .before .before .before .before .before .before .loop-test .taken in omega arith) in
     let sofar : List Kind → Checked (List Kind) = λ rest. good (kindsAt (i .j) (a .first) (i .kinds) (i .sizes) ++ rest) in
     let next = c .before .r .given .0 .0 in
     let v = passes-upto program (i .from) (a .to) (c .before .before .before .before .before .before .typed-row .result) next (c .before .r .given .1) (c .before .before .before .before .before .before .typed-row .ensures .1 .0) in
+    let used = in-use-upto (a .first + i .j + 1) (a .registers) next (c .before .before .before .before .before .before .typed-row .result) kinds (c .before .r .given .1) (c .before .before .before .before .before .before .typed-row .ensures .1 .1 .0) in
     let h = c .before .before .before .before .before .before .before .before .before .loop-test .taken in (
       omega arith,
-      apart-more (a .first) (a .count) (i .j) h (i .inv .1) (c .before .before .before .before .before .before .typed-row .ensures .1 .1),
+      apart-more (length program) (a .first) (a .count) (i .j) h (i .inv .1) (c .before .before .before .before .before .before .typed-row .ensures .1 .1 .1),
       beyond-more program (a .at) (a .to) (i .j) (i .from) next (i .inv .2) v,
-      (λ fs ks. i .inv .3 fs ks
+      in-use-later (a .first + i .j + 1) (a .first + (i .j + 1)) (a .registers) next next kinds used (omega arith) (omega (arith, used .few)),
+      v .high,
+      (λ fs ks. i .inv .5 fs ks
           ∙ ap (λ (n : ℕ). kindsOf (scopeWith fs ks (a .m) []) (typesOf (a .parent) n (fieldsAt program (i .from) (a .to))) >>= sofar) e
           ∙ ap (λ (c : Checked (List Kind)). c >>= sofar) (types-go (scopeWith fs ks (a .m) []) (a .parent) (a .count - (i .j + 1)) program (i .from) (a .to) (c .before .before .before .before .before .before .typed-row .result) (a .first + i .j) kinds sizes (c .before .before .before .before .before .before .typed-row .ensures .0 fs ks) next (c .before .r .given .1) v)
-          ∙ more-kinds (kindsOf (scopeWith fs ks (a .m) []) (typesOf (a .parent) (a .count - (i .j + 1)) (fieldsAt program next (a .to)))) (a .first) (a .count) (i .j) (c .before .before .before .before .before .before .typed-row .ensures .1 .1)),
+          ∙ more-kinds (kindsOf (scopeWith fs ks (a .m) []) (typesOf (a .parent) (a .count - (i .j + 1)) (fieldsAt program next (a .to)))) (length program) (a .first) (a .count) (i .j) (c .before .before .before .before .before .before .typed-row .ensures .1 .1 .1)),
     )
 
+-- src/lib.rt:162:1
 same-length-3 : tie.Need-same-length-3 Inv-loop μ-loop
 same-length-3 c =
-    c .before .loop .inv .1 .table .kindsLong ∙ sym (c .before .before .before .before .pre .1 .1 .1 .kindsLong)
+    c .before .loop .inv .1 .kindsSame
 
+-- src/lib.rt:162:1
 same-length-4 : tie.Need-same-length-4 Inv-loop μ-loop
 same-length-4 c =
-    c .before .loop .inv .1 .table .sizesLong ∙ sym (c .before .before .before .before .pre .1 .1 .1 .sizesLong)
+    c .before .loop .inv .1 .sizesSame
 
+-- src/lib.rt:162:1
 returns-2 : tie.Need-returns-2 Inv-loop μ-loop
 unfolding checkedRows
 returns-2 c =
@@ -123,7 +137,7 @@ returns-2 c =
     let b = i .inv .0 in
     let z : a .count - i .j ≡ 0 = omega arith in
     let y : i .j ≡ a .count = omega arith in
-    (λ fs ks. sym (i .inv .3 fs ks ∙ ap (λ (n : ℕ). kindsOf (scopeWith fs ks (a .m) []) (typesOf (a .parent) n (fieldsAt program (i .from) (a .to))) >>= λ rest. good (kindsAt (i .j) (a .first) (i .kinds) (i .sizes) ++ rest)) z ∙ all-kinds (scopeWith fs ks (a .m) []) (a .parent) (fieldsAt program (i .from) (a .to)) (kindsAt (i .j) (a .first) (i .kinds) (i .sizes)) ∙ ap (λ (n : ℕ). good (kindsAt n (a .first) (i .kinds) (i .sizes))) y), (rw y at (i .inv .2), i .inv .1))
+    (λ fs ks. sym (i .inv .5 fs ks ∙ ap (λ (n : ℕ). kindsOf (scopeWith fs ks (a .m) []) (typesOf (a .parent) n (fieldsAt program (i .from) (a .to))) >>= λ rest. good (kindsAt (i .j) (a .first) (i .kinds) (i .sizes) ++ rest)) z ∙ all-kinds (scopeWith fs ks (a .m) []) (a .parent) (fieldsAt program (i .from) (a .to)) (kindsAt (i .j) (a .first) (i .kinds) (i .sizes)) ∙ ap (λ (n : ℕ). good (kindsAt n (a .first) (i .kinds) (i .sizes))) y), (rw y at (i .inv .2), (in-use-later (a .first + i .j) (a .first + a .count) (a .registers) (i .from) (a .to) (i .kinds) (i .inv .3) (i .inv .4) (omega (arith, i .inv .3 .few, i .inv .4)), i .inv .1)))
 
 pub parameter-types-spec : {M : Type 1} → statement M
 parameter-types-spec =

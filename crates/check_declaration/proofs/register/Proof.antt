@@ -4,44 +4,51 @@ use Rattle.check_declaration.proofs.register.Tie as tie
 use Rattle.check_declaration.proofs.register.Reads as reads
 use Rattle.check_declaration.proofs.register.Lts as lts
 use Rattle.check_declaration.proofs.register_size.Reads as register-size-reads
+use Rattle.check_declaration.proofs.row_number.Reads as row-number-reads
+use Rattle.check_declaration.proofs.size_row.Reads as size-row-reads
 use Rattle.forms.proofs.set_constant.Reads as set-constant-reads
 use Rattle.forms.proofs.store.Reads as store-reads
-use Rattle.kinds.proofs.number.Reads as number-reads
-use mathlib.Core.Path.{sym, ap, _∙_}
-use Prim.Native.Nat.{_+_, _<_}
+use borrow.Author.Needs.{needs}
+use mathlib.Core.Path.{_≡_, sym, ap, _∙_}
+use Prim.Native.Nat.{ℕ, _+_, _≤_, _<_}
 use native.Mathlib.Omega.{arith}
 use denote.Ref.{now}
 use lib.IntN.{pos}
-use lib.Seq.{slice}
+use lib.ListN.{length, getD}
+use lib.Seq.{slice, length-slice}
 use Rattle.language.specs.Form.{constantForm}
 use Rattle.language.proofs.Integers.{range-yes, range-back}
 use Rattle.forms.specs.Flat.{asForm}
-use Rattle.check_operand.specs.Tables.{kindIn}
+use Rattle.check_operand.specs.Tables.{kindIn, sizeOfRow}
 use Rattle.check_declaration.proofs.Sizes.{constant-narrow}
-use Rattle.check_declaration.specs.Types.{tableRows}
+use Rattle.check_declaration.specs.Types.{sizeRow}
 use Rattle.check_declaration.specs.Registers.{checkedRegister}
-use Rattle.check_declaration.proofs.Registers.{size-fits, register-stops}
-use Rattle.check_declaration.proofs.Tables.{apart-both, row-both, numbered}
+use Rattle.check_declaration.proofs.Registers.{size-fits, size-two, register-stops}
+use Rattle.check_declaration.proofs.Tables.{apart-both, row-both, in-use-set, number-size}
 
+-- src/lib.rt:279:9
 register-size-requires : tie.Need-register-size-requires
 register-size-requires c κs =
     search needs
 
+-- src/lib.rt:280:20
 enum-known-r : tie.Need-enum-known-r
 enum-known-r c =
     search needs
 
+-- src/lib.rt:281:9
 enum-told : tie.Need-enum-told
 enum-told c =
     search needs
 
+-- src/lib.rt:281:9
 returns : tie.Need-returns
 returns c =
     let a = c .before .before .before .before .before .args in
     let program = now (a .program) in
-    let content = slice (a .at + 3) (a .next) program in
-    (c .before .before .register-size .ensures, register-stops (c .before .before .register-size .result) (a .kind) (a .count) (a .total) (a .most) (now (a .kinds)) (now (a .sizes)) (now (a .kinds)) (now (a .sizes)) (c .before .match .keys2))
+    (c .before .before .register-size .ensures, register-stops (length program) (a .next) (c .before .before .register-size .result) (a .kind) (a .count) (a .total) (a .most) (now (a .kinds)) (now (a .sizes)) (now (a .kinds)) (now (a .sizes)) (c .before .match .keys2))
 
+-- src/lib.rt:284:33
 cast-set-constant : tie.Need-cast-set-constant
 cast-set-constant c =
     let a = c .before .before .before .before .before .before .before .args in
@@ -51,10 +58,12 @@ cast-set-constant c =
     let f = size-fits (c .before .before .before .before .register-size .result) n (a .at) (a .count) (a .total) (a .most) content (c .before .before .r .given .1) (c .before .before .before .before .register-size .ensures) in
     let room = f .room in
     let fits = f .fits in
-    let long = c .before .before .before .before .before .before .before .pre .1 .1 .1 .kindsLong in
-    let rows = c .before .before .before .before .before .before .before .pre .1 .1 .1 .sizesLong in
+    let before = c .before .before .before .before .before .before .before .pre .1 .1 .1 .1 .0 in
+    let t = c .before .before .before .before .before .before .before .pre .1 .1 .1 .1 .1 in
+    let long = c .before .before .before .before .before .before .before .pre .1 .1 .1 .0 in
     search needs
 
+-- src/lib.rt:284:5
 set-constant-requires : tie.Need-set-constant-requires
 set-constant-requires c κs =
     let a = c .before .before .before .before .before .before .before .args in
@@ -64,89 +73,160 @@ set-constant-requires c κs =
     let f = size-fits (c .before .before .before .before .register-size .result) n (a .at) (a .count) (a .total) (a .most) content (c .before .before .r .given .1) (c .before .before .before .before .register-size .ensures) in
     let room = f .room in
     let fits = f .fits in
-    let long = c .before .before .before .before .before .before .before .pre .1 .1 .1 .kindsLong in
-    let rows = c .before .before .before .before .before .before .before .pre .1 .1 .1 .sizesLong in
+    let before = c .before .before .before .before .before .before .before .pre .1 .1 .1 .1 .0 in
+    let t = c .before .before .before .before .before .before .before .pre .1 .1 .1 .1 .1 in
+    let long = c .before .before .before .before .before .before .before .pre .1 .1 .1 .0 in
     let far = c .before .before .before .before .before .before .before .pre .1 .1 .0 in
     let fine = range-yes (pos n) (omega arith) in
     rw (range-back fine) fine
 
+-- src/lib.rt:286:5
 store-requires : tie.Need-store-requires
 unfolding asForm
 store-requires c κs =
     (c .before .before .set-constant .ensures .1, constant-narrow (c .before .before .set-constant .last .0) _ (c .before .before .set-constant .ensures .0) (c .before .before .set-constant .ensures .1))
 
-number-requires : tie.Need-number-requires
-number-requires c κs =
-    search needs
+-- src/lib.rt:287:9
+size-row-requires : tie.Need-size-row-requires
+size-row-requires c κs =
+    let a = c .before .before .before .before .before .before .before .before .before .before .before .args in
+    let program = now (a .program) in
+    let content = slice (a .at + 3) (a .next) program in
+    let n = c .before .before .before .before .before .before .r .given .0 .0 in
+    let f = size-fits (c .before .before .before .before .before .before .before .before .register-size .result) n (a .at) (a .count) (a .total) (a .most) content (c .before .before .before .before .before .before .r .given .1) (c .before .before .before .before .before .before .before .before .register-size .ensures) in
+    let room = f .room in
+    let fits = f .fits in
+    let before = c .before .before .before .before .before .before .before .before .before .before .before .pre .1 .1 .1 .1 .0 in
+    let t = c .before .before .before .before .before .before .before .before .before .before .before .pre .1 .1 .1 .1 .1 in
+    let long = c .before .before .before .before .before .before .before .before .before .before .before .pre .1 .1 .1 .0 in
+    (omega (arith, c .before .before .before .before .before .before .before .before .before .before .before .pre .0 .0, c .before .before .before .before .before .before .before .before .before .before .before .pre .0 .1), omega arith)
 
+-- src/lib.rt:288:20
+row-number-requires : tie.Need-row-number-requires
+row-number-requires c κs =
+    let a = c .before .before .before .before .before .before .before .before .before .before .before .before .args in
+    let program = now (a .program) in
+    let content = slice (a .at + 3) (a .next) program in
+    let n = c .before .before .before .before .before .before .before .r .given .0 .0 in
+    let f = size-fits (c .before .before .before .before .before .before .before .before .before .register-size .result) n (a .at) (a .count) (a .total) (a .most) content (c .before .before .before .before .before .before .before .r .given .1) (c .before .before .before .before .before .before .before .before .before .register-size .ensures) in
+    let room = f .room in
+    let fits = f .fits in
+    let before = c .before .before .before .before .before .before .before .before .before .before .before .before .pre .1 .1 .1 .1 .0 in
+    let t = c .before .before .before .before .before .before .before .before .before .before .before .before .pre .1 .1 .1 .1 .1 in
+    let long = c .before .before .before .before .before .before .before .before .before .before .before .before .pre .1 .1 .1 .0 in
+    omega (arith, c .size-row .ensures, c .before .before .before .before .before .before .before .before .before .before .before .before .pre .0 .0, c .before .before .before .before .before .before .before .before .before .before .before .before .pre .0 .1)
+
+-- src/lib.rt:288:5
+mul-kinds : tie.Need-mul-kinds
+mul-kinds c =
+    let a = c .before .before .before .before .before .before .before .before .before .before .before .before .before .args in
+    let program = now (a .program) in
+    let content = slice (a .at + 3) (a .next) program in
+    let n = c .before .before .before .before .before .before .before .before .r .given .0 .0 in
+    let f = size-fits (c .before .before .before .before .before .before .before .before .before .before .register-size .result) n (a .at) (a .count) (a .total) (a .most) content (c .before .before .before .before .before .before .before .before .r .given .1) (c .before .before .before .before .before .before .before .before .before .before .register-size .ensures) in
+    let room = f .room in
+    let fits = f .fits in
+    let before = c .before .before .before .before .before .before .before .before .before .before .before .before .before .pre .1 .1 .1 .1 .0 in
+    let t = c .before .before .before .before .before .before .before .before .before .before .before .before .before .pre .1 .1 .1 .1 .1 in
+    let long = c .before .before .before .before .before .before .before .before .before .before .before .before .before .pre .1 .1 .1 .0 in
+    omega (arith, t .kindsLong, c .before .before .before .before .before .before .before .before .before .before .before .before .before .good)
+
+-- src/lib.rt:288:5
 slice-write-kinds : tie.Need-slice-write-kinds
 slice-write-kinds c =
-    let a = c .before .before .before .before .before .before .before .before .before .before .before .before .args in
+    let a = c .before .before .before .before .before .before .before .before .before .before .before .before .before .args in
     let program = now (a .program) in
     let content = slice (a .at + 3) (a .next) program in
-    let n = c .before .before .before .before .before .before .before .r .given .0 .0 in
-    let f = size-fits (c .before .before .before .before .before .before .before .before .before .register-size .result) n (a .at) (a .count) (a .total) (a .most) content (c .before .before .before .before .before .before .before .r .given .1) (c .before .before .before .before .before .before .before .before .before .register-size .ensures) in
+    let n = c .before .before .before .before .before .before .before .before .r .given .0 .0 in
+    let f = size-fits (c .before .before .before .before .before .before .before .before .before .before .register-size .result) n (a .at) (a .count) (a .total) (a .most) content (c .before .before .before .before .before .before .before .before .r .given .1) (c .before .before .before .before .before .before .before .before .before .before .register-size .ensures) in
     let room = f .room in
     let fits = f .fits in
-    let long = c .before .before .before .before .before .before .before .before .before .before .before .before .pre .1 .1 .1 .kindsLong in
-    let rows = c .before .before .before .before .before .before .before .before .before .before .before .before .pre .1 .1 .1 .sizesLong in
-    omega arith
+    let before = c .before .before .before .before .before .before .before .before .before .before .before .before .before .pre .1 .1 .1 .1 .0 in
+    let t = c .before .before .before .before .before .before .before .before .before .before .before .before .before .pre .1 .1 .1 .1 .1 in
+    let long = c .before .before .before .before .before .before .before .before .before .before .before .before .before .pre .1 .1 .1 .0 in
+    omega (arith, t .kindsLong, c .before .before .before .before .before .before .before .before .before .before .before .before .before .good)
 
-mul-t22 : tie.Need-mul-t22
-mul-t22 c =
-    let a = c .before .before .before .before .before .before .before .before .before .before .before .before .args in
+-- src/lib.rt:289:5
+mul-t21 : tie.Need-mul-t21
+mul-t21 c =
+    let a = c .before .before .before .before .before .before .before .before .before .before .before .before .before .args in
     let program = now (a .program) in
     let content = slice (a .at + 3) (a .next) program in
-    let n = c .before .before .before .before .before .before .before .r .given .0 .0 in
-    let f = size-fits (c .before .before .before .before .before .before .before .before .before .register-size .result) n (a .at) (a .count) (a .total) (a .most) content (c .before .before .before .before .before .before .before .r .given .1) (c .before .before .before .before .before .before .before .before .before .register-size .ensures) in
+    let n = c .before .before .before .before .before .before .before .before .r .given .0 .0 in
+    let f = size-fits (c .before .before .before .before .before .before .before .before .before .before .register-size .result) n (a .at) (a .count) (a .total) (a .most) content (c .before .before .before .before .before .before .before .before .r .given .1) (c .before .before .before .before .before .before .before .before .before .before .register-size .ensures) in
     let room = f .room in
     let fits = f .fits in
-    let long = c .before .before .before .before .before .before .before .before .before .before .before .before .pre .1 .1 .1 .kindsLong in
-    let rows = c .before .before .before .before .before .before .before .before .before .before .before .before .pre .1 .1 .1 .sizesLong in
-    omega arith
+    let before = c .before .before .before .before .before .before .before .before .before .before .before .before .before .pre .1 .1 .1 .1 .0 in
+    let t = c .before .before .before .before .before .before .before .before .before .before .before .before .before .pre .1 .1 .1 .1 .1 in
+    let long = c .before .before .before .before .before .before .before .before .before .before .before .before .before .pre .1 .1 .1 .0 in
+    let own = c .before .size-row .result in
+    let is : own ≡ sizeRow (a .at) (a .count) = c .before .size-row .ensures in
+    let inside : own < length (now (a .sizes)) = omega (arith, t .sizesLong, c .before .before .before .before .before .before .before .before .before .before .before .before .before .pre .0 .0, c .before .before .before .before .before .before .before .before .before .before .before .before .before .pre .0 .1) in
+    omega (arith, c .before .before .before .before .before .before .before .before .before .before .before .before .before .good)
 
+-- src/lib.rt:289:5
 slice-set-from-sizes : tie.Need-slice-set-from-sizes
 slice-set-from-sizes c =
-    let a = c .before .before .before .before .before .before .before .before .before .before .before .before .args in
+    let a = c .before .before .before .before .before .before .before .before .before .before .before .before .before .args in
     let program = now (a .program) in
     let content = slice (a .at + 3) (a .next) program in
-    let n = c .before .before .before .before .before .before .before .r .given .0 .0 in
-    let f = size-fits (c .before .before .before .before .before .before .before .before .before .register-size .result) n (a .at) (a .count) (a .total) (a .most) content (c .before .before .before .before .before .before .before .r .given .1) (c .before .before .before .before .before .before .before .before .before .register-size .ensures) in
+    let n = c .before .before .before .before .before .before .before .before .r .given .0 .0 in
+    let f = size-fits (c .before .before .before .before .before .before .before .before .before .before .register-size .result) n (a .at) (a .count) (a .total) (a .most) content (c .before .before .before .before .before .before .before .before .r .given .1) (c .before .before .before .before .before .before .before .before .before .before .register-size .ensures) in
     let room = f .room in
     let fits = f .fits in
-    let long = c .before .before .before .before .before .before .before .before .before .before .before .before .pre .1 .1 .1 .kindsLong in
-    let rows = c .before .before .before .before .before .before .before .before .before .before .before .before .pre .1 .1 .1 .sizesLong in
-    omega arith
+    let before = c .before .before .before .before .before .before .before .before .before .before .before .before .before .pre .1 .1 .1 .1 .0 in
+    let t = c .before .before .before .before .before .before .before .before .before .before .before .before .before .pre .1 .1 .1 .1 .1 in
+    let long = c .before .before .before .before .before .before .before .before .before .before .before .before .before .pre .1 .1 .1 .0 in
+    let own = c .before .size-row .result in
+    let is : own ≡ sizeRow (a .at) (a .count) = c .before .size-row .ensures in
+    let inside : own < length (now (a .sizes)) = omega (arith, t .sizesLong, c .before .before .before .before .before .before .before .before .before .before .before .before .before .pre .0 .0, c .before .before .before .before .before .before .before .before .before .before .before .before .before .pre .0 .1) in
+    omega (arith, c .before .before .before .before .before .before .before .before .before .before .before .before .before .good)
 
+-- src/lib.rt:259:1
 same-length : tie.Need-same-length
 same-length c =
     search needs
 
+-- src/lib.rt:259:1
 same-length-2 : tie.Need-same-length-2
 same-length-2 c =
     search needs
 
+-- src/lib.rt:259:1
 returns-2 : tie.Need-returns-2
 returns-2 c =
-    let a = c .before .before .before .before .before .before .before .before .before .before .before .before .args in
+    let a = c .before .before .before .before .before .before .before .before .before .before .before .before .before .args in
     let program = now (a .program) in
     let content = slice (a .at + 3) (a .next) program in
-    let n = c .before .before .before .before .before .before .before .r .given .0 .0 in
-    let f = size-fits (c .before .before .before .before .before .before .before .before .before .register-size .result) n (a .at) (a .count) (a .total) (a .most) content (c .before .before .before .before .before .before .before .r .given .1) (c .before .before .before .before .before .before .before .before .before .register-size .ensures) in
+    let n = c .before .before .before .before .before .before .before .before .r .given .0 .0 in
+    let f = size-fits (c .before .before .before .before .before .before .before .before .before .before .register-size .result) n (a .at) (a .count) (a .total) (a .most) content (c .before .before .before .before .before .before .before .before .r .given .1) (c .before .before .before .before .before .before .before .before .before .before .register-size .ensures) in
     let room = f .room in
     let fits = f .fits in
-    let long = c .before .before .before .before .before .before .before .before .before .before .before .before .pre .1 .1 .1 .kindsLong in
-    let rows = c .before .before .before .before .before .before .before .before .before .before .before .before .pre .1 .1 .1 .sizesLong in
-    let far = c .before .before .before .before .before .before .before .before .before .before .before .before .pre .1 .1 .0 in
-    let h : a .count < tableRows = omega arith in
-    let l = c .before .store .last .0 in
-    let value = ap asForm (c .before .store .ensures .0) ∙ c .before .before .before .before .set-constant .ensures .0 ∙ ap constantForm (range-back (range-yes (pos n) (omega arith))) in (
-      sym (ap checkedRegister (c .before .before .before .before .before .before .before .r .given .1)) ∙ c .before .before .before .before .before .before .before .before .before .register-size .ensures,
+    let before = c .before .before .before .before .before .before .before .before .before .before .before .before .before .pre .1 .1 .1 .1 .0 in
+    let t = c .before .before .before .before .before .before .before .before .before .before .before .before .before .pre .1 .1 .1 .1 .1 in
+    let long = c .before .before .before .before .before .before .before .before .before .before .before .before .before .pre .1 .1 .1 .0 in
+    let own = c .before .size-row .result in
+    let is : own ≡ sizeRow (a .at) (a .count) = c .before .size-row .ensures in
+    let inside : own < length (now (a .sizes)) = omega (arith, t .sizesLong, c .before .before .before .before .before .before .before .before .before .before .before .before .before .pre .0 .0, c .before .before .before .before .before .before .before .before .before .before .before .before .before .pre .0 .1) in
+    let far = c .before .before .before .before .before .before .before .before .before .before .before .before .before .pre .1 .1 .0 in
+    let kinds = now (a .kinds) in
+    let sizes = now (a .sizes) in
+    let bytes = length program in
+    let h : a .count < length kinds = omega (arith, t .kindsLong) in
+    let b = c .row-number .result in
+    let names = number-size (a .kind) own b (c .row-number .ensures) in
+    let d : (j : ℕ) → sizeOfRow (getD kinds j 0) < own = (λ j. omega (arith, before .named j)) in
+    let two = size-two (c .before .before .before .before .before .before .before .before .before .before .register-size .result) n (a .at) (a .count) (a .total) (a .most) content (c .before .before .before .before .before .before .before .before .r .given .1) (c .before .before .before .before .before .before .before .before .before .before .register-size .ensures) in
+    let five : a .at + 5 ≤ a .next = omega (arith, length-slice (a .at + 3) (a .next) program (c .before .before .before .before .before .before .before .before .before .before .before .before .before .pre .0 .1)) in
+    let l = c .before .before .store .last .0 in
+    let value = ap asForm (c .before .before .store .ensures .0) ∙ c .before .before .before .before .before .set-constant .ensures .0 ∙ ap constantForm (range-back (range-yes (pos n) (omega arith))) in (
+      sym (ap checkedRegister (c .before .before .before .before .before .before .before .before .r .given .1)) ∙ c .before .before .before .before .before .before .before .before .before .before .register-size .ensures,
       record {
         room = room;
         fits = fits;
-        apart = apart-both (a .count) (now (a .kinds)) (now (a .sizes)) (c .before .before .before .before .before .before .before .before .before .before .before .before .pre .1 .1 .1) h (c .number .result) l (c .before .store .ensures .1);
-        row = row-both (a .count) (now (a .kinds)) (now (a .sizes)) (c .before .before .before .before .before .before .before .before .before .before .before .before .pre .1 .1 .1) h (c .number .result) l (c .before .store .ensures .1) ∙ numbered (a .kind) (c .number .result) _ (c .number .ensures) ∙ ap (kindIn (a .kind)) value;
+        apart = apart-both bytes (a .count) kinds sizes t h b own l (c .before .before .store .ensures .1) d inside;
+        used = λ rows k. in-use-set 0 rows (a .count) (a .count + 1) (a .at) (a .next) kinds (a .count) b before h (omega arith) (omega arith) k (omega arith);
+        row = row-both bytes (a .count) kinds sizes t h b own l (c .before .before .store .ensures .1) d inside (a .kind) (c .row-number .ensures) ∙ ap (kindIn (a .kind)) value;
       },
     )
 
@@ -161,9 +241,11 @@ register-spec =
     cast-set-constant
     set-constant-requires
     store-requires
-    number-requires
+    size-row-requires
+    row-number-requires
+    mul-kinds
     slice-write-kinds
-    mul-t22
+    mul-t21
     slice-set-from-sizes
     same-length
     same-length-2

@@ -1,130 +1,283 @@
-use borrow.Author.Needs.{needs}
 use Rattle.check_declaration.proofs.typed_row.Statement.{statement}
 use Rattle.check_declaration.proofs.typed_row.Tie as tie
 use Rattle.check_declaration.proofs.typed_row.Reads as reads
 use Rattle.check_declaration.proofs.typed_row.Lts as lts
 use Rattle.check_declaration.proofs.parameter_type.Reads as parameter-type-reads
+use Rattle.check_declaration.proofs.row_number.Reads as row-number-reads
+use Rattle.check_declaration.proofs.size_row.Reads as size-row-reads
 use Rattle.forms.proofs.store.Reads as store-reads
-use Rattle.kinds.proofs.number.Reads as number-reads
-use mathlib.Core.Path.{_∙_}
+use borrow.Author.Needs.{needs}
+use mathlib.Core.Path.{_≡_, _∙_}
+use Prim.Native.Nat.{ℕ, _+_, _<_}
 use denote.Ref.{now}
-use Rattle.check_declaration.proofs.Tables.{apart-none, apart-kind, apart-both}
+use lib.ListN.{length, getD}
+use Rattle.check_declaration.specs.Types.{sizeRow}
+use Rattle.check_declaration.proofs.Tables.{apart-none, apart-kind, apart-both, in-use-set, number-size}
 use Rattle.check_declaration.proofs.Types.{typed-single, typed-many, typed-bad, past-single, past-many}
 use mathlib.Core.List.{[]}
 use native.Mathlib.Omega.{arith}
 use Rattle.language.specs.Tree.{badType}
 use Rattle.language.specs.Read.{due, readType}
 use Rattle.fields.specs.Header.{fieldsAt}
-use Rattle.check_operand.specs.Tables.{scopeWith}
+use Rattle.kinds.specs.declared.Kind.the-variants.{Qubit, Quantum}
+use Rattle.check_operand.specs.Tables.{scopeWith, sizeOfRow}
 use Rattle.check_declaration.proofs.Sizes.{narrow}
 
+-- src/lib.rt:144:11
 parameter-type-requires : tie.Need-parameter-type-requires
 parameter-type-requires c κs =
     search needs
 
+-- src/lib.rt:145:26
 enum-known-next : tie.Need-enum-known-next
 enum-known-next c =
     search needs
 
-number-requires : tie.Need-number-requires
-number-requires c κs =
+-- src/lib.rt:146:26
+row-number-requires : tie.Need-row-number-requires
+row-number-requires c κs =
     search needs
 
+-- src/lib.rt:146:13
+mul-kinds : tie.Need-mul-kinds
+mul-kinds c =
+    let a = c .before .before .before .before .before .before .before .before .args in
+    let program = now (a .program) in
+    let bytes = length program in
+    let l = c .before .before .before .before .parameter-type .last .1 .1 .1 .1 .1 .0 in
+    let before = c .before .before .before .before .before .before .before .before .pre .1 .1 .1 .0 in
+    let t = c .before .before .before .before .before .before .before .before .pre .1 .1 .1 .1 in
+    let kinds = now (a .kinds) in
+    let sizes = now (a .sizes) in
+    let next = c .before .before .next .given .0 .0 in
+    let u = past-single program (a .at) (a .to) (c .before .before .before .before .parameter-type .result) l next (c .before .before .before .before .parameter-type .ensures .1) (c .before .before .next .given .1) in
+    let h : a .row < length kinds = omega (arith, u .low, u .high, c .before .before .before .before .before .before .before .before .pre .0, t .kindsLong, before .few) in
+    omega (arith, c .before .before .before .before .before .before .before .before .good)
+
+-- src/lib.rt:146:13
 slice-write-kinds : tie.Need-slice-write-kinds
 slice-write-kinds c =
-    search needs
+    let a = c .before .before .before .before .before .before .before .before .args in
+    let program = now (a .program) in
+    let bytes = length program in
+    let l = c .before .before .before .before .parameter-type .last .1 .1 .1 .1 .1 .0 in
+    let before = c .before .before .before .before .before .before .before .before .pre .1 .1 .1 .0 in
+    let t = c .before .before .before .before .before .before .before .before .pre .1 .1 .1 .1 in
+    let kinds = now (a .kinds) in
+    let sizes = now (a .sizes) in
+    let next = c .before .before .next .given .0 .0 in
+    let u = past-single program (a .at) (a .to) (c .before .before .before .before .parameter-type .result) l next (c .before .before .before .before .parameter-type .ensures .1) (c .before .before .next .given .1) in
+    let h : a .row < length kinds = omega (arith, u .low, u .high, c .before .before .before .before .before .before .before .before .pre .0, t .kindsLong, before .few) in
+    omega (arith, c .before .before .before .before .before .before .before .before .good)
 
+-- src/lib.rt:149:24
 enum-known-next-2 : tie.Need-enum-known-next-2
 enum-known-next-2 c =
     search needs
 
+-- src/lib.rt:151:13
 store-requires : tie.Need-store-requires
 store-requires c κs =
     let a = c .before .before .before .before .before .before .before .before .before .args in
     let program = now (a .program) in
+    let bytes = length program in
     let l = c .before .before .before .before .before .parameter-type .last .1 .1 .1 .1 .1 .0 in
-    let t = c .before .before .before .before .before .before .before .before .before .pre .1 .1 .1 in
-    let h = c .before .before .before .before .before .before .before .before .before .pre .1 .1 .0 in
+    let before = c .before .before .before .before .before .before .before .before .before .pre .1 .1 .1 .0 in
+    let t = c .before .before .before .before .before .before .before .before .before .pre .1 .1 .1 .1 in
     let kinds = now (a .kinds) in
     let sizes = now (a .sizes) in
+    let next = c .before .before .before .next2 .given .0 .0 in
+    let u = past-many program (a .at) (a .to) (c .before .before .before .before .before .parameter-type .result) l next (c .before .before .before .before .before .parameter-type .ensures .1) (c .before .before .before .next2 .given .1) in
+    let h : a .row < length kinds = omega (arith, u .0 .low, u .0 .high, c .before .before .before .before .before .before .before .before .before .pre .0, t .kindsLong, before .few) in
     let few = c .before .before .before .before .before .before .before .before .before .pre .1 .0 in
-    let u = past-many program (a .at) (a .to) (c .before .before .before .before .before .parameter-type .result) l (c .before .before .before .next2 .given .0 .0) (c .before .before .before .before .before .parameter-type .ensures .1) (c .before .before .before .next2 .given .1) in
-    (u .1, narrow (c .before .before .before .before .before .parameter-type .result) (c .before .before .before .next2 .given .0 .0) l (scopeWith [] [] (a .m) []) (due readType (badType 4 (a .parent)) (fieldsAt program (a .at) (a .to))) (c .before .before .before .next2 .given .1) (u .1) (c .before .before .before .before .before .parameter-type .ensures .0 [] []) (omega arith))
+    (u .1, narrow (c .before .before .before .before .before .parameter-type .result) next l (scopeWith [] [] (a .m) []) (due readType (badType 4 (a .parent)) (fieldsAt program (a .at) (a .to))) (c .before .before .before .next2 .given .1) (u .1) (c .before .before .before .before .before .parameter-type .ensures .0 [] []) (omega arith))
 
-number-requires-2 : tie.Need-number-requires-2
-number-requires-2 c κs =
-    search needs
+-- src/lib.rt:152:17
+size-row-requires : tie.Need-size-row-requires
+size-row-requires c κs =
+    let a = c .before .before .before .before .before .before .before .before .before .before .args in
+    let program = now (a .program) in
+    let bytes = length program in
+    let l = c .before .before .before .before .before .before .parameter-type .last .1 .1 .1 .1 .1 .0 in
+    let before = c .before .before .before .before .before .before .before .before .before .before .pre .1 .1 .1 .0 in
+    let t = c .before .before .before .before .before .before .before .before .before .before .pre .1 .1 .1 .1 in
+    let kinds = now (a .kinds) in
+    let sizes = now (a .sizes) in
+    let next = c .before .before .before .before .next2 .given .0 .0 in
+    let u = past-many program (a .at) (a .to) (c .before .before .before .before .before .before .parameter-type .result) l next (c .before .before .before .before .before .before .parameter-type .ensures .1) (c .before .before .before .before .next2 .given .1) in
+    let h : a .row < length kinds = omega (arith, u .0 .low, u .0 .high, c .before .before .before .before .before .before .before .before .before .before .pre .0, t .kindsLong, before .few) in
+    (omega (arith, u .0 .low, u .0 .high, c .before .before .before .before .before .before .before .before .before .before .pre .0, c .before .before .before .before .before .before .before .before .before .before .pre .1 .1 .0), before .fewRegisters)
 
+-- src/lib.rt:153:26
+row-number-requires-2 : tie.Need-row-number-requires-2
+row-number-requires-2 c κs =
+    let a = c .before .before .before .before .before .before .before .before .before .before .before .args in
+    let program = now (a .program) in
+    let bytes = length program in
+    let l = c .before .before .before .before .before .before .before .parameter-type .last .1 .1 .1 .1 .1 .0 in
+    let before = c .before .before .before .before .before .before .before .before .before .before .before .pre .1 .1 .1 .0 in
+    let t = c .before .before .before .before .before .before .before .before .before .before .before .pre .1 .1 .1 .1 in
+    let kinds = now (a .kinds) in
+    let sizes = now (a .sizes) in
+    let next = c .before .before .before .before .before .next2 .given .0 .0 in
+    let u = past-many program (a .at) (a .to) (c .before .before .before .before .before .before .before .parameter-type .result) l next (c .before .before .before .before .before .before .before .parameter-type .ensures .1) (c .before .before .before .before .before .next2 .given .1) in
+    let h : a .row < length kinds = omega (arith, u .0 .low, u .0 .high, c .before .before .before .before .before .before .before .before .before .before .before .pre .0, t .kindsLong, before .few) in
+    omega (arith, c .size-row .ensures, before .fewRegisters, u .0 .low, u .0 .high, c .before .before .before .before .before .before .before .before .before .before .before .pre .0, c .before .before .before .before .before .before .before .before .before .before .before .pre .1 .1 .0)
+
+-- src/lib.rt:153:13
+mul-kinds-2 : tie.Need-mul-kinds-2
+mul-kinds-2 c =
+    let a = c .before .before .before .before .before .before .before .before .before .before .before .before .args in
+    let program = now (a .program) in
+    let bytes = length program in
+    let l = c .before .before .before .before .before .before .before .before .parameter-type .last .1 .1 .1 .1 .1 .0 in
+    let before = c .before .before .before .before .before .before .before .before .before .before .before .before .pre .1 .1 .1 .0 in
+    let t = c .before .before .before .before .before .before .before .before .before .before .before .before .pre .1 .1 .1 .1 in
+    let kinds = now (a .kinds) in
+    let sizes = now (a .sizes) in
+    let next = c .before .before .before .before .before .before .next2 .given .0 .0 in
+    let u = past-many program (a .at) (a .to) (c .before .before .before .before .before .before .before .before .parameter-type .result) l next (c .before .before .before .before .before .before .before .before .parameter-type .ensures .1) (c .before .before .before .before .before .before .next2 .given .1) in
+    let h : a .row < length kinds = omega (arith, u .0 .low, u .0 .high, c .before .before .before .before .before .before .before .before .before .before .before .before .pre .0, t .kindsLong, before .few) in
+    omega (arith, c .before .before .before .before .before .before .before .before .before .before .before .before .good)
+
+-- src/lib.rt:153:13
 slice-write-kinds-2 : tie.Need-slice-write-kinds-2
 slice-write-kinds-2 c =
-    search needs
+    let a = c .before .before .before .before .before .before .before .before .before .before .before .before .args in
+    let program = now (a .program) in
+    let bytes = length program in
+    let l = c .before .before .before .before .before .before .before .before .parameter-type .last .1 .1 .1 .1 .1 .0 in
+    let before = c .before .before .before .before .before .before .before .before .before .before .before .before .pre .1 .1 .1 .0 in
+    let t = c .before .before .before .before .before .before .before .before .before .before .before .before .pre .1 .1 .1 .1 in
+    let kinds = now (a .kinds) in
+    let sizes = now (a .sizes) in
+    let next = c .before .before .before .before .before .before .next2 .given .0 .0 in
+    let u = past-many program (a .at) (a .to) (c .before .before .before .before .before .before .before .before .parameter-type .result) l next (c .before .before .before .before .before .before .before .before .parameter-type .ensures .1) (c .before .before .before .before .before .before .next2 .given .1) in
+    let h : a .row < length kinds = omega (arith, u .0 .low, u .0 .high, c .before .before .before .before .before .before .before .before .before .before .before .before .pre .0, t .kindsLong, before .few) in
+    omega (arith, c .before .before .before .before .before .before .before .before .before .before .before .before .good)
 
-mul-t28 : tie.Need-mul-t28
-mul-t28 c =
-    search needs
+-- src/lib.rt:154:13
+mul-t29 : tie.Need-mul-t29
+mul-t29 c =
+    let a = c .before .before .before .before .before .before .before .before .before .before .before .before .args in
+    let program = now (a .program) in
+    let bytes = length program in
+    let l = c .before .before .before .before .before .before .before .before .parameter-type .last .1 .1 .1 .1 .1 .0 in
+    let before = c .before .before .before .before .before .before .before .before .before .before .before .before .pre .1 .1 .1 .0 in
+    let t = c .before .before .before .before .before .before .before .before .before .before .before .before .pre .1 .1 .1 .1 in
+    let kinds = now (a .kinds) in
+    let sizes = now (a .sizes) in
+    let next = c .before .before .before .before .before .before .next2 .given .0 .0 in
+    let u = past-many program (a .at) (a .to) (c .before .before .before .before .before .before .before .before .parameter-type .result) l next (c .before .before .before .before .before .before .before .before .parameter-type .ensures .1) (c .before .before .before .before .before .before .next2 .given .1) in
+    let h : a .row < length kinds = omega (arith, u .0 .low, u .0 .high, c .before .before .before .before .before .before .before .before .before .before .before .before .pre .0, t .kindsLong, before .few) in
+    let own = c .before .size-row .result in
+    let is : own ≡ sizeRow (a .at) (a .registers) = c .before .size-row .ensures in
+    let f : own < length sizes = omega (arith, u .0 .low, u .0 .high, c .before .before .before .before .before .before .before .before .before .before .before .before .pre .0, t .sizesLong, before .fewRegisters) in
+    omega (arith, c .before .before .before .before .before .before .before .before .before .before .before .before .good)
 
+-- src/lib.rt:154:13
 slice-set-from-sizes : tie.Need-slice-set-from-sizes
 slice-set-from-sizes c =
-    search needs
+    let a = c .before .before .before .before .before .before .before .before .before .before .before .before .args in
+    let program = now (a .program) in
+    let bytes = length program in
+    let l = c .before .before .before .before .before .before .before .before .parameter-type .last .1 .1 .1 .1 .1 .0 in
+    let before = c .before .before .before .before .before .before .before .before .before .before .before .before .pre .1 .1 .1 .0 in
+    let t = c .before .before .before .before .before .before .before .before .before .before .before .before .pre .1 .1 .1 .1 in
+    let kinds = now (a .kinds) in
+    let sizes = now (a .sizes) in
+    let next = c .before .before .before .before .before .before .next2 .given .0 .0 in
+    let u = past-many program (a .at) (a .to) (c .before .before .before .before .before .before .before .before .parameter-type .result) l next (c .before .before .before .before .before .before .before .before .parameter-type .ensures .1) (c .before .before .before .before .before .before .next2 .given .1) in
+    let h : a .row < length kinds = omega (arith, u .0 .low, u .0 .high, c .before .before .before .before .before .before .before .before .before .before .before .before .pre .0, t .kindsLong, before .few) in
+    let own = c .before .size-row .result in
+    let is : own ≡ sizeRow (a .at) (a .registers) = c .before .size-row .ensures in
+    let f : own < length sizes = omega (arith, u .0 .low, u .0 .high, c .before .before .before .before .before .before .before .before .before .before .before .before .pre .0, t .sizesLong, before .fewRegisters) in
+    omega (arith, c .before .before .before .before .before .before .before .before .before .before .before .before .good)
 
+-- src/lib.rt:157:23
 enum-known-n : tie.Need-enum-known-n
 enum-known-n c =
     search needs
 
+-- src/lib.rt:122:1
 same-length : tie.Need-same-length
 same-length c =
     search needs
 
+-- src/lib.rt:122:1
 returns : tie.Need-returns
 returns c =
     let a = c .before .before .before .before .before .before .before .before .args in
     let program = now (a .program) in
+    let bytes = length program in
     let l = c .before .before .before .before .parameter-type .last .1 .1 .1 .1 .1 .0 in
-    let t = c .before .before .before .before .before .before .before .before .pre .1 .1 .1 in
-    let h = c .before .before .before .before .before .before .before .before .pre .1 .1 .0 in
+    let before = c .before .before .before .before .before .before .before .before .pre .1 .1 .1 .0 in
+    let t = c .before .before .before .before .before .before .before .before .pre .1 .1 .1 .1 in
     let kinds = now (a .kinds) in
-    let sizes = now (a .sizes) in (
-      λ fs ks. typed-single (c .before .before .before .before .parameter-type .result) (c .before .before .next .given .0 .0) 0 l (a .row) kinds sizes t h (c .number .result) (c .number .ensures) (c .before .before .next .given .1) ∙ c .before .before .before .before .parameter-type .ensures .0 fs ks,
+    let sizes = now (a .sizes) in
+    let next = c .before .before .next .given .0 .0 in
+    let u = past-single program (a .at) (a .to) (c .before .before .before .before .parameter-type .result) l next (c .before .before .before .before .parameter-type .ensures .1) (c .before .before .next .given .1) in
+    let h : a .row < length kinds = omega (arith, u .low, u .high, c .before .before .before .before .before .before .before .before .pre .0, t .kindsLong, before .few) in
+    let b = c .row-number .result in
+    let none = number-size Qubit 0 b (c .row-number .ensures) in (
+      λ fs ks. typed-single (c .before .before .before .before .parameter-type .result) next l bytes (a .row) kinds sizes t h b (c .row-number .ensures) (c .before .before .next .given .1) ∙ c .before .before .before .before .parameter-type .ensures .0 fs ks,
       (
-        past-single program (a .at) (a .to) (c .before .before .before .before .parameter-type .result) l (c .before .before .next .given .0 .0) (c .before .before .before .before .parameter-type .ensures .1) (c .before .before .next .given .1),
-        apart-kind (a .row) kinds sizes t h (c .number .result),
+        u,
+        (in-use-set (a .row) (a .row + 1) (a .registers) (a .registers) (a .at) next kinds (a .row) b before h (omega arith) (omega (arith, u .low)) (omega (arith, u .low, before .few)) (before .fewRegisters), apart-kind bytes (a .row) kinds sizes t h b),
       ),
     )
 
+-- src/lib.rt:122:1
 same-length-2 : tie.Need-same-length-2
 same-length-2 c =
     search needs
 
+-- src/lib.rt:122:1
 same-length-3 : tie.Need-same-length-3
 same-length-3 c =
     search needs
 
+-- src/lib.rt:122:1
 returns-2 : tie.Need-returns-2
 returns-2 c =
-    let a = c .before .before .before .before .before .before .before .before .before .before .before .args in
+    let a = c .before .before .before .before .before .before .before .before .before .before .before .before .args in
     let program = now (a .program) in
-    let l = c .before .before .before .before .before .before .before .parameter-type .last .1 .1 .1 .1 .1 .0 in
-    let t = c .before .before .before .before .before .before .before .before .before .before .before .pre .1 .1 .1 in
-    let h = c .before .before .before .before .before .before .before .before .before .before .before .pre .1 .1 .0 in
+    let bytes = length program in
+    let l = c .before .before .before .before .before .before .before .before .parameter-type .last .1 .1 .1 .1 .1 .0 in
+    let before = c .before .before .before .before .before .before .before .before .before .before .before .before .pre .1 .1 .1 .0 in
+    let t = c .before .before .before .before .before .before .before .before .before .before .before .before .pre .1 .1 .1 .1 in
     let kinds = now (a .kinds) in
     let sizes = now (a .sizes) in
-    let u = past-many program (a .at) (a .to) (c .before .before .before .before .before .before .before .parameter-type .result) l (c .before .before .before .before .before .next2 .given .0 .0) (c .before .before .before .before .before .before .before .parameter-type .ensures .1) (c .before .before .before .before .before .next2 .given .1) in
-    let short = c .before .store .last .0 in (
-      λ fs ks. typed-many (c .before .before .before .before .before .before .before .parameter-type .result) (c .before .before .before .before .before .next2 .given .0 .0) 0 l (a .row) kinds sizes t h (c .number2 .result) (c .number2 .ensures) short (c .before .before .before .before .before .next2 .given .1) (c .before .store .ensures .1) (c .before .store .ensures .0) ∙ c .before .before .before .before .before .before .before .parameter-type .ensures .0 fs ks,
-      (u .0, apart-both (a .row) kinds sizes t h (c .number2 .result) short (c .before .store .ensures .1)),
+    let next = c .before .before .before .before .before .before .next2 .given .0 .0 in
+    let u = past-many program (a .at) (a .to) (c .before .before .before .before .before .before .before .before .parameter-type .result) l next (c .before .before .before .before .before .before .before .before .parameter-type .ensures .1) (c .before .before .before .before .before .before .next2 .given .1) in
+    let h : a .row < length kinds = omega (arith, u .0 .low, u .0 .high, c .before .before .before .before .before .before .before .before .before .before .before .before .pre .0, t .kindsLong, before .few) in
+    let own = c .before .size-row .result in
+    let is : own ≡ sizeRow (a .at) (a .registers) = c .before .size-row .ensures in
+    let f : own < length sizes = omega (arith, u .0 .low, u .0 .high, c .before .before .before .before .before .before .before .before .before .before .before .before .pre .0, t .sizesLong, before .fewRegisters) in
+    let b = c .row-number2 .result in
+    let names = number-size Quantum own b (c .row-number2 .ensures) in
+    let d : (j : ℕ) → sizeOfRow (getD kinds j 0) < own = (λ j. omega (arith, before .named j)) in
+    let short = c .before .before .store .last .0 in (
+      λ fs ks. typed-many (c .before .before .before .before .before .before .before .before .parameter-type .result) next l bytes (a .row) kinds sizes t h b own (c .row-number2 .ensures) short d f (c .before .before .before .before .before .before .next2 .given .1) (c .before .before .store .ensures .1) (c .before .before .store .ensures .0) ∙ c .before .before .before .before .before .before .before .before .parameter-type .ensures .0 fs ks,
+      (
+        u .0,
+        (in-use-set (a .row) (a .row + 1) (a .registers) (a .registers) (a .at) next kinds (a .row) b before h (omega (arith, u .2)) (omega (arith, u .2)) (omega (arith, u .2, before .few)) (before .fewRegisters), apart-both bytes (a .row) kinds sizes t h b own short (c .before .before .store .ensures .1) d f),
+      ),
     )
 
+-- src/lib.rt:122:1
 returns-3 : tie.Need-returns-3
 returns-3 c =
     let a = c .before .before .before .before .before .before .before .args in
     let program = now (a .program) in
+    let bytes = length program in
     let l = c .before .before .before .parameter-type .last .1 .1 .1 .1 .1 .0 in
-    let t = c .before .before .before .before .before .before .before .pre .1 .1 .1 in
-    let h = c .before .before .before .before .before .before .before .pre .1 .1 .0 in
+    let before = c .before .before .before .before .before .before .before .pre .1 .1 .1 .0 in
+    let t = c .before .before .before .before .before .before .before .pre .1 .1 .1 .1 in
     let kinds = now (a .kinds) in
     let sizes = now (a .sizes) in (
-      λ fs ks. typed-bad (c .before .before .before .parameter-type .result) (c .before .n .given .0 .0) (c .before .n .given .0 .1 .0) l (a .row) kinds sizes t h (c .before .n .given .1) ∙ c .before .before .before .parameter-type .ensures .0 fs ks,
-      (tt, apart-none (a .row) 1 kinds sizes t),
+      λ fs ks. typed-bad (c .before .before .before .parameter-type .result) (c .before .n .given .0 .0) (c .before .n .given .0 .1 .0) l (a .row) kinds sizes (c .before .n .given .1) ∙ c .before .before .before .parameter-type .ensures .0 fs ks,
+      (tt, (tt, apart-none bytes (a .row) 1 kinds sizes t)),
     )
 
 pub typed-row-spec : {M : Type 1} → statement M
@@ -133,13 +286,16 @@ typed-row-spec =
     (tie.spec
     parameter-type-requires
     enum-known-next
-    number-requires
+    row-number-requires
+    mul-kinds
     slice-write-kinds
     enum-known-next-2
     store-requires
-    number-requires-2
+    size-row-requires
+    row-number-requires-2
+    mul-kinds-2
     slice-write-kinds-2
-    mul-t28
+    mul-t29
     slice-set-from-sizes
     enum-known-n
     same-length

@@ -109,7 +109,7 @@ module _ (t : ℕ) where
         (
           c .before .before .before .before .before .before .before .before .before .before .before .before .before .before .pre .1 .0 .1,
           (
-            record { few = r .few; nested = omega arith; kindRows = r .kindRows; sizeRows = r .sizeRows; lowRows = rows-set (now (a .lows)) 8 n l (r .lowRows) (v .1); highRows = rows-set (now (a .highs)) 8 n h (r .highRows) (v .2) },
+            record { few = r .few; nested = omega arith; kindRows = r .kindRows; sizeRows = r .sizeRows; named = r .named; lowRows = rows-set (now (a .lows)) 8 n l (r .lowRows) (v .1); highRows = rows-set (now (a .highs)) 8 n h (r .highRows) (v .2) },
             record { enough = d .enough; each = d .each },
           ),
         ),
