@@ -7,11 +7,7 @@ use native.Mathlib.Omega.{arith}
 use native.Mathlib.Numerals.{add-one}
 use lib.Dec.{leb}
 use borrow.Author.Tests.{leb-true, ne-eqb, lt-leb}
-use lib.IntN.{ℤ, pos, negsuc}
-use mir.Syntax.{w32}
-use mir.Val.{SFits}
-use Rattle.language.specs.Form.{inRange}
-use Rattle.language.proofs.Integers.{integers, range-true}
+use lib.IntN.{ℤ}
 use lib.ListN.{length, take, set, length-append}
 use lib.Seq.{slice, take-suc-set}
 use Rattle.language.specs.Limits.{mostVariables, deepest}
@@ -27,11 +23,6 @@ use Rattle.fields.proofs.Between.{lookIn, in-whole}
 use Rattle.calls.specs.declared.Gathered.the-variants.{Are, Over as gOver, Stuck as gStuck}
 use Rattle.calls.specs.Arguments.{sizeArguments, SizesGathered, are, over, stuck}
 use Rattle.calls.proofs.ArgumentLists.{Lister, Sofar, ListLeads, Skipped, led, sofar-start, sofar-end, sofar-cut, sofar-skip, sofar-more, sofar-over, sofar-stuck}
-
--- a number in range is one of four bytes
-pub narrow-fits : (z : ℤ) → inRange z ≡ true → SFits w32 z
-narrow-fits (pos n) h = record { sfits = omega (integers, range-true) }
-narrow-fits (negsuc n) h = record { sfits = omega (integers, range-true) }
 
 -- the sizes of arguments, as the machine lists them
 abbrev sizesBy : List ℤ → List Meaning → Lister ℤ

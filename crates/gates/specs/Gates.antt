@@ -15,6 +15,9 @@ use Rattle.language.specs.Machine.{Run, Frame, Direction, forward, backward, wr
 use Rattle.indexes.specs.declared.Value.{Value}
 use Rattle.indexes.specs.declared.Value.the-variants.{Is, Over as vOver, Stuck as vStuck}
 use Rattle.language.specs.Result.{op}
+use Rattle.fields.specs.declared.Named.{Named}
+use Rattle.fields.specs.declared.Named.the-variants.{Family, Bad}
+use Rattle.fields.specs.CallNumber.{isCallTag, namedIn}
 use Rattle.operands.specs.Meanings.{theWire, operandsOf, frameOf}
 use Rattle.operands.specs.declared.Scope.{Scope}
 use Rattle.records.specs.Outcomes.{conditionOf, OneStep, NoStep}
@@ -118,30 +121,35 @@ innerOf mode tag = cond (eqb tag 37) (deeperOf mode (mode .variables) (not (mode
 abbrev pub enteredOf : Mode → (n many : ℕ) → Mode
 enteredOf mode n many = record { limit = mode .limit; «families_visible» = n; levels = deepest; variables = many; reversed = mode .reversed; condition = mode .condition }
 
--- a call that names no family
-unfoldable pub namelessOf : ℕ → ℕ → Bool
-namelessOf tag size = eqb tag 36 && eqb size 0
+-- whether a call's number names no family
+unfoldable pub namesNone : Named → Bool
+namesNone (Family n after) = false
+namesNone (Bad k) = true
+
+-- a call that names no family, with this content
+unfoldable pub namelessOf : (tag : ℕ) → List ℕ → Bool
+namelessOf tag l = isCallTag tag && namesNone (namedIn tag 0 l)
 
 -- a statement that may be entered: not too deep, of a tag that there is, and no call without a family
-pub record Enterable (mode : Mode) (tag size : ℕ) : Type 0 where
+pub record Enterable (mode : Mode) (tag : ℕ) (l : List ℕ) : Type 0 where
   pub deep : mode .levels ≡ 0 → ⊥
   pub low : 32 ≤ tag
-  pub high : tag ≤ 38
-  pub named : namelessOf tag size ≡ false
+  pub high : tag ≤ 39
+  pub named : namelessOf tag l ≡ false
 
-pub record StepTaken (mode : Mode) (tag size : ℕ) (st s : State) : Type 0 where
-  pub enterable : Enterable mode tag size
+pub record StepTaken (mode : Mode) (tag : ℕ) (l : List ℕ) (st s : State) : Type 0 where
+  pub enterable : Enterable mode tag l
   pub step : OneStep (mode .limit) st s
 
-pub record NoStepLeft (mode : Mode) (tag size : ℕ) (base : Place) (st : State) (n : ℕ) (p : Place) (s : State) : Type 0 where
-  pub enterable : Enterable mode tag size
+pub record NoStepLeft (mode : Mode) (tag : ℕ) (l : List ℕ) (base : Place) (st : State) (n : ℕ) (p : Place) (s : State) : Type 0 where
+  pub enterable : Enterable mode tag l
   pub none : NoStep (mode .limit) base st n p s
 
--- what entering a statement answers
-unfoldable pub Entered : Mode → (tag size : ℕ) → Place → State → Answer → Type 0
-Entered mode tag size base st (Going s) = StepTaken mode tag size st s
-Entered mode tag size base st (Ended n p s) = NoStepLeft mode tag size base st n p s
-Entered mode tag size base st aStuck = Enterable mode tag size → ⊥
+-- what entering a statement with this tag and this content answers
+unfoldable pub Entered : Mode → (tag : ℕ) → List ℕ → Place → State → Answer → Type 0
+Entered mode tag l base st (Going s) = StepTaken mode tag l st s
+Entered mode tag l base st (Ended n p s) = NoStepLeft mode tag l base st n p s
+Entered mode tag l base st aStuck = Enterable mode tag l → ⊥
 
 -- the gate or the cx of this tag
 unfoldable pub actAt : Mode → (room : ℕ) → ℕ → Place → List ℕ → Frame → Run (Unit {0})

@@ -12,6 +12,7 @@ ghost use Rattle.indexes.specs.Values.{mostValues};
 ghost use Rattle.records.specs.Outcomes.{Does};
 ghost use Rattle.gates.specs.Gates.{codeOf, frameIn, directionOf, boundOf, Bounded, mostRounds, Repeated, turnOf, namelessOf, Entered, actAt, deeperOf, innerOf, enteredOf};
 use fields::Header;
+use fields::Named;
 use indexes::VALUES;
 use indexes::Value;
 use limits::DEEPEST;
@@ -210,17 +211,33 @@ pub fn turn(reversed: bool, start: i64, i: usize) -> i32
     z as i32
 }
 
-// Whether it is a call that names no family.
-fn nameless(tag: u8, size: usize) -> bool
-    ensures { λ r. ⌜ r ≡ namelessOf tag size ⌝ }
+// Whether the statement with this tag and the content from `from` to `to` is a call that names no family.
+fn nameless(bytes: &[u8], from: usize, to: usize, tag: u8) -> bool
+    requires { ⌜ (from ≤ to) × (to ≤ length (now bytes)) ⌝ }
+    ensures { λ r. ⌜ r ≡ namelessOf tag (slice from to (now (bytes .entry))) ⌝ }
 {
-    tag == 36 && size == 0
+    if !fields::is_call(tag) {
+        return false;
+    }
+    match fields::family_named(bytes, from, to, tag) {
+        Named::Family(_, _) => false,
+        Named::Bad(_) => true,
+    }
 }
 
-// Enters the statement with this tag and so many bytes of content: takes its step, unless it has no meaning or none is left.
-pub fn enter(tag: u8, size: usize, place: usize, mode: Mode, st: State) -> Answer
+// Enters the statement with this tag and the content from `from` to `to`: takes its step, unless it has no meaning or none is left.
+pub fn enter(
+    bytes: &[u8],
+    from: usize,
+    to: usize,
+    tag: u8,
+    place: usize,
+    mode: Mode,
+    st: State,
+) -> Answer
+    requires { ⌜ (from ≤ to) × (to ≤ length (now bytes)) ⌝ }
     requires { ⌜ place ≤ longestProgram ⌝ }
-    ensures { λ r. ⌜ Entered mode tag size place st r ⌝ }
+    ensures { λ r. ⌜ Entered mode tag (slice from to (now (bytes .entry))) place st r ⌝ }
 {
     if mode.levels == 0 {
         return Answer::Stuck;
@@ -228,10 +245,10 @@ pub fn enter(tag: u8, size: usize, place: usize, mode: Mode, st: State) -> Answe
     if tag < 32 {
         return Answer::Stuck;
     }
-    if 38 < tag {
+    if 39 < tag {
         return Answer::Stuck;
     }
-    if nameless(tag, size) {
+    if nameless(bytes, from, to, tag) {
         return Answer::Stuck;
     }
     records::take_step(mode.limit, place, st)

@@ -2,16 +2,19 @@
 use Prim.Native.Nat.{ℕ, _+_, _*_, _-_, _<_, _≤_}
 use mathlib.Core.Path.{_≡_, refl, sym, ap, _∙_}
 use mathlib.Core.List.{List, []}
+use mathlib.Core.Bool.{true}
 use native.Mathlib.Omega.{arith}
 use lib.ListN.{length, getD, take}
-use lib.Seq.{slice, drop-drop, take-length}
+use lib.Seq.{slice, take-length}
 use lib.IntN.{ℤ}
 use Rattle.language.specs.Tree.{call}
 use Rattle.language.specs.Read.{read, fields, statementsBy, outerStatement}
 use Rattle.language.specs.Machine.{Run, noMeaning, endAt, found, step, runCall, runStatement, runStatements, allDeclared, after, _>>=_, _>>_}
 use Rattle.language.proofs.Families.{family-not-called}
 use Rattle.fields.specs.Table.{pastOf}
-use Rattle.fields.proofs.Between.{not-empty, first-byte}
+use Rattle.fields.specs.declared.Named.the-variants.{Family}
+use Rattle.fields.specs.CallNumber.{isCallTag, namedIn}
+use Rattle.fields.proofs.CallNumbers.{named-in}
 use Rattle.operands.specs.declared.Scope.{Scope}
 use Rattle.operands.specs.Meanings.{operandsOf, frameOf}
 use Rattle.records.specs.Outcomes.{conditionOf}
@@ -22,34 +25,34 @@ use Rattle.calls.specs.declared.Taken.the-variants.{All, Over, Stuck}
 use Rattle.calls.specs.Families.{declaredAt, Entry, BodyFrom}
 use Rattle.calls.specs.Arguments.{argumentsIn, gatheredOperands, argumentsTold, BodyBegins, Scopes, Arguments}
 use Rattle.calls.proofs.CallByNumber.{call-is}
-use Rattle.unroller.specs.Runs.{familiesIn, oneRun, restRun}
+use Rattle.unroller.specs.Runs.{Ready, familiesIn, oneRun, restRun}
 use Rattle.unroller.proofs.Statements.{one-call}
 
-module _ (mode : Mode) (room from to place : ℕ) (bytes program : List ℕ) (values : List ℤ) (scope : Scope) (regs : List ℕ)
-    (deep : mode .levels ≡ 0 → ⊥) (low : from < to) (high : to ≤ length bytes) where
+module _ (mode : Mode) (room base from to place tag : ℕ) (bytes program : List ℕ) (values : List ℤ) (scope : Scope) (regs : List ℕ)
+    (ready : Ready mode base from to (length bytes) place) (deep : mode .levels ≡ 0 → ⊥) (calls : isCallTag tag ≡ true)
+    (number first : ℕ) (named : namedIn tag from (slice from to bytes) ≡ Family number first) where
   abbrev whole : Run (Unit {0})
-  whole = oneRun mode room place 36 (slice from to bytes) program (frameIn mode values scope regs)
+  whole = oneRun mode room place tag (slice from to bytes) program (frameIn mode values scope regs)
 
-  -- the call by its number, the byte at `from`, with the arguments behind it
-  call-read : whole ≡ runStatement (mode .limit) room (call place (getD bytes from 0) (argumentsIn (place + 4) (slice (from + 1) to bytes))) (familiesIn mode room program) (frameIn mode values scope regs)
-  call-read = one-call mode room place 36 (slice from to bytes) program (frameIn mode values scope regs) deep refl (not-empty bytes from to low high)
-      ∙ (λ j. runStatement (mode .limit) room (call place (first-byte bytes from to low high j) (argumentsIn (place + 4) (drop-drop 1 from (take to bytes) j))) (familiesIn mode room program) (frameIn mode values scope regs))
+  -- the call by its number, with the arguments behind it
+  call-named : whole ≡ runStatement (mode .limit) room (call place number (argumentsIn (place + 3 + (first - from)) (slice first to bytes))) (familiesIn mode room program) (frameIn mode values scope regs)
+  call-named = one-call mode room place tag (slice from to bytes) program (frameIn mode values scope regs) deep calls number _ _ (named-in tag from to bytes (ready .order) (ready .within) number first named .reads place _ refl)
 
   -- a number of no family
-  pub call-none : mode .«families_visible» ≤ getD bytes from 0 → whole ≡ (step (mode .limit) room place >> noMeaning)
+  pub call-none : mode .«families_visible» ≤ number → whole ≡ (step (mode .limit) room place >> noMeaning)
   unfolding runStatement runCall found _>>=_ after
-  call-none h = call-read ∙ rw (family-not-called (mode .limit) room (read program) (mode .«families_visible») (getD bytes from 0) h)
+  call-none h = call-named ∙ rw (family-not-called (mode .limit) room (read program) (mode .«families_visible») number h)
 
-  module _ (at : ℕ) (h : getD bytes from 0 < mode .«families_visible») (e : Entry program (getD bytes from 0) at) (sizes : List ℤ) (hand : List ℕ) (r : Taken)
-      (w : Arguments (slice (from + 1) to bytes) program at values (operandsOf scope regs) sizes hand r) where
+  module _ (at : ℕ) (h : number < mode .«families_visible») (e : Entry program number at) (sizes : List ℤ) (hand : List ℕ) (r : Taken)
+      (w : Arguments (slice first to bytes) program at values (operandsOf scope regs) sizes hand r) where
     -- what the body does with so many operands
     abbrev bodied : ℕ → Run (Unit {0})
-    bodied n = runStatements (mode .limit) room (declaredAt program at .body) (take (getD bytes from 0) (allDeclared (mode .limit) room (read program) []))
+    bodied n = runStatements (mode .limit) room (declaredAt program at .body) (take number (allDeclared (mode .limit) room (read program) []))
         (frameOf (directionOf (mode .reversed)) (conditionOf (mode .condition)) (take (getD program (at + 3) 0) sizes) (gatheredOperands (take (3 * n) hand)))
 
     called : whole ≡ (step (mode .limit) room place >> argumentsTold place r bodied)
-    called = call-read ∙ call-is program (getD bytes from 0) at (mode .«families_visible») e h (slice (from + 1) to bytes) values (operandsOf scope regs) sizes hand r w
-        (mode .limit) room place (place + 4) (directionOf (mode .reversed)) (conditionOf (mode .condition))
+    called = call-named ∙ call-is program number at (mode .«families_visible») e h (slice first to bytes) values (operandsOf scope regs) sizes hand r w
+        (mode .limit) room place (place + 3 + (first - from)) (directionOf (mode .reversed)) (conditionOf (mode .condition))
 
     pub call-over : r ≡ Over → whole ≡ (step (mode .limit) room place >> endAt 24 place)
     unfolding argumentsTold
@@ -65,8 +68,8 @@ module _ (mode : Mode) (room from to place : ℕ) (bytes program : List ℕ) (va
 
     -- all are taken: the body's list, which begins at `start`
     pub call-all : (n start : ℕ) → r ≡ All n start → (inner : Scope) → Scopes hand n inner → (b : List ℕ) → b ≡ slice start (pastOf program at) program
-        → whole ≡ (step (mode .limit) room place >> restRun (enteredOf mode (getD bytes from 0) (getD program (at + 3) 0)) room start 0 (length b) b program
-        (frameIn (enteredOf mode (getD bytes from 0) (getD program (at + 3) 0)) (take (getD program (at + 3) 0) sizes) inner regs))
+        → whole ≡ (step (mode .limit) room place >> restRun (enteredOf mode number (getD program (at + 3) 0)) room start 0 (length b) b program
+        (frameIn (enteredOf mode number (getD program (at + 3) 0)) (take (getD program (at + 3) 0) sizes) inner regs))
     unfolding argumentsTold
     call-all n start q inner s b c =
         let o = call-begins n start q in
@@ -75,5 +78,5 @@ module _ (mode : Mode) (room from to place : ℕ) (bytes program : List ℕ) (va
         ap (λ (x : List ℕ). statementsBy outerStatement (fields (start + 0) x)) (take-length b ∙ c) ∙ ap (λ (k : ℕ). statementsBy outerStatement (fields k (slice start (pastOf program at) program))) (sym i)
         ∙ ap (statementsBy outerStatement) (o .rest (at + 5)) in
         called ∙ ap (λ (x : Taken). step (mode .limit) room place >> argumentsTold place x bodied) q
-        ∙ (λ j. step (mode .limit) room place >> runStatements (mode .limit) room (sym body j) (take (getD bytes from 0) (allDeclared (mode .limit) room (read program) []))
+        ∙ (λ j. step (mode .limit) room place >> runStatements (mode .limit) room (sym body j) (take number (allDeclared (mode .limit) room (read program) []))
         (frameOf (directionOf (mode .reversed)) (conditionOf (mode .condition)) (take (getD program (at + 3) 0) sizes) (sym (s .same regs) j)))

@@ -3,7 +3,7 @@ use Prim.Native.Nat.{ℕ, _+_, _-_, _<_, _≤_}
 use mathlib.Core.Path.{_≡_, refl, sym, ap, _∙_, subst}
 use mathlib.Core.List.{List}
 use native.Mathlib.Omega.{arith}
-use lib.ListN.{length, take}
+use lib.ListN.{take}
 use lib.Seq.{slice}
 use lib.IntN.{ℤ}
 use Rattle.language.specs.Limits.{longestProgram}
@@ -18,15 +18,15 @@ use Rattle.records.specs.declared.Answer.{Answer}
 use Rattle.records.specs.Outcomes.{conditionOf}
 use Rattle.records.proofs.Sequences.{step-taken}
 use Rattle.gates.specs.declared.Mode.{Mode}
-use Rattle.gates.specs.Gates.{frameIn, innerOf, Enterable, StepTaken}
+use Rattle.gates.specs.Gates.{frameIn, innerOf, StepTaken}
 use Rattle.gates.proofs.GateRuns.{does-as}
 use Rattle.unroller.specs.declared.Nested.{Nested}
-use Rattle.unroller.specs.Runs.{familiesIn, oneRun, listAt, Completes, tagAt, Nests, Nestable, Inside}
+use Rattle.unroller.specs.Runs.{familiesIn, oneRun, listAt, Completes, HasBody, tagAt, Nests, Nestable, Inside}
 use Rattle.unroller.proofs.Statements.{one-reverse, turned}
 use Rattle.unroller.proofs.Walks.{list-single}
 
 module _ (bytes : List ℕ) (base to : ℕ) (e : Nested) where
-  pub inside-self : Nestable base to (length bytes) e → Inside bytes base to e e
+  pub inside-self : Nestable bytes base to e → Inside bytes base to e e
   inside-self a = record {
     able = a;
     later = omega arith;
@@ -75,7 +75,7 @@ module _ (bytes : List ℕ) (base to : ℕ) (e : Nested) where
           ∙ ap (λ (x : Run (Unit {0})). step (r .mode .limit) room (tagAt base r) >> x)
           (list-single inner room (base + r .from) tag (slice (r .from) to bytes) (slice (r .from + 3) to bytes) program (frameIn inner values scope regs) (rw z at (held .alone (base + r .from))))
 
-      pub inside-more : 37 ≤ tag → (s : State) → StepTaken inner tag (to - (r .from + 3)) (r .st) s → Inside bytes base to e (record { from = r .from + 3; tag = tag; mode = inner; st = s })
+      pub inside-more : HasBody tag → (s : State) → StepTaken inner tag (slice (r .from + 3) to bytes) (r .st) s → Inside bytes base to e (record { from = r .from + 3; tag = tag; mode = inner; st = s })
       inside-more h s q =
           let y = w .able .ready in
           let z : base + (r .from + 3) - 3 ≡ base + r .from = omega arith in
@@ -84,7 +84,7 @@ module _ (bytes : List ℕ) (base to : ℕ) (e : Nested) where
               ready = record { few = omega (arith, y .few); order = content .low; within = y .within; near = y .near; here = omega (arith, content .near) };
               behind = omega arith;
               enterable = q .enterable;
-              bodied = omega arith;
+              bodied = h;
             };
             later = omega (arith, w .later);
             visible = w .visible;
@@ -96,11 +96,11 @@ module _ (bytes : List ℕ) (base to : ℕ) (e : Nested) where
 -- the answer of what stands inside, with the values in scope
 module _ (bytes : List ℕ) (base to : ℕ) (e r : Nested) (w : Inside bytes base to e r) where
   pub inside-does : (place : ℕ) → base + e .from ≡ place + 3 → (room : ℕ) (program : List ℕ) (vars : List ℤ) (scope : Scope) (regs l l' : List ℕ) (a : Answer) → Nests bytes base to r room program (take (r .mode .variables) vars) scope regs l l' a
-      → Completes (e .mode) (e .tag) (to - e .from) l (e .st) l' a (oneRun (e .mode) room place (e .tag) (slice (e .from) to bytes) program (frameIn (e .mode) (take (e .mode .variables) vars) scope regs))
+      → Completes (e .mode) (e .tag) (slice (e .from) to bytes) l (e .st) l' a (oneRun (e .mode) room place (e .tag) (slice (e .from) to bytes) program (frameIn (e .mode) (take (e .mode .variables) vars) scope regs))
   inside-does place b room program vars scope regs l l' a x =
       let z : tagAt base e ≡ place = omega (arith, b) in
       let d = subst (λ (n : ℕ). Nests bytes base to e room program (take n vars) scope regs l l' a) (w .variables) (w .leads room program (take (r .mode .variables) vars) scope regs l l' a x) in
-      subst (λ (n : ℕ). Completes (e .mode) (e .tag) (to - e .from) l (e .st) l' a (oneRun (e .mode) room n (e .tag) (slice (e .from) to bytes) program (frameIn (e .mode) (take (e .mode .variables) vars) scope regs))) z d
+      subst (λ (n : ℕ). Completes (e .mode) (e .tag) (slice (e .from) to bytes) l (e .st) l' a (oneRun (e .mode) room n (e .tag) (slice (e .from) to bytes) program (frameIn (e .mode) (take (e .mode .variables) vars) scope regs))) z d
 
   pub inside-stays : (a b : List ℤ) → take (r .mode .variables) a ≡ take (r .mode .variables) b → take (e .mode .variables) a ≡ take (e .mode .variables) b
   inside-stays a b x = subst (λ (n : ℕ). take n a ≡ take n b) (w .variables) x

@@ -1,5 +1,5 @@
 -- The body of a reverse or a for: how often it runs, and in which frame. Assumes nothing.
-use Prim.Native.Nat.{ℕ, _+_, _-_, _<_, _≤_}
+use Prim.Native.Nat.{ℕ, _+_, _-_, _≤_}
 use mathlib.Core.Path.{_≡_, refl, sym, ap, _∙_, subst}
 use mathlib.Core.List.{List}
 use mathlib.Core.Bool.{Bool, true, false, cond, not}
@@ -21,9 +21,9 @@ use Rattle.gates.specs.declared.Bounds.{Bounds}
 use Rattle.gates.specs.declared.Bounds.the-variants.{Are, Over, Stuck}
 use Rattle.gates.specs.declared.Repeats.{Repeats}
 use Rattle.gates.specs.declared.Repeats.the-variants as R
-use Rattle.gates.specs.Gates.{directionOf, frameIn, deeperOf, innerOf, Enterable, bounding, Bounded, Rounds, Looped, Repeated}
+use Rattle.gates.specs.Gates.{directionOf, frameIn, deeperOf, innerOf, bounding, Bounded, Rounds, Looped, Repeated}
 use Rattle.gates.proofs.RoundValues.{rounds-body, rounds-start, rounds-turn}
-use Rattle.unroller.specs.Runs.{familiesIn, oneRun, listAt, timesRun, keptIn, Often}
+use Rattle.unroller.specs.Runs.{familiesIn, oneRun, listAt, timesRun, keptIn, Often, HasBody}
 use Rattle.unroller.proofs.Statements.{one-reverse, one-for, turned}
 
 -- ---- what stays in the body
@@ -47,20 +47,20 @@ module _ (mode : Mode) where
       go false = omega (arith, h, k)
 
   -- the values that were in scope stay
-  pub inner-kept : (tag : ℕ) → 36 < tag → tag ≤ 38 → keptIn (innerOf mode tag) (eqb tag 38) ≡ mode .variables
-  inner-kept tag a b = go (eqb tag 37) refl
+  pub inner-kept : (tag : ℕ) → HasBody tag → keptIn (innerOf mode tag) (eqb tag 38) ≡ mode .variables
+  inner-kept tag h = go (eqb tag 37) refl
     where
       go : (u : Bool) → eqb tag 37 ≡ u → keptIn (innerOf mode tag) (eqb tag 38) ≡ mode .variables
       go true e = let t : tag ≡ 37 = eqb-true tag 37 e in rw t
-      go false e = let t : tag ≡ 38 = omega (arith, eqb-false tag 37 e) in let z : mode .variables + 1 - 1 ≡ mode .variables = omega arith in rw t z
+      go false e = let t : tag ≡ 38 = omega (arith, h, eqb-false tag 37 e) in let z : mode .variables + 1 - 1 ≡ mode .variables = omega arith in rw t z
 
-  pub inner-stays : (tag : ℕ) → 36 < tag → tag ≤ 38 → (a b : List ℤ) → take (keptIn (innerOf mode tag) (eqb tag 38)) a ≡ take (keptIn (innerOf mode tag) (eqb tag 38)) b → take (mode .variables) a ≡ take (mode .variables) b
-  inner-stays tag h k a b e = subst (λ (n : ℕ). take n a ≡ take n b) (inner-kept tag h k) e
+  pub inner-stays : (tag : ℕ) → HasBody tag → (a b : List ℤ) → take (keptIn (innerOf mode tag) (eqb tag 38)) a ≡ take (keptIn (innerOf mode tag) (eqb tag 38)) b → take (mode .variables) a ≡ take (mode .variables) b
+  inner-stays tag h a b e = subst (λ (n : ℕ). take n a ≡ take n b) (inner-kept tag h) e
 
 -- ---- the statement and its body
 
 module _ (mode : Mode) (room base from to place tag : ℕ) (bytes program : List ℕ) (vars : List ℤ) (scope : Scope) (regs : List ℕ)
-    (e : Enterable mode tag (to - from)) (past : 36 < tag) (at : base + from ≡ place + 3) where
+    (deep : mode .levels ≡ 0 → ⊥) (has : HasBody tag) (at : base + from ≡ place + 3) where
   abbrev whole : Run (Unit {0})
   whole = oneRun mode room place tag (slice from to bytes) program (frameIn mode (take (mode .variables) vars) scope regs)
 
@@ -71,7 +71,7 @@ module _ (mode : Mode) (room base from to place tag : ℕ) (bytes program : List
   -- a reverse
   reverse-is : tag ≡ 37 → whole ≡ (step (mode .limit) room place >> bodied (pos 0) 1 from)
   unfolding inDirection
-  reverse-is t = one-reverse mode room place tag (slice from to bytes) program (frameIn mode (take (mode .variables) vars) scope regs) (e .deep) t
+  reverse-is t = one-reverse mode room place tag (slice from to bytes) program (frameIn mode (take (mode .variables) vars) scope regs) deep t
       ∙ rw t (λ j. step (mode .limit) room place >> runStatements (mode .limit) room (listAt (mode .levels - 1) (sym at j) (slice from to bytes)) (familiesIn mode room program) (frameOf (turned (mode .reversed) j) (conditionOf (mode .condition)) (take (mode .variables) vars) (operandsOf scope regs)))
 
   -- a for
@@ -80,7 +80,7 @@ module _ (mode : Mode) (room base from to place tag : ℕ) (bytes program : List
         rounds (mode .limit) room place (directionOf (mode .reversed)) (roundsOf (y -ℤ x)) (startOf (directionOf (mode .reversed)) x y)
         (λ z. runStatements (mode .limit) room (statementsBy (readStatement (mode .levels - 1)) (drop 2 (fields (place + 3) (slice from to bytes)))) (familiesIn mode room program) (inRound (frameIn mode (take (mode .variables) vars) scope regs) z))))
     unfolding runFor
-    for-is b w = one-for mode room place tag (slice from to bytes) program (frameIn mode (take (mode .variables) vars) scope regs) (e .deep) t
+    for-is b w = one-for mode room place tag (slice from to bytes) program (frameIn mode (take (mode .variables) vars) scope regs) deep t
         ∙ ap (λ (x : Run (Unit {0})). step (mode .limit) room place >> x) (sym (w .same place place (place + 3) _))
 
     for-over : Bounded bytes from to (take (mode .variables) vars) Over → whole ≡ (step (mode .limit) room place >> endAt 24 place)
@@ -138,7 +138,7 @@ module _ (mode : Mode) (room base from to place tag : ℕ) (bytes program : List
 
   module _ (r : Repeats) (w : Repeated bytes from to tag (take (mode .variables) vars) (mode .reversed) r) where
     for-tag : (tag ≡ 37 → ⊥) → tag ≡ 38
-    for-tag h = omega (arith, e .high)
+    for-tag h = omega (arith, has)
 
     pub loop-over : r ≡ R.Over → whole ≡ (step (mode .limit) room place >> endAt 24 place)
     unfolding Looped

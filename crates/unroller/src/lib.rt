@@ -1,18 +1,21 @@
 // The unroller's cycle: statements, lists, rounds and calls.
 ghost use mathlib.Core.Path.{_≡_};
+ghost use mathlib.Core.Bool.{true};
 ghost use Prim.Native.Nat.{_+_, _-_, _<_, _≤_};
 ghost use lib.ListN.{length, getD, take};
 ghost use lib.Seq.{slice};
-ghost use Rattle.language.specs.Limits.{longestProgram, mostFamilies};
+ghost use Rattle.language.specs.Limits.{longestProgram};
+ghost use Rattle.fields.specs.CallNumber.{isCallTag};
 ghost use Rattle.indexes.specs.Values.{mostValues};
 ghost use Rattle.records.specs.Outcomes.{Does};
 ghost use Rattle.gates.specs.Gates.{frameIn, Enterable};
 ghost use Rattle.calls.specs.Families.{Tabled};
-ghost use Rattle.unroller.specs.Runs.{Ready, Often, Turns, Turned, Completes, Nestable, Inside, oneRun, timesRun, keptIn};
+ghost use Rattle.unroller.specs.Runs.{Ready, Often, Turns, Turned, Completes, HasBody, Nestable, Inside, oneRun, timesRun, keptIn};
 use calls::OPERAND_NUMBERS;
 use calls::Taken;
 use field_walk::Begun;
 use fields::Header;
+use fields::Named;
 use gates::Mode;
 use gates::Repeats;
 use indexes::VALUES;
@@ -22,18 +25,13 @@ use operands::Scope;
 use records::Answer;
 use records::State;
 
-// A table tells how long it is.
-fn tell_table(table: [u16; MOST_FAMILIES])
-    ensures { λ _. ⌜ length table ≡ mostFamilies ⌝ }
-{}
-
 // Where the table says that the family n is.
-fn listed(table: &[u16; MOST_FAMILIES], n: u8) -> usize
+fn listed(table: &[u16], n: u16) -> usize
     requires { ⌜ n < length (now table) ⌝ }
     ensures { λ r. ⌜ r ≡ getD (now (table .entry)) n 0 ⌝ }
 {
-    tell_table(*table);
-    fields::long(table[fields::wide(n)])
+    let i = fields::long(n);
+    fields::long(table[i])
 }
 
 // Begins the round i of a list: of a loop it takes a step and sets the loop's variable, the last of the values in scope.
@@ -74,7 +72,7 @@ pub struct Nested {
 // The innermost of reverses that hold nothing but one reverse or for: enters them one by one, with their steps. Where one cannot be
 // entered, it is what the run of its list finds.
 fn inmost(bytes: &[u8], base: usize, to: usize, e: Nested) -> Nested
-    requires { ⌜ Nestable base to (length (now bytes)) e ⌝ }
+    requires { ⌜ Nestable (now bytes) base to e ⌝ }
     ensures { λ r. ⌜ Inside (now (bytes .entry)) base to e r ⌝ }
 {
     let mut r = e;
@@ -89,11 +87,13 @@ fn inmost(bytes: &[u8], base: usize, to: usize, e: Nested) -> Nested
         if tag < 37 {
             return r;
         }
+        if 38 < tag {
+            return r;
+        }
         let from = at + 3;
         let place = base + at;
-        let size = to - from;
         let mode = gates::inner(r.mode, 37);
-        let Answer::Going(st) = gates::enter(tag, size, place, mode, r.st) else {
+        let Answer::Going(st) = gates::enter(bytes, from, to, tag, place, mode, r.st) else {
             return r;
         };
         r = Nested {
@@ -128,21 +128,21 @@ fn run_statement(
     requires { ⌜ Tabled (now program) (now table) (mode .«families_visible») ⌝ }
     ensures { λ r. ⌜ Does (now (out .entry)) st (now (out .exit)) r (oneRun mode (length (now (out .entry))) place tag (slice from to (now (bytes .entry))) (now (program .entry)) (frameIn mode (take (mode .variables) (now (vars .entry))) scope (now (regs .entry)))) × (take (mode .variables) (now (vars .exit)) ≡ take (mode .variables) (now (vars .entry))) ⌝ }
 {
-    let size = to - from;
-    let r = gates::enter(tag, size, place, mode, st);
+    let r = gates::enter(bytes, from, to, tag, place, mode, st);
     let Answer::Going(s) = r else {
         return r;
     };
-    if tag < 36 {
+    if tag < fields::CALL {
         return gates::write_gate(bytes, from, to, tag, place, vars, scope, regs, mode, s, out);
     }
-    if tag == 36 {
+    if fields::is_call(tag) {
         return run_call(
             bytes,
             base,
             from,
             to,
             place,
+            tag,
             vars,
             scope,
             regs,
@@ -191,8 +191,8 @@ fn run_rounds(
     requires { ⌜ Ready mode base from to (length (now bytes)) place ⌝ }
     requires { ⌜ base + from ≡ place + 3 ⌝ }
     requires { ⌜ Tabled (now program) (now table) (mode .«families_visible») ⌝ }
-    requires { ⌜ Enterable mode tag (to - from) × (36 < tag) ⌝ }
-    ensures { λ r. ⌜ Completes mode tag (to - from) (now (out .entry)) st (now (out .exit)) r (oneRun mode (length (now (out .entry))) place tag (slice from to (now (bytes .entry))) (now (program .entry)) (frameIn mode (take (mode .variables) (now (vars .entry))) scope (now (regs .entry)))) × (take (mode .variables) (now (vars .exit)) ≡ take (mode .variables) (now (vars .entry))) ⌝ }
+    requires { ⌜ Enterable mode tag (slice from to (now bytes)) × HasBody tag ⌝ }
+    ensures { λ r. ⌜ Completes mode tag (slice from to (now (bytes .entry))) (now (out .entry)) st (now (out .exit)) r (oneRun mode (length (now (out .entry))) place tag (slice from to (now (bytes .entry))) (now (program .entry)) (frameIn mode (take (mode .variables) (now (vars .entry))) scope (now (regs .entry)))) × (take (mode .variables) (now (vars .exit)) ≡ take (mode .variables) (now (vars .entry))) ⌝ }
 {
     let e = inmost(
         bytes,
@@ -316,13 +316,14 @@ pub fn run_list(
     }
 }
 
-// Runs the call with this content, whose step is taken: the body of the family that it names.
+// Runs the call with this tag and this content, whose step is taken: the body of the family that it names.
 fn run_call(
     bytes: &[u8],
     base: usize,
     from: usize,
     to: usize,
     place: usize,
+    tag: u8,
     vars: &[i32; VALUES],
     scope: Scope,
     regs: &[u16; REGISTER_NUMBERS],
@@ -335,19 +336,19 @@ fn run_call(
     requires { ⌜ Ready mode base from to (length (now bytes)) place ⌝ }
     requires { ⌜ base + from ≡ place + 3 ⌝ }
     requires { ⌜ Tabled (now program) (now table) (mode .«families_visible») ⌝ }
-    requires { ⌜ Enterable mode 36 (to - from) ⌝ }
-    ensures { λ r. ⌜ Completes mode 36 (to - from) (now (out .entry)) st (now (out .exit)) r (oneRun mode (length (now (out .entry))) place 36 (slice from to (now (bytes .entry))) (now (program .entry)) (frameIn mode (take (mode .variables) (now (vars .entry))) scope (now (regs .entry)))) ⌝ }
+    requires { ⌜ Enterable mode tag (slice from to (now bytes)) × (isCallTag tag ≡ true) ⌝ }
+    ensures { λ r. ⌜ Completes mode tag (slice from to (now (bytes .entry))) (now (out .entry)) st (now (out .exit)) r (oneRun mode (length (now (out .entry))) place tag (slice from to (now (bytes .entry))) (now (program .entry)) (frameIn mode (take (mode .variables) (now (vars .entry))) scope (now (regs .entry)))) ⌝ }
 {
-    let n = bytes[from];
-    let number = fields::wider(n);
+    let Named::Family(number, first) = fields::family_named(bytes, from, to, tag) else {
+        return Answer::Stuck;
+    };
     if mode.families_visible <= number {
         return Answer::Stuck;
     }
-    let at = listed(table, n);
+    let at = listed(table, number);
     let many = fields::wide(mode.variables);
     let mut sizes = [0i32; VALUES];
     let mut given = [0u16; OPERAND_NUMBERS];
-    let first = from + 1;
     match calls::arguments(
         bytes,
         first,

@@ -1,47 +1,32 @@
+-- `unroller::listed` meets its contract. Assumes nothing.
 use borrow.Author.Needs.{needs}
 use Rattle.unroller.proofs.listed.Statement.{statement}
 use Rattle.unroller.proofs.listed.Tie as tie
-use Rattle.unroller.proofs.listed.Reads as reads
-use Rattle.unroller.proofs.listed.Lts as lts
-use Rattle.fields.proofs.wide.Reads as wide-reads
-use Rattle.fields.proofs.long.Reads as long-reads
-use Rattle.unroller.proofs.tell_table.Reads as tell-table-reads
 use Prim.Native.Nat.{ℕ}
 use mathlib.Core.Path.{ap, _∙_}
 use lib.ListN.{getD}
 use denote.Ref.{now}
 
-tell-table-requires : tie.Need-tell-table-requires
-tell-table-requires c κs =
-    search needs
-
-wide-requires : tie.Need-wide-requires
-wide-requires c κs =
+long-requires : tie.Need-long-requires
+long-requires c κs =
     search needs
 
 mul-long : tie.Need-mul-long
 mul-long c =
     search needs
 
-element-copy-out-long : tie.Need-element-copy-out-long
-element-copy-out-long c =
+shared-slice-read-long : tie.Need-shared-slice-read-long
+shared-slice-read-long c =
     search needs
 
-long-requires : tie.Need-long-requires
-long-requires c κs =
+long-requires-2 : tie.Need-long-requires-2
+long-requires-2 c κs =
     search needs
 
 returns : tie.Need-returns
 returns c =
-    c .long .ensures .0 ∙ ap (λ (i : ℕ). getD (now (c .before .before .before .before .before .args .table)) i 0) (c .before .before .wide .ensures .0)
+    c .long2 .ensures .0 ∙ ap (λ (i : ℕ). getD (now (c .before .before .before .before .args .table)) i 0) (c .before .before .long .ensures .0)
 
 pub listed-spec : {M : Type 1} → statement M
 listed-spec =
-    tie.close
-    (tie.spec
-    tell-table-requires
-    wide-requires
-    mul-long
-    element-copy-out-long
-    long-requires
-    returns)
+    tie.close (tie.spec long-requires mul-long shared-slice-read-long long-requires-2 returns)

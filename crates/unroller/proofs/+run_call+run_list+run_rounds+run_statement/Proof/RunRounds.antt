@@ -112,7 +112,7 @@ module _ (t : ℕ) where
       let st0 = c .before .before .before .before .before .start .given .0 .0 in
       let total = c .before .before .before .before .before .start .given .0 .1 .0 in
       let body = c .before .before .before .before .before .start .given .0 .1 .1 .0 in
-      let o = loop-opens (e .mode) room (a .base) (e .from) (a .to) here (e .tag) l g vs (a .scope) (now (a .regs)) en past at (c .before .before .before .before .before .before .before .repeats-of .result) rep (ready .order) st0 total body (c .before .before .before .before .before .start .given .1) in
+      let o = loop-opens (e .mode) room (a .base) (e .from) (a .to) here (e .tag) l g vs (a .scope) (now (a .regs)) (en .deep) past at (c .before .before .before .before .before .before .before .repeats-of .result) rep (ready .order) st0 total body (c .before .before .before .before .before .start .given .1) in
       rw (c .before .before .before .inner .ensures, range-back {z = st0} (o .ranged)) (omega (arith, c .before .before .before .before .before .before .before .before .before .before .before .before .before .before .before .before .before .pre .0, o .low, w .later, w .visible, inner-seen (e .mode) (e .tag)), (record { few = inner-few (e .mode) (e .tag) (ready .few) (en .deep); order = o .high; within = ready .within; near = ready .near; here = ready .here }, (tabled-fewer g (now (a .table)) (a .mode .«families_visible») (innerOf (e .mode) (e .tag) .«families_visible») (omega (arith, w .visible, inner-seen (e .mode) (e .tag))) (c .before .before .before .before .before .before .before .before .before .before .before .before .before .before .before .before .before .pre .1 .1 .1 .0), o .often)))
 
   pub returns : lts.Need-returns (calls t) (at t) Post
@@ -130,7 +130,7 @@ module _ (t : ℕ) where
       let here = a .base + e .from - 3 in
       let at : a .base + e .from ≡ here + 3 = omega (arith, w .able .behind) in
       let rep : Repeated l (e .from) (a .to) (e .tag) (take (e .mode .variables) vs) (e .mode .reversed) (c .before .before .repeats-of .result) = rw (c .before .before .before .before .wide .ensures .0) at (c .before .before .repeats-of .ensures) in
-      (inside-does l (a .base) (a .to) _ e w (a .place) (c .before .before .before .before .before .before .before .before .before .before .before .before .pre .1 .1 .0) room g vs (a .scope) (now (a .regs)) (now (a .out)) _ _ (λ s q. does-as _ _ _ _ _ (oneRun (e .mode) room here (e .tag) (slice (e .from) (a .to) l) g (frameIn (e .mode) (take (e .mode .variables) vs) (a .scope) (now (a .regs)))) (loop-over (e .mode) room (a .base) (e .from) (a .to) here (e .tag) l g vs (a .scope) (now (a .regs)) en past at (c .before .before .repeats-of .result) rep (c .enum-told .given .1)) (step-taken (e .mode .limit) room (now (a .out)) s (e .st) here _ _ _ (q .step .left) (q .step .same) (q .step .more) (does-end (now (a .out)) (e .st) 24 here))), refl)
+      (inside-does l (a .base) (a .to) _ e w (a .place) (c .before .before .before .before .before .before .before .before .before .before .before .before .pre .1 .1 .0) room g vs (a .scope) (now (a .regs)) (now (a .out)) _ _ (λ s q. does-as _ _ _ _ _ (oneRun (e .mode) room here (e .tag) (slice (e .from) (a .to) l) g (frameIn (e .mode) (take (e .mode .variables) vs) (a .scope) (now (a .regs)))) (loop-over (e .mode) room (a .base) (e .from) (a .to) here (e .tag) l g vs (a .scope) (now (a .regs)) (en .deep) past at (c .before .before .repeats-of .result) rep (c .enum-told .given .1)) (step-taken (e .mode .limit) room (now (a .out)) s (e .st) here _ _ _ (q .step .left) (q .step .same) (q .step .more) (does-end (now (a .out)) (e .st) 24 here))), refl)
 
   pub returns-2 : lts.Need-returns-2 (calls t) (at t) Post
   returns-2 c =
@@ -147,7 +147,7 @@ module _ (t : ℕ) where
       let here = a .base + e .from - 3 in
       let at : a .base + e .from ≡ here + 3 = omega (arith, w .able .behind) in
       let rep : Repeated l (e .from) (a .to) (e .tag) (take (e .mode .variables) vs) (e .mode .reversed) (c .before .before .repeats-of .result) = rw (c .before .before .before .before .wide .ensures .0) at (c .before .before .repeats-of .ensures) in
-      (inside-does l (a .base) (a .to) _ e w (a .place) (c .before .before .before .before .before .before .before .before .before .before .before .before .pre .1 .1 .0) room g vs (a .scope) (now (a .regs)) (now (a .out)) _ _ (λ s q. does-as _ _ _ _ _ (oneRun (e .mode) room here (e .tag) (slice (e .from) (a .to) l) g (frameIn (e .mode) (take (e .mode .variables) vs) (a .scope) (now (a .regs)))) (loop-stuck (e .mode) room (a .base) (e .from) (a .to) here (e .tag) l g vs (a .scope) (now (a .regs)) en past at (c .before .before .repeats-of .result) rep (c .enum-told2 .given .1)) (step-taken (e .mode .limit) room (now (a .out)) s (e .st) here _ _ _ (q .step .left) (q .step .same) (q .step .more) (does-stuck (now (a .out)) (e .st) _))), refl)
+      (inside-does l (a .base) (a .to) _ e w (a .place) (c .before .before .before .before .before .before .before .before .before .before .before .before .pre .1 .1 .0) room g vs (a .scope) (now (a .regs)) (now (a .out)) _ _ (λ s q. does-as _ _ _ _ _ (oneRun (e .mode) room here (e .tag) (slice (e .from) (a .to) l) g (frameIn (e .mode) (take (e .mode .variables) vs) (a .scope) (now (a .regs)))) (loop-stuck (e .mode) room (a .base) (e .from) (a .to) here (e .tag) l g vs (a .scope) (now (a .regs)) (en .deep) past at (c .before .before .repeats-of .result) rep (c .enum-told2 .given .1)) (step-taken (e .mode .limit) room (now (a .out)) s (e .st) here _ _ _ (q .step .left) (q .step .same) (q .step .more) (does-stuck (now (a .out)) (e .st) _))), refl)
 
   pub same-length : lts.Need-same-length (calls t) (at t) Post
   same-length c =
@@ -171,6 +171,6 @@ module _ (t : ℕ) where
       let st0 = c .before .before .before .before .before .before .before .before .start .given .0 .0 in
       let total = c .before .before .before .before .before .before .before .before .start .given .0 .1 .0 in
       let body = c .before .before .before .before .before .before .before .before .start .given .0 .1 .1 .0 in
-      let o = loop-opens (e .mode) room (a .base) (e .from) (a .to) here (e .tag) l g vs (a .scope) (now (a .regs)) en past at (c .before .before .before .before .before .before .before .before .before .before .repeats-of .result) rep (ready .order) st0 total body (c .before .before .before .before .before .before .before .before .start .given .1) in
+      let o = loop-opens (e .mode) room (a .base) (e .from) (a .to) here (e .tag) l g vs (a .scope) (now (a .regs)) (en .deep) past at (c .before .before .before .before .before .before .before .before .before .before .repeats-of .result) rep (ready .order) st0 total body (c .before .before .before .before .before .before .before .before .start .given .1) in
       let d = rw (c .before .before .before .before .before .before .inner .ensures, range-back {z = st0} (o .ranged)) at (c .before .before .run-list .ensures) in
-      (inside-does l (a .base) (a .to) _ e w (a .place) (c .before .before .before .before .before .before .before .before .before .before .before .before .before .before .before .before .before .before .before .before .pre .1 .1 .0) room g vs (a .scope) (now (a .regs)) (now (a .out)) _ _ (λ s q. does-as _ _ _ _ _ (oneRun (e .mode) room here (e .tag) (slice (e .from) (a .to) l) g (frameIn (e .mode) (take (e .mode .variables) vs) (a .scope) (now (a .regs)))) (o .is) (step-taken (e .mode .limit) room (now (a .out)) s (e .st) here _ _ _ (q .step .left) (q .step .same) (q .step .more) (d .0))), inside-stays l (a .base) (a .to) _ e w _ _ (inner-stays (e .mode) (e .tag) past (en .high) _ _ (d .1)))
+      (inside-does l (a .base) (a .to) _ e w (a .place) (c .before .before .before .before .before .before .before .before .before .before .before .before .before .before .before .before .before .before .before .before .pre .1 .1 .0) room g vs (a .scope) (now (a .regs)) (now (a .out)) _ _ (λ s q. does-as _ _ _ _ _ (oneRun (e .mode) room here (e .tag) (slice (e .from) (a .to) l) g (frameIn (e .mode) (take (e .mode .variables) vs) (a .scope) (now (a .regs)))) (o .is) (step-taken (e .mode .limit) room (now (a .out)) s (e .st) here _ _ _ (q .step .left) (q .step .same) (q .step .more) (d .0))), inside-stays l (a .base) (a .to) _ e w _ _ (inner-stays (e .mode) (e .tag) past _ _ (d .1)))

@@ -1,5 +1,5 @@
 -- The measures of the cycle, and what each member is given and asks at a measure. Assumes nothing.
-use Prim.Native.Nat.{ℕ, _<_}
+use Prim.Native.Nat.{ℕ, _<_, _+_, _-_, _*_}
 use borrow.Fn.Kinds.{In}
 use borrow.Fn.PlainCycle.{Measures, is, falls, and}
 use Rattle.unroller.proofs.run_call.Reads as run-call
@@ -17,26 +17,26 @@ use Rattle.unroller.proofs.+run_call+run_list+run_rounds+run_statement.
 use Rattle.calls.proofs.arguments.Reads as arguments-reads
 use Rattle.calls.proofs.body_of.Reads as body-of-reads
 use Rattle.calls.proofs.scope_of.Reads as scope-of-reads
-use Rattle.fields.proofs.header_at.Reads as header-at-reads
-use Rattle.fields.proofs.wide.Reads as wide-reads
-use Rattle.gates.proofs.write_gate.Reads as write-gate-reads
-use Rattle.gates.proofs.entered.Reads as entered-reads
-use Rattle.gates.proofs.inner.Reads as inner-reads
-use Rattle.gates.proofs.repeats_of.Reads as repeats-of-reads
-use Rattle.gates.proofs.enter.Reads as enter-reads
 use Rattle.field_walk.proofs.begin.Reads as begin-reads
 use Rattle.field_walk.proofs.passed.Reads as passed-reads
 use Rattle.field_walk.proofs.seek.Reads as seek-reads
 use Rattle.field_walk.proofs.whole.Reads as whole-reads
+use Rattle.fields.proofs.family_named.Reads as family-named-reads
+use Rattle.fields.proofs.header_at.Reads as header-at-reads
+use Rattle.fields.proofs.is_call.Reads as is-call-reads
+use Rattle.fields.proofs.wide.Reads as wide-reads
+use Rattle.gates.proofs.enter.Reads as enter-reads
+use Rattle.gates.proofs.entered.Reads as entered-reads
+use Rattle.gates.proofs.inner.Reads as inner-reads
+use Rattle.gates.proofs.repeats_of.Reads as repeats-of-reads
+use Rattle.gates.proofs.write_gate.Reads as write-gate-reads
 use Rattle.unroller.proofs.begin_round.Reads as begin-round-reads
 use Rattle.unroller.proofs.inmost.Reads as inmost-reads
 use Rattle.unroller.proofs.listed.Reads as listed-reads
-use Rattle.fields.proofs.wider.Reads as wider-reads
-use Prim.Native.Nat.{_+_, _-_, _*_, _<_}
 
 abbrev pub μ-run-call : Measures 6 run-call-kinds.ps ℕ
 μ-run-call κs a =
-    a .1 .1 .1 .1 .1 .1 .1 .1 .1 .1 .0 .«families_visible» * 1048576 + 4 * (a .1 .1 .1 .0 - a .1 .1 .0) + 2
+    a .1 .1 .1 .1 .1 .1 .1 .1 .1 .1 .1 .0 .«families_visible» * 1048576 + 4 * (a .1 .1 .1 .0 - a .1 .1 .0) + 2
 
 abbrev pub μ-run-list : Measures 6 run-list-kinds.ps ℕ
 μ-run-list κs a =
@@ -80,7 +80,7 @@ run-statement-below t = and
 
 -- what the calls of `run-call` ask and tell
 abbrev pub run-call-calls : ℕ → run-call-lts.Claims
-run-call-calls t = (wider-reads.Asked, wider-reads.Learnt, listed-reads.Asked, listed-reads.Learnt, wide-reads.Asked, wide-reads.Learnt, arguments-reads.Asked, arguments-reads.Learnt, body-of-reads.Asked, body-of-reads.Learnt, entered-reads.Asked, entered-reads.Learnt, scope-of-reads.Asked, scope-of-reads.Learnt, run-list-below t, run-list.Post)
+run-call-calls t = (family-named-reads.Asked, family-named-reads.Learnt, listed-reads.Asked, listed-reads.Learnt, wide-reads.Asked, wide-reads.Learnt, arguments-reads.Asked, arguments-reads.Learnt, body-of-reads.Asked, body-of-reads.Learnt, entered-reads.Asked, entered-reads.Learnt, scope-of-reads.Asked, scope-of-reads.Learnt, run-list-below t, run-list.Post)
 
 -- what the calls of `run-list` ask and tell
 abbrev pub run-list-calls : ℕ → run-list-lts.Claims
@@ -92,4 +92,4 @@ run-rounds-calls t = (inmost-reads.Asked, inmost-reads.Learnt, wide-reads.Asked,
 
 -- what the calls of `run-statement` ask and tell
 abbrev pub run-statement-calls : ℕ → run-statement-lts.Claims
-run-statement-calls t = (enter-reads.Asked, enter-reads.Learnt, write-gate-reads.Asked, write-gate-reads.Learnt, run-call-below t, run-call.Post, run-rounds-below t, run-rounds.Post)
+run-statement-calls t = (enter-reads.Asked, enter-reads.Learnt, write-gate-reads.Asked, write-gate-reads.Learnt, is-call-reads.Asked, is-call-reads.Learnt, run-call-below t, run-call.Post, run-rounds-below t, run-rounds.Post)
