@@ -122,11 +122,15 @@ macro_rules! compared {
     };
 }
 
-/// Does work on a stack of eight mebibytes.
-pub fn on_eight_mebibytes(work: Work, tally: &mut Tally) -> Result<(), String> {
+/// The stack in bytes on which the deepest programs are asked about: more than
+/// either side needs.
+const DEEP_STACK: usize = 64 << 20;
+
+/// Does work on a stack that is large enough for the deepest programs.
+pub fn on_a_deep_stack(work: Work, tally: &mut Tally) -> Result<(), String> {
     let mut counted = *tally;
     let thread = std::thread::Builder::new()
-        .stack_size(8 << 20)
+        .stack_size(DEEP_STACK)
         .spawn(move || work(&mut counted).map(|()| counted))
         .map_err(|error| format!("no thread: {error}"))?;
     *tally = thread

@@ -30,6 +30,7 @@ fn value_of(line: &str, name: &str) -> Option<usize> {
 #[cfg(test)]
 mod tests {
     use super::*;
+    use generate::build::{MOST_BYTES, MOST_FAMILIES};
 
     #[test]
     fn numbers_are_read_by_their_whole_names() {
@@ -37,7 +38,12 @@ mod tests {
         assert_eq!(value_of("#define NAME 12 /* more */", "NAME"), Some(12));
         assert_eq!(value_of("#define NAMES 12", "NAME"), None);
         assert_eq!(value_of(" * NAME 12", "NAME"), None);
-        assert_eq!(number("METAQASM_MOST_PROGRAM_BYTES"), 65_535);
+    }
+
+    #[test]
+    fn limits_are_those_that_programs_are_made_for() {
+        assert_eq!(number("METAQASM_MOST_FAMILIES"), MOST_FAMILIES);
+        assert_eq!(number("METAQASM_MOST_PROGRAM_BYTES"), MOST_BYTES);
     }
 
     #[test]

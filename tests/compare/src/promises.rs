@@ -99,7 +99,7 @@ fn written(each: usize, count: u64, buffer: &[u8]) -> Option<&[u8]> {
 /// Whether a number is one of those that have a meaning for the call.
 fn known(question: &Question, outcome: &TextOutcome) -> bool {
     match outcome.number {
-        0..=13 => true,
+        0..=13 | 31 => true,
         20..=23 => matches!(question.call, Call::Instance { .. }),
         24..=27 => question.call != Call::Check,
         30 => prints(question),

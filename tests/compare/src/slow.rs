@@ -2,9 +2,6 @@
 
 use generate::build::*;
 
-/// The most bytes of a program.
-const MOST_BYTES: usize = 65_535;
-
 /// The index v0 + v1 + v2 + v3, each times a factor.
 fn all_sizes(factor: u16) -> Field {
     let times = |number| product(literal(factor), variable(number));

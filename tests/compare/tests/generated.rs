@@ -1,9 +1,9 @@
-//! Programs made from seeds, and one-byte changes of small programs.
+//! Programs made from seeds, and one-byte changes of small programs and of calls.
 
 use compare::harness::{reference_answer, whole_text};
 use compare::{compared, promises, Call, Question, Tally};
-use generate::build::program;
-use generate::{case, library, Case};
+use generate::build::*;
+use generate::{case, libraries, library, Case};
 use std::collections::BTreeSet;
 
 /// How many seeds each call is compared on.
@@ -17,6 +17,14 @@ compared!(run_text_on_24000_programs, has_run_text, run_text);
 compared!(check_on_every_change_of_a_byte, has_check, changes);
 compared!(run_text_on_every_change, has_run_text, printed_changes);
 compared!(check_on_every_beginning, has_check, beginnings);
+compared!(all_calls_on_200_libraries, has_run, sound_libraries);
+compared!(all_calls_on_300_damaged, has_run, damaged_libraries);
+compared!(texts_of_15_libraries, has_run_text, printed_libraries);
+compared!(
+    run_text_on_every_change_of_calls,
+    has_run_text,
+    changed_calls
+);
 
 /// How a question is compared: by itself, or with its texts.
 type Asked = fn(&mut Tally, &Question) -> Result<(), String>;
@@ -86,6 +94,33 @@ fn ask_check(tally: &mut Tally, program: &[u8]) -> Result<(), String> {
     })
 }
 
+/// Asks check, instance and run about the libraries of some seeds.
+fn every_library(tally: &mut Tally, made: fn(u64) -> Case, seeds: u64) -> Result<(), String> {
+    for seed in 0..seeds {
+        let case = made(seed);
+        for call in [Call::Check, as_instance(&case), Call::Run] {
+            let compared = tally.question(&question(&case, call));
+            compared.map_err(|message| format!("library {seed}: {message}"))?;
+        }
+    }
+    Ok(())
+}
+
+/// Libraries of hundreds to thousands of families.
+fn sound_libraries(tally: &mut Tally) -> Result<(), String> {
+    every_library(tally, libraries::sound, 200)
+}
+
+/// Such libraries with a damaged call.
+fn damaged_libraries(tally: &mut Tally) -> Result<(), String> {
+    every_library(tally, libraries::damaged, 300)
+}
+
+/// A few libraries with all calls, those that print too.
+fn printed_libraries(tally: &mut Tally) -> Result<(), String> {
+    (0..15).try_for_each(|seed| tally.case(&libraries::sound(seed)))
+}
+
 /// Asks for the text of a program's run, with room for a small one.
 fn ask_text(tally: &mut Tally, program: &[u8]) -> Result<(), String> {
     tally.question(&Question {
@@ -131,6 +166,36 @@ fn changes(tally: &mut Tally) -> Result<(), String> {
 /// Runs and prints every changed program.
 fn printed_changes(tally: &mut Tally) -> Result<(), String> {
     every_change(tally, ask_text)
+}
+
+/// 257 families, and calls of the last two in all places where one may stand.
+fn calls_of_both_kinds() -> Vec<Field> {
+    let each = repeat(literal(0), minus(0, 1), vec![h(element(0, variable(1)))]);
+    let mut fields = vec![family(0, vec![qbit()], vec![]); 255];
+    fields.push(family(0, vec![qbit()], vec![t(whole(0))]));
+    fields.push(family(1, vec![qbits(variable(0))], vec![each]));
+    let wide = call(256, vec![literal(2)], vec![whole(0)]);
+    let short = call(255, vec![], vec![at(0, 1)]);
+    let both = vec![wide.clone(), short];
+    let calling = family(0, vec![qbits(literal(2))], vec![wide]);
+    fields.extend([calling, qreg(2), creg(1), reverse(both.clone())]);
+    fields.push(when(1, at(1, 0), both));
+    fields
+}
+
+/// Runs and prints a library with any byte behind its first 257 families changed.
+fn changed_calls(tally: &mut Tally) -> Result<(), String> {
+    let fields = calls_of_both_kinds();
+    let program = program(&fields);
+    for place in length(&fields[..257])..program.len() {
+        let mut changed = program.clone();
+        for value in 0..=255 {
+            changed[place] = value;
+            ask_text(tally, &changed)?;
+        }
+        ask_text(tally, &program[..place])?;
+    }
+    Ok(())
 }
 
 /// Checks every beginning of small programs and of the adder.

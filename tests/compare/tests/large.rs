@@ -1,9 +1,10 @@
 //! The deepest calls, the longest lists and loops, and the most steps.
 
-use compare::harness::on_eight_mebibytes;
+use compare::harness::on_a_deep_stack;
 use compare::{ask, compared, slow, Call, Question, Tally, Who};
 use generate::build::*;
 use generate::library;
+use generate::shapes::{Shape, SHAPES};
 use reference::TextOutcome;
 
 compared!(deepest_calls_checked, has_check, deepest_checked);
@@ -17,6 +18,7 @@ compared!(loops_from_the_smallest_number, has_run, far_loops);
 compared!(a_hundred_million_steps, has_run, many_steps);
 compared!(the_adder_at_8000_bits, has_instance, large_adder);
 compared!(a_full_library_of_families, has_check, full_library);
+compared!(a_library_of_4000_families, has_check, small_families);
 compared!(the_slowest_check, has_check, slowest_check);
 compared!(the_slowest_steps, has_run, slowest_steps);
 
@@ -62,14 +64,19 @@ fn other<'a>(program: &'a [u8], call: Call<'a>) -> Question<'a> {
     }
 }
 
-/// 255 families of 16 levels each: by reversals, and by loops and reversals.
+/// Families of 16 levels each, as many as fit: by reversals, and by loops and reversals.
+const BY_REVERSALS: usize = 1_057;
+const BY_LOOPS: usize = 414;
+
+/// The deepest programs: each family calls the one before, and a run calls the last.
 fn deepest() -> [Vec<u8>; 2] {
-    let mut calls = library::deep_calls(255, 16);
-    calls.extend([qreg(3), call(254, vec![], vec![at(0, 2)])]);
-    let mut loops = library::deep_loops(255, 8, 7);
-    let operand = vec![whole(0)];
-    calls.push(reverse(vec![call(254, vec![], vec![at(0, 1)])]));
-    loops.extend([qreg(3), call(254, vec![literal(2)], operand)]);
+    let last = |families: usize| families as u16 - 1;
+    let mut calls = library::deep_calls(BY_REVERSALS, 16);
+    let called = |wire| call(last(BY_REVERSALS), vec![], vec![at(0, wire)]);
+    calls.extend([qreg(3), called(2), reverse(vec![called(1)])]);
+    let mut loops = library::deep_loops(BY_LOOPS, 8, 7);
+    let called = call(last(BY_LOOPS), vec![literal(2)], vec![whole(0)]);
+    loops.extend([qreg(3), called]);
     [program(&calls), program(&loops)]
 }
 
@@ -81,7 +88,7 @@ fn deepest_checked(tally: &mut Tally) -> Result<(), String> {
         }
         Ok(())
     };
-    on_eight_mebibytes(work, tally)
+    on_a_deep_stack(work, tally)
 }
 
 /// Unrolls the last family of the deepest programs.
@@ -89,49 +96,54 @@ fn deepest_instance(tally: &mut Tally) -> Result<(), String> {
     let work = |tally: &mut Tally| {
         let [calls, loops] = deepest();
         let sizes = sizes(&[2]);
-        // 255 times 15 reversals and one statement.
-        due(tally, &instance(&calls, 254, &[]), [0, 0, 1, 4_080])?;
-        // 255 times 7 reversals, 8 loops, 8 rounds and one statement.
-        due(tally, &instance(&loops, 254, &sizes), [0, 0, 1, 6_120])?;
+        let last = BY_REVERSALS as u32 - 1;
+        // 1,057 times 15 reversals and one statement.
+        due(tally, &instance(&calls, last, &[]), [0, 0, 1, 16_912])?;
+        // 414 times 7 reversals, 8 loops, 8 rounds and one statement.
+        let by_loops = instance(&loops, BY_LOOPS as u32 - 1, &sizes);
+        due(tally, &by_loops, [0, 0, 1, 9_936])?;
         let short = Question {
-            limit: 4_079,
-            ..instance(&calls, 254, &[])
+            limit: 16_911,
+            ..instance(&calls, last, &[])
         };
-        due(tally, &short, [26, 53, 0, 4_079])
+        due(tally, &short, [26, 53, 0, 16_911])
     };
-    on_eight_mebibytes(work, tally)
+    on_a_deep_stack(work, tally)
 }
 
 /// Runs the deepest programs, forward and reversed.
 fn deepest_run(tally: &mut Tally) -> Result<(), String> {
     let work = |tally: &mut Tally| {
         let [calls, loops] = deepest();
-        due(tally, &other(&calls, Call::Run), [0, 0, 2, 8_163])?;
-        due(tally, &other(&loops, Call::Run), [0, 0, 1, 6_121])
+        due(tally, &other(&calls, Call::Run), [0, 0, 2, 33_827])?;
+        due(tally, &other(&loops, Call::Run), [0, 0, 1, 9_937])
     };
-    on_eight_mebibytes(work, tally)
+    on_a_deep_stack(work, tally)
+}
+
+/// Asks about every deepest shape, with the number of its last family.
+fn every_shape(
+    mut asked: impl FnMut(&Shape, &[u8], u32) -> Result<(), String>,
+) -> Result<(), String> {
+    SHAPES.iter().try_for_each(|shape| {
+        let fields = shape.deepest();
+        asked(shape, &program(&fields), families(&fields) as u32 - 1)
+    })
 }
 
 /// Unrolls the last family of every deepest shape.
 fn shape_instances(tally: &mut Tally) -> Result<(), String> {
     let work = |tally: &mut Tally| {
-        library::SHAPES.iter().try_for_each(|shape| {
-            let bytes = program(&shape.deepest());
-            tally.question(&instance(&bytes, 254, &shape.sizes()))
-        })
+        every_shape(|shape, program, last| tally.question(&instance(program, last, &shape.sizes())))
     };
-    on_eight_mebibytes(work, tally)
+    on_a_deep_stack(work, tally)
 }
 
 /// Runs every deepest shape.
 fn shape_runs(tally: &mut Tally) -> Result<(), String> {
-    let work = |tally: &mut Tally| {
-        library::SHAPES.iter().try_for_each(|shape| {
-            let bytes = program(&shape.deepest());
-            tally.question(&other(&bytes, Call::Run))
-        })
-    };
-    on_eight_mebibytes(work, tally)
+    let work =
+        |tally: &mut Tally| every_shape(|_, program, _| tally.question(&other(program, Call::Run)));
+    on_a_deep_stack(work, tally)
 }
 
 /// Unrolls lists of 10,000 statements, forward and reversed.
@@ -218,6 +230,12 @@ fn large_adder(tally: &mut Tally) -> Result<(), String> {
 /// Checks a program filled with families.
 fn full_library(tally: &mut Tally) -> Result<(), String> {
     let program = program(&library::large_library());
+    due(tally, &other(&program, Call::Check), [0; 4])
+}
+
+/// Checks 4,000 small families.
+fn small_families(tally: &mut Tally) -> Result<(), String> {
+    let program = program(&library::small_families());
     due(tally, &other(&program, Call::Check), [0; 4])
 }
 

@@ -24,7 +24,7 @@ compared!(run_texts_at_every_length, has_run_text, run_text_lengths);
 compared!(every_text_length, has_instance_text, instance_rooms);
 compared!(every_text_length_of_a_run, has_run_text, run_rooms);
 compared!(sizes_of_all_kinds, has_instance, all_sizes);
-compared!(every_family_number, has_instance, family_numbers);
+compared!(family_numbers_to_the_last, has_instance, family_numbers);
 
 /// More steps than any program here takes.
 const ENOUGH: u64 = 100_000;
@@ -294,11 +294,20 @@ fn ask_sizes(tally: &mut Tally, program: &[u8], sizes: &[u8]) -> Result<(), Stri
     })
 }
 
-/// Every family number there is, and some past them.
+/// As many families as there may be; any two that are 256 apart have different gates.
+fn most_families() -> Vec<u8> {
+    let gates = [h, t, tdg];
+    let gate = |number: usize| gates[number % 3](whole(0));
+    let families = (0..MOST_FAMILIES).map(|number| family(0, vec![qbit()], vec![gate(number)]));
+    program(&families.collect::<Vec<Field>>())
+}
+
+/// Family numbers of one byte and of two, the last ones, and some past them.
 fn family_numbers(tally: &mut Tally) -> Result<(), String> {
-    let program = program(&vec![family(0, vec![qbit()], vec![h(whole(0))]); 255]);
-    let past = [256, 257, 511, 512, 65_535, 65_536, 1 << 31, u32::MAX];
-    for family in (0..=255).chain(past) {
+    let program = most_families();
+    let few = (0..4_080).step_by(67);
+    let past = [4_352, 8_192, 65_535, 65_536, 1 << 31, u32::MAX];
+    for family in few.chain(250..262).chain(4_080..4_100).chain(past) {
         let call = Call::Instance { family, sizes: &[] };
         tally.question(&Question {
             program: &program,

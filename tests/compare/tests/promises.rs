@@ -57,11 +57,16 @@ const LIST: &[Damage] = &[
         "a number that means nothing",
     ),
     (
+        |answer| answer.outcome.number = 32,
+        "a number that means nothing",
+    ),
+    (
         |answer| answer.outcome.number = 30,
         "a number that means nothing",
     ),
     (|answer| answer.outcome.place = 5, "a place that cannot be"),
     (|answer| answer.outcome.number = 4, "counts without a run"),
+    (|answer| answer.outcome.number = 31, "counts without a run"),
     (
         |answer| answer.outcome.length = 1,
         "more text than there is room",

@@ -1,7 +1,7 @@
 //! The deepest programs are answered on the stack that the header names.
 
 use compare::header::stack_kib;
-use generate::library::SHAPES;
+use generate::shapes::SHAPES;
 use std::process::Command;
 
 /// Whether a call about a shape comes to 0 on a stack of so many KiB.

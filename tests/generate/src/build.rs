@@ -1,5 +1,10 @@
 //! Builders for program bytes: one small function for each kind of field.
 
+/// The most bytes of a program.
+pub const MOST_BYTES: usize = 65_535;
+/// The most families of a program.
+pub const MOST_FAMILIES: usize = 4_096;
+
 /// A field as a tree: raw bytes, inner fields, then raw bytes again.
 #[derive(Clone, Debug, PartialEq, Eq)]
 pub struct Field {
@@ -25,8 +30,7 @@ impl Field {
 
     /// The number of bytes of the whole field.
     pub fn size(&self) -> usize {
-        let parts: usize = self.parts.iter().map(Field::size).sum();
-        3 + self.head.len() + parts + self.tail.len()
+        3 + self.head.len() + length(&self.parts) + self.tail.len()
     }
 
     /// Writes the field; a length past two bytes is written without its rest.
@@ -69,6 +73,16 @@ pub fn headers(fields: &[Field]) -> Vec<usize> {
         start += field.size();
     }
     offsets
+}
+
+/// The number of bytes of fields.
+pub fn length(fields: &[Field]) -> usize {
+    fields.iter().map(Field::size).sum()
+}
+
+/// How many families fields declare.
+pub fn families(fields: &[Field]) -> usize {
+    fields.iter().filter(|field| field.tag == 1).count()
 }
 
 /// Sizes as an instance takes them, four bytes for each.
@@ -141,11 +155,17 @@ pub fn cx(control: Field, target: Field) -> Field {
     Field::new(35, &[], vec![control, target])
 }
 
-/// A call of a family.
-pub fn call(family: u8, sizes: Vec<Field>, operands: Vec<Field>) -> Field {
-    let mut parts = sizes;
-    parts.extend(operands);
-    Field::new(36, &[family], parts)
+/// A call of a family, with a number of one byte where that is enough.
+pub fn call(family: u16, sizes: Vec<Field>, operands: Vec<Field>) -> Field {
+    match u8::try_from(family) {
+        Ok(family) => Field::new(36, &[family], [sizes, operands].concat()),
+        Err(_) => wide_call(family, sizes, operands),
+    }
+}
+
+/// A call of a family with a number of two bytes, whether or not one is enough.
+pub fn wide_call(family: u16, sizes: Vec<Field>, operands: Vec<Field>) -> Field {
+    Field::new(39, &family.to_le_bytes(), [sizes, operands].concat())
 }
 
 /// Statements run backward.

@@ -63,7 +63,7 @@ fn mixed(random: &mut Random) -> Case {
 }
 
 /// Arguments that mostly suit the families declared.
-fn arguments(program: Vec<u8>, families: &[Signature], random: &mut Random) -> Case {
+pub(crate) fn arguments(program: Vec<u8>, families: &[Signature], random: &mut Random) -> Case {
     let family = match random.percent(96) {
         true => random.below(families.len()),
         false => families.len() + random.below(3),

@@ -1,19 +1,20 @@
 //! Damage: small changes to a program's tree or to its bytes.
 
-use crate::build::{difference, headers, literal, product, program, reverse, sum, Field};
+use crate::build::{difference, families, headers, literal, product, program, reverse, sum, Field};
 use crate::random::Random;
 
-/// All tags that mean something.
-const TAGS: [u8; 24] = [
-    1, 2, 3, 4, 5, 6, 16, 17, 32, 33, 34, 35, 36, 37, 38, 48, 49, 64, 65, 66, 67, 68, 0, 39,
+/// All tags that mean something, and two that do not.
+const TAGS: [u8; 25] = [
+    1, 2, 3, 4, 5, 6, 16, 17, 32, 33, 34, 35, 36, 37, 38, 39, 48, 49, 64, 65, 66, 67, 68, 0, 40,
 ];
+/// The tags of calls with a family number of one byte and of two.
+const CALL: u8 = 36;
+const WIDE_CALL: u8 = 39;
 
 /// Changes the tree in one to three places, so that all lengths stay right.
 pub fn tree(fields: &mut Vec<Field>, random: &mut Random) {
     for _ in 0..random.between(1, 3) {
-        let nodes: usize = fields.iter().map(nodes).sum();
-        let chosen = random.below(nodes);
-        if let Some(field) = node(fields, chosen) {
+        if let Some(field) = some_node(fields, |_| true, random) {
             change(field, random);
         }
     }
@@ -35,6 +36,63 @@ pub fn bytes(fields: &[Field], random: &mut Random) -> Vec<u8> {
         change_byte(&mut bytes, random);
     }
     bytes
+}
+
+/// Changes one call of a program in one top field that has any.
+pub fn some_call(fields: &mut [Field], random: &mut Random) {
+    let is_call = |field: &Field| matches!(field.tag, CALL | WIDE_CALL);
+    let has_calls = |top: &usize| nodes(&fields[*top], is_call) > 0;
+    let calling: Vec<usize> = (0..fields.len()).filter(has_calls).collect();
+    if calling.is_empty() {
+        return;
+    }
+    let top = random.pick(&calling);
+    let in_scope = families(&fields[..top]) as u16;
+    if let Some(field) = some_node(&mut fields[top..=top], is_call, random) {
+        call(field, in_scope, random);
+    }
+}
+
+/// Changes a call where so many families are in scope: its number, its tag, or
+/// where its content ends.
+pub fn call(field: &mut Field, in_scope: u16, random: &mut Random) {
+    let number = family_number(&field.head);
+    let other_tag = CALL + WIDE_CALL - field.tag;
+    match random.below(12) {
+        0 | 1 => field.head.reverse(),
+        2 => give_number(field, WIDE_CALL, number % 256),
+        3 => give_number(field, WIDE_CALL, random.below(256) as u16),
+        4 => give_number(field, WIDE_CALL, in_scope),
+        5 => give_number(field, field.tag, in_scope.wrapping_sub(1)),
+        6 => field.tag = other_tag,
+        7 => give_number(field, other_tag, number),
+        8 => {
+            field.head.truncate(random.below(2));
+            field.parts.clear();
+        }
+        9 => field.head.truncate(random.below(2)),
+        10 => field.tail.push(random.byte()),
+        _ => field.parts.truncate(field.parts.len().saturating_sub(1)),
+    }
+}
+
+/// The family number at the start of a call.
+fn family_number(head: &[u8]) -> u16 {
+    match *head {
+        [] => 0,
+        [low] => low.into(),
+        [low, high, ..] => u16::from_le_bytes([low, high]),
+    }
+}
+
+/// Gives a call a tag and a number, in as many bytes as the tag asks for.
+fn give_number(field: &mut Field, tag: u8, number: u16) {
+    let [low, high] = number.to_le_bytes();
+    field.tag = tag;
+    field.head = match tag {
+        WIDE_CALL => vec![low, high],
+        _ => vec![low],
+    };
 }
 
 /// Fields of any tags in each other, with right lengths.
@@ -72,24 +130,39 @@ fn change_byte(bytes: &mut Vec<u8>, random: &mut Random) {
     }
 }
 
-/// The number of fields in a field, itself included.
-fn nodes(field: &Field) -> usize {
-    1 + field.parts.iter().map(nodes).sum::<usize>()
+/// Which fields are meant.
+type Meant = fn(&Field) -> bool;
+
+/// The number of fields meant in a field, itself included.
+fn nodes(field: &Field, meant: Meant) -> usize {
+    let inside = field.parts.iter().map(|part| nodes(part, meant));
+    usize::from(meant(field)) + inside.sum::<usize>()
 }
 
-/// The field with a number in reading order.
-fn node(fields: &mut [Field], mut number: usize) -> Option<&mut Field> {
+/// The field meant that has a number in reading order.
+fn node(fields: &mut [Field], mut number: usize, meant: Meant) -> Option<&mut Field> {
     for field in fields {
-        let inside = nodes(field);
-        if number == 0 {
+        let inside = nodes(field, meant);
+        let before = usize::from(meant(field));
+        if number < before {
             return Some(field);
         }
         if number < inside {
-            return node(&mut field.parts, number - 1);
+            return node(&mut field.parts, number - before, meant);
         }
         number -= inside;
     }
     None
+}
+
+/// One of the fields meant, if there is any.
+fn some_node<'f>(
+    fields: &'f mut [Field],
+    meant: Meant,
+    random: &mut Random,
+) -> Option<&'f mut Field> {
+    let count = fields.iter().map(|field| nodes(field, meant)).sum();
+    node(fields, random.below(count), meant)
 }
 
 /// Changes one field.
@@ -137,7 +210,7 @@ fn wrap(field: &mut Field, random: &mut Random) {
     for _ in 0..times {
         let inner = field.clone();
         *field = match inner.tag {
-            32..=38 => reverse(vec![inner]),
+            32..=39 => reverse(vec![inner]),
             64..=68 => match random.below(4) {
                 0 => sum(inner, literal(0)),
                 1 => sum(literal(0), inner),

@@ -92,7 +92,7 @@ fn calling(families: usize, wrap: impl Fn(Field) -> Field) -> Vec<Field> {
     for number in 0..families {
         let innermost = match number {
             0 => t(whole(0)),
-            _ => call((number - 1) as u8, vec![], vec![whole(0)]),
+            _ => call((number - 1) as u16, vec![], vec![whole(0)]),
         };
         fields.push(family(0, vec![qbit()], vec![wrap(innermost)]));
     }
@@ -119,7 +119,7 @@ pub fn deep_loops(families: usize, loops: usize, reversals: usize) -> Vec<Field>
     for number in 0..families {
         let mut inner = match number {
             0 => t(at(0, 0)),
-            _ => call((number - 1) as u8, vec![variable(0)], vec![whole(0)]),
+            _ => call((number - 1) as u16, vec![variable(0)], vec![whole(0)]),
         };
         for _ in 0..loops {
             inner = repeat(literal(1), literal(1), vec![inner]);
@@ -185,12 +185,28 @@ pub fn bell() -> Vec<Field> {
 pub fn large_library() -> Vec<Field> {
     let mut fields = vec![toffoli(), majority()];
     let adder = adder().swap_remove(2);
-    let mut bytes: usize = fields.iter().map(Field::size).sum();
-    while bytes + adder.size() <= 65_535 && fields.len() < 255 {
-        bytes += adder.size();
-        fields.push(adder.clone());
-    }
+    let room = (MOST_BYTES - length(&fields)) / adder.size();
+    fields.extend(vec![adder; room.min(MOST_FAMILIES - fields.len())]);
     fields
+}
+
+/// 4,000 small families: most of them call an earlier one, by turns with a number of
+/// one byte and, from family 257 on, of two.
+pub fn small_families() -> Vec<Field> {
+    let calling = |number| vec![call(number, vec![], vec![whole(0)])];
+    let body = |number: u16| match (number % 16, number % 2) {
+        (0, _) => vec![],
+        (_, 0) => calling(number / 2 % 256),
+        _ => calling(number - 1),
+    };
+    let small = |number| family(0, vec![qbit()], body(number));
+    (0..4_000).map(small).collect()
+}
+
+/// h and cx on two wires, as a family.
+pub fn bell_family() -> Vec<Field> {
+    let body = vec![h(whole(0)), cx(whole(0), whole(1))];
+    vec![family(0, vec![qbit(), qbit()], body)]
 }
 
 /// Two loops that take a hundred million steps and write nothing.
@@ -216,135 +232,4 @@ pub fn each_cell() -> Vec<Field> {
     let round = vec![h(element(0, minus(1, 1)))];
     let body = vec![repeat(literal(1), variable(0), round)];
     vec![family(1, vec![qbits(variable(0))], body)]
-}
-
-/// How the families of a deepest program are nested.
-#[derive(Clone, Copy, Debug)]
-pub struct Shape {
-    pub name: &'static str,
-    /// Whether the loops stand around the reversals, inside them, or in turn.
-    pub order: Order,
-    pub loops: usize,
-    pub reversals: usize,
-    /// The index variables of each family, 1 to 4.
-    pub indexes: u8,
-    /// The parameters of each family, 1 to 8.
-    pub parameters: u8,
-}
-
-/// In which order loops and reversals are nested.
-#[derive(Clone, Copy, Debug)]
-pub enum Order {
-    LoopsOutside,
-    LoopsInside,
-    InTurn,
-}
-
-/// Shapes of 16 levels, or of as many loops as there may be.
-pub const SHAPES: [Shape; 6] = [
-    shape("15 reversals", Order::LoopsInside, [0, 15], [1, 1]),
-    shape("8 loops", Order::LoopsInside, [8, 0], [1, 1]),
-    shape("8 loops in 7 reversals", Order::LoopsInside, [8, 7], [1, 1]),
-    shape(
-        "7 reversals in 8 loops",
-        Order::LoopsOutside,
-        [8, 7],
-        [1, 1],
-    ),
-    shape("loops, reversals in turn", Order::InTurn, [8, 7], [1, 1]),
-    shape("in turn, 6 parameters", Order::InTurn, [8, 7], [4, 6]),
-];
-
-/// A shape of so many loops and reversals, index variables and parameters.
-const fn shape(
-    name: &'static str,
-    order: Order,
-    [loops, reversals]: [usize; 2],
-    [indexes, parameters]: [u8; 2],
-) -> Shape {
-    Shape {
-        name,
-        order,
-        loops,
-        reversals,
-        indexes,
-        parameters,
-    }
-}
-
-impl Shape {
-    /// Statements at the bottom of the loops and reversals. Each reversal also
-    /// holds an empty one, as one that holds a single loop or reversal needs less stack.
-    fn nest(&self, statements: Vec<Field>) -> Vec<Field> {
-        let (loops, reversals) = (self.loops, self.reversals);
-        let mut is_loop: Vec<bool> = match self.order {
-            Order::LoopsOutside => (0..loops + reversals).map(|n| n < loops).collect(),
-            Order::LoopsInside => (0..loops + reversals).map(|n| n >= reversals).collect(),
-            Order::InTurn => (0..loops + reversals).map(|n| n % 2 == 0).collect(),
-        };
-        is_loop.reverse();
-        let wrap = |mut inner: Vec<Field>, is_loop| match is_loop {
-            true => vec![repeat(literal(1), literal(1), inner)],
-            false => {
-                inner.push(reverse(Vec::new()));
-                vec![reverse(inner)]
-            }
-        };
-        is_loop.into_iter().fold(statements, wrap)
-    }
-
-    /// The types of a family: a register of n+1 wires, then registers of a variable's size.
-    fn types(&self) -> Vec<Field> {
-        let others = (1..self.parameters).map(|n| qbits(variable(n % self.indexes)));
-        [qbits(plus(0, 1))].into_iter().chain(others).collect()
-    }
-
-    /// A family with statements at the bottom of its body.
-    fn family(&self, statements: Vec<Field>) -> Field {
-        family(self.indexes, self.types(), self.nest(statements))
-    }
-
-    /// A call that passes all index variables and parameters on.
-    fn call(&self, number: u8) -> Field {
-        let sizes = (0..self.indexes).map(variable).collect();
-        call(number, sizes, (0..self.parameters).map(whole).collect())
-    }
-
-    /// A whole program: 255 families, each of which calls the one before from
-    /// the bottom, and a run that calls the last one from as deep.
-    pub fn deepest(&self) -> Vec<Field> {
-        let leaf = |index| t(element(0, index));
-        let mut fields = vec![self.family(vec![leaf(left_deep()), leaf(right_deep())])];
-        fields.extend((0..254).map(|number| self.family(vec![self.call(number)])));
-        fields.push(qreg(1));
-        let sizes = (0..self.indexes).map(|_| literal(0)).collect();
-        let operands = (0..self.parameters).map(|_| whole(0)).collect();
-        fields.extend(self.nest(vec![call(254, sizes, operands)]));
-        fields
-    }
-
-    /// The sizes with which the families of the program are unrolled.
-    pub fn sizes(&self) -> Vec<u8> {
-        sizes(&vec![0; self.indexes as usize])
-    }
-
-    /// Two families, of which the last one has the deepest indexes at the bottom.
-    pub fn deepest_indexes(&self) -> Vec<Field> {
-        let first = self.family(vec![t(at(0, 0))]);
-        let sizes = (0..self.indexes).map(|_| left_deep()).collect();
-        let operands = (0..self.parameters).map(|_| whole(0)).collect();
-        let pair = cx(element(0, left_deep()), element(0, right_deep()));
-        let last = self.family(vec![call(0, sizes, operands), pair]);
-        vec![first, last]
-    }
-}
-
-/// The index 0 as a sum of 16 levels to the left.
-fn left_deep() -> Field {
-    (1..16).fold(literal(0), |inner, _| sum(inner, literal(0)))
-}
-
-/// The index 0 as a sum of 16 levels to the right.
-fn right_deep() -> Field {
-    (1..16).fold(literal(0), |inner, _| sum(literal(0), inner))
 }

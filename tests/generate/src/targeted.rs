@@ -2,17 +2,18 @@
 
 use crate::build::*;
 use crate::case::Case;
+use crate::damage;
 use crate::library;
 use crate::random::Random;
 
 /// A writer of cases near one limit.
 type Writer = fn(&mut Random) -> Case;
 
-/// All writers; the one that makes programs of full length comes up less.
+/// The writers of short programs.
 const WRITERS: [Writer; 18] = [
     statement_depth,
     index_depth,
-    many_families,
+    wide_calls,
     many_registers,
     family_counts,
     many_loops,
@@ -30,12 +31,15 @@ const WRITERS: [Writer; 18] = [
     deep_calls,
 ];
 
+/// The writers of long programs, which come up less.
+const LONG_WRITERS: [Writer; 2] = [full_length, many_families];
+
 /// One case near a limit.
 pub fn case(random: &mut Random) -> Case {
-    if random.below(60) == 0 {
-        return full_length(random);
+    match random.below(40) {
+        0 => random.pick(&LONG_WRITERS)(random),
+        _ => random.pick(&WRITERS)(random),
     }
-    random.pick(&WRITERS)(random)
 }
 
 /// A case with enough of everything.
@@ -108,15 +112,37 @@ fn index_depth(random: &mut Random) -> Case {
     case
 }
 
-/// About 255 families, the last of which calls an earlier one.
+/// About 4,096 families, the last of which calls an earlier one.
 fn many_families(random: &mut Random) -> Case {
-    let count = 253 + random.below(4);
+    let count = MOST_FAMILIES - 3 + random.below(4);
     let mut fields = vec![family(0, vec![qbit()], vec![h(whole(0))]); count];
-    let called = random.between(250, 255) as u8;
+    let called = random.between(4_090, 4_096) as u16;
     let body = vec![call(called, vec![], vec![whole(0)])];
     fields.push(family(0, vec![qbit()], body));
     let mut case = with(&fields, &[]);
-    case.family = random.between(252, 256) as u32;
+    case.family = random.between(4_092, 4_097) as u32;
+    case
+}
+
+/// About 257 families, the last of which calls one by a number of two bytes.
+fn wide_calls(random: &mut Random) -> Case {
+    let count = 255 + random.below(5);
+    let gates = [h, t, tdg];
+    let mut fields: Vec<Field> = (0..count)
+        .map(|number| family(0, vec![qbit()], vec![gates[number % 3](whole(0))]))
+        .collect();
+    let called = match random.below(4) {
+        0 => random.below(256) as u16,
+        1 => random.word() as u16,
+        _ => random.between(254, 261) as u16,
+    };
+    let mut calling = wide_call(called, vec![], vec![whole(0)]);
+    if random.percent(30) {
+        damage::call(&mut calling, count as u16, random);
+    }
+    fields.push(family(0, vec![qbit()], vec![calling]));
+    let mut case = with(&fields, &[]);
+    case.family = random.between(253, 261) as u32;
     case
 }
 
@@ -363,9 +389,10 @@ fn numbers(random: &mut Random) -> Case {
     if random.percent(15) {
         named.tail.push(random.byte());
     }
-    let inner = match random.below(2) {
-        0 => h(named),
-        _ => call(number, vec![minus(0, 1)], vec![named, whole(1)]),
+    let inner = match random.below(5) {
+        0 | 1 => h(named),
+        2 | 3 => call(number.into(), vec![minus(0, 1)], vec![named, whole(1)]),
+        _ => wide_call(number.into(), vec![minus(0, 1)], vec![named, whole(1)]),
     };
     let looped = repeat(literal(0), minus(0, 1), vec![inner]);
     let fields = [

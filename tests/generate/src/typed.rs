@@ -4,6 +4,10 @@
 //! and tries indexes until one is likely to be shown inside. A few are left
 //! unfit on purpose, so that near misses are among the programs too.
 
+mod libraries;
+
+pub use libraries::library;
+
 use crate::build::*;
 use crate::linear::{Bounds, Linear, VARIABLES};
 use crate::random::Random;
@@ -38,6 +42,7 @@ fn apart(first: &Chosen, second: &Chosen) -> bool {
 }
 
 /// What the statements being written can name.
+#[derive(Default)]
 struct Scope {
     sizes: usize,
     loops: Vec<Bounds>,
@@ -62,6 +67,7 @@ pub fn program(random: &mut Random) -> Written {
     let mut writer = Writer {
         random,
         families: Vec::new(),
+        near_misses: true,
     };
     let fields = writer.top();
     Written {
@@ -74,6 +80,8 @@ pub fn program(random: &mut Random) -> Written {
 struct Writer<'r> {
     random: &'r mut Random,
     families: Vec<Signature>,
+    /// Whether a few indexes are left unfit.
+    near_misses: bool,
 }
 
 impl Scope {
@@ -106,11 +114,7 @@ impl Writer<'_> {
     /// Writes the fields at the top.
     fn top(&mut self) -> Vec<Field> {
         let mut fields = Vec::new();
-        let mut scope = Scope {
-            sizes: 0,
-            loops: Vec::new(),
-            kinds: Vec::new(),
-        };
+        let mut scope = Scope::default();
         for _ in 0..self.random.between(1, 4) {
             fields.push(self.family());
         }
@@ -158,15 +162,26 @@ impl Writer<'_> {
     fn family(&mut self) -> Field {
         let sizes = self.random.pick(&[0, 1, 1, 1, 1, 2, 2, 3, 4]);
         let count = self.random.pick(&[1, 1, 2, 2, 3, 4, 8]);
-        let parameters: Vec<Option<Linear>> = (0..count)
+        let parameters = (0..count)
             .map(|_| self.random.percent(65).then(|| self.size(sizes)))
             .collect();
-        let types = parameters.iter().map(|size| match size {
+        let body = |writer: &mut Self, scope: &mut Scope| writer.statements(scope, 1);
+        self.declare(Signature { sizes, parameters }, body)
+    }
+
+    /// Writes a family with a body that may name its parameters and sizes.
+    fn declare(
+        &mut self,
+        signature: Signature,
+        body: fn(&mut Self, &mut Scope) -> Vec<Field>,
+    ) -> Field {
+        let sizes = signature.sizes;
+        let types = signature.parameters.iter().map(|size| match size {
             None => qbit(),
             Some(linear) => qbits(linear.render(self.random)),
         });
         let types = types.collect();
-        let kinds = parameters.iter().map(|size| match size {
+        let kinds = signature.parameters.iter().map(|size| match size {
             None => Kind::Wire,
             Some(linear) => Kind::Wires(*linear),
         });
@@ -175,8 +190,8 @@ impl Writer<'_> {
             loops: Vec::new(),
             kinds: kinds.collect(),
         };
-        let body = self.statements(&mut scope, 1);
-        self.families.push(Signature { sizes, parameters });
+        let body = body(self, &mut scope);
+        self.families.push(signature);
         family(sizes as u8, types, body)
     }
 
@@ -310,7 +325,7 @@ impl Writer<'_> {
                 Kind::Wire => return Some((number, None)),
                 Kind::Wires(size) => {
                     let index = self.index(scope, size);
-                    if scope.inside(&index, size) || self.random.below(2_000) == 0 {
+                    if scope.inside(&index, size) || self.misses() {
                         return Some((number, Some(index)));
                     }
                 }
@@ -318,6 +333,11 @@ impl Writer<'_> {
             }
         }
         None
+    }
+
+    /// Whether an index is left unfit on purpose.
+    fn misses(&mut self) -> bool {
+        self.near_misses && self.random.below(2_000) == 0
     }
 
     /// Writes a wire that has been chosen.
@@ -378,16 +398,27 @@ impl Writer<'_> {
 
     /// Writes a call of an earlier family, if arguments are found.
     fn call(&mut self, scope: &Scope) -> Option<Field> {
-        let number = self.random.below(self.families.len());
+        let number = self.called();
         let called = self.families[number].clone();
         for attempt in 0..LOOKS {
             let forms = self.call_sizes(scope, called.sizes, attempt);
             if let Some(operands) = self.arguments(scope, &called, &forms) {
                 let sizes = forms.iter().map(|form| form.render(self.random));
-                return Some(call(number as u8, sizes.collect(), operands));
+                return Some(call(number as u16, sizes.collect(), operands));
             }
         }
         None
+    }
+
+    /// The number of a family to call: where there are many, often one about the
+    /// first that takes two bytes, or one of the last.
+    fn called(&mut self) -> usize {
+        let last = self.families.len() - 1;
+        match self.random.below(if last < 256 { 1 } else { 4 }) {
+            1 => last.min(252 + self.random.below(8)),
+            2 => last - self.random.below(4),
+            _ => self.random.below(last + 1),
+        }
     }
 
     /// Sizes for a call, smaller with each attempt.

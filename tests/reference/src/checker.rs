@@ -9,8 +9,12 @@ use crate::tree::{
 
 /// The most bytes a program may have.
 const PROGRAM_BYTES: usize = 65_535;
-/// The most families, and the most registers.
-const DECLARATIONS: usize = 255;
+/// The most families.
+const FAMILIES: usize = 4_096;
+/// The most registers.
+const REGISTERS: usize = 255;
+/// The first family that is called with a number of two bytes.
+const FIRST_FAR_FAMILY: u16 = 256;
 /// The most qubits, and the most bits, that registers may have in all.
 const LOCATIONS: u32 = 65_535;
 /// The most loops open at one place.
@@ -75,7 +79,7 @@ impl Checker {
 
     /// Reads a family: its counts, its types and its body.
     fn family(&self, mut field: Field) -> Result<Family, Refusal> {
-        if self.program.families.len() == DECLARATIONS {
+        if self.program.families.len() == FAMILIES {
             return refuse(6, field.place);
         }
         let sizes = field.content.byte()?;
@@ -107,7 +111,7 @@ impl Checker {
 
     /// Reads a quantum or classical register.
     fn register(&mut self, mut field: Field) -> Result<(), Refusal> {
-        if self.kinds.len() == DECLARATIONS {
+        if self.kinds.len() == REGISTERS {
             return refuse(6, field.place);
         }
         let size = field.content.number()?;
@@ -142,6 +146,14 @@ fn quantum(first: u16, size: u16) -> Register {
 fn classical(first: u16, size: u16) -> Register {
     let first = Bit(first);
     Register::Classical { first, size }
+}
+
+/// Reads the two-byte number of a call, which must be one that a byte cannot hold.
+fn far_family(content: &mut Content, place: u32) -> Result<u16, Refusal> {
+    match content.number()? {
+        family @ FIRST_FAR_FAMILY.. => Ok(family),
+        _ => refuse(31, place),
+    }
 }
 
 impl Parameter {
@@ -212,7 +224,7 @@ impl Scope<'_> {
     /// Reads a statement that may stand in a body.
     fn statement(&mut self, mut field: Field, depth: u32) -> Result<Statement, Refusal> {
         let place = field.place;
-        if !(32..=38).contains(&field.tag) {
+        if !(32..=39).contains(&field.tag) {
             return refuse(3, place);
         }
         if depth > STATEMENT_NESTING {
@@ -224,9 +236,10 @@ impl Scope<'_> {
             33 => self.gate(Gate::T, content)?,
             34 => self.gate(Gate::Tdg, content)?,
             35 => self.cx(content)?,
-            36 => self.call(content, place)?,
+            36 => self.call(u16::from(content.byte()?), content, place)?,
             37 => Action::Reverse(self.statements(content, depth + 1)?),
-            _ => self.open_loop(content, place, depth)?,
+            38 => self.open_loop(content, place, depth)?,
+            _ => self.call(far_family(content, place)?, content, place)?,
         };
         Ok(Statement { place, action })
     }
@@ -246,9 +259,8 @@ impl Scope<'_> {
         Ok(Action::Cx(control, target))
     }
 
-    /// Reads a call: family, sizes, arguments.
-    fn call(&self, content: &mut Content, place: u32) -> Result<Action, Refusal> {
-        let family = content.byte()?;
+    /// Reads what follows the family's number in a call: sizes, arguments.
+    fn call(&self, family: u16, content: &mut Content, place: u32) -> Result<Action, Refusal> {
         let Some(called) = self.families.get(usize::from(family)) else {
             return refuse(8, place);
         };

@@ -97,7 +97,7 @@ pub enum Action {
 
 /// A call with its sizes and arguments.
 pub struct Call {
-    pub family: u8,
+    pub family: u16,
     pub sizes: Vec<Index>,
     pub arguments: Vec<Argument>,
 }

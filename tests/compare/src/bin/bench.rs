@@ -1,10 +1,12 @@
 //! Prints how fast the library and the reference are, side by side.
 //!
-//! Use: `bench`, or `bench ROW` for the rows whose names begin so, built for release. Each time is the best of several rounds, in
-//! which both have their turn, and is the thread's processor time, so that other
-//! work on the machine disturbs it little. The output has been written once
-//! before, so its pages are there. The last column is the time of a plain copy of
-//! as many bytes of output and text.
+//! Use: `bench`, or `bench ROW` for the rows whose names begin so, built for
+//! release. Each time is the best of several rounds, in which both have their turn,
+//! and is the thread's processor time, so that other work on the machine disturbs it
+//! little. The output has been written once before, so its pages are there. The last
+//! column is the time of a plain copy of as many bytes of output and text. A check is
+//! told in nanoseconds for each byte of the program, a very short call in
+//! microseconds.
 //!
 //! A row that prints has a second line: what the printing takes by itself, which is
 //! the time of the call less that of the same call without text.
@@ -66,15 +68,15 @@ impl Workload {
         }
     }
 
-    /// An instance at one size that writes so many records.
+    /// An instance at some sizes that writes so many records.
     fn instance(
         name: &'static str,
         fields: &[Field],
-        (family, size): (u32, u32),
+        (family, numbers): (u32, &[u32]),
         records: usize,
     ) -> Workload {
         Workload {
-            instance: Some((family, sizes(&[size]))),
+            instance: Some((family, sizes(numbers))),
             ..Workload::run(name, fields, records)
         }
     }
@@ -106,14 +108,16 @@ impl Workload {
 }
 
 /// A loop that calls a family so many times on one wire.
-fn calls(family: u8, times: u16) -> Vec<Field> {
+fn calls(family: u16, times: u16) -> Vec<Field> {
     let once = call(family, vec![], vec![at(0, 0)]);
     vec![qreg(1), repeat(literal(1), literal(times), vec![once])]
 }
 
 /// Everything that is measured.
 fn workloads() -> Vec<Workload> {
-    let mut rows = lists();
+    let mut rows = checks();
+    rows.extend(lists());
+    rows.extend(small_calls());
     rows.extend(printed());
     rows
 }
@@ -132,7 +136,27 @@ fn printed() -> Vec<Workload> {
     ]
 }
 
-/// Checks, and lists that are not printed.
+/// Checks of the largest programs.
+fn checks() -> Vec<Workload> {
+    let (library, small) = (programs::large_library(), programs::small_families());
+    vec![
+        Workload::check("check, a full library", &library),
+        Workload::check("check, 4,000 families", &small),
+        Workload::check("check, the slowest", &slow::slowest_check()),
+    ]
+}
+
+/// Calls about the smallest program.
+fn small_calls() -> Vec<Workload> {
+    let (bell, family) = (programs::bell(), programs::bell_family());
+    vec![
+        Workload::check("Bell, a check", &bell),
+        Workload::run("Bell, a whole run", &bell, 2),
+        Workload::instance("Bell, an instance", &family, (0, &[]), 2),
+    ]
+}
+
+/// Lists that are not printed.
 fn lists() -> Vec<Workload> {
     let adder = programs::reversed_adder();
     let gates = 17 + 7_999 * 35;
@@ -146,25 +170,19 @@ fn lists() -> Vec<Workload> {
     let mut backward = vec![programs::gate_list(9_000, true)];
     backward.extend(calls(0, 100));
     let short = programs::short_reversals(6);
-    let bell = programs::bell();
-    let library = programs::large_library();
     let rounds = programs::empty_rounds();
-    let calls_in_loops = slow::slowest_check();
     let slow_steps = slow::slowest_steps(1_000);
     vec![
-        Workload::check("check, a full library", &library),
-        Workload::check("check, the slowest", &calls_in_loops),
-        Workload::instance("adder, 8,000 bits", &adder, (2, 7_999), gates),
-        Workload::instance("adder reversed", &adder, (3, 7_999), gates),
-        Workload::instance("nested loop", &nested, (0, 700), 2 * 700 * 700),
+        Workload::instance("adder, 8,000 bits", &adder, (2, &[7_999]), gates),
+        Workload::instance("adder reversed", &adder, (3, &[7_999]), gates),
+        Workload::instance("nested loop", &nested, (0, &[700]), 2 * 700 * 700),
         Workload::run("deep calls", &deep, 2_000),
         Workload::run("deep lists", &lists, 500 * (254 * 15 + 1)),
         Workload::run("long list", &forward, 100 * 9_000),
         Workload::run("long list reversed", &backward, 100 * 9_000),
-        Workload::instance("short reversed bodies", &short, (0, 50_000), 6 * 50_000),
+        Workload::instance("short reversed bodies", &short, (0, &[50_000]), 6 * 50_000),
         Workload::run("empty rounds", &rounds, 0),
         Workload::run("1,000 slowest steps", &slow_steps, 1_000),
-        Workload::run("Bell, a whole call", &bell, 2),
     ]
 }
 
@@ -323,20 +341,31 @@ fn copy(bytes: usize) -> f64 {
     best(&mut [Box::new(copy)])[0]
 }
 
-/// A speed in millions of what is counted, each second; of a very short call, its time.
-fn speed(workload: &Workload, outcome: &TextOutcome, seconds: f64) -> String {
-    let steps = outcome.steps;
-    if workload.runs && steps < 100 && outcome.length < 1_000 {
-        return format!("{:9.1} ns/call ", seconds * 1e9);
+/// Whether a call is so short that its time is told.
+fn is_short(workload: &Workload, outcome: &TextOutcome) -> bool {
+    match workload.runs {
+        true => outcome.steps < 100 && outcome.length < 1_000,
+        false => workload.program.len() < 1_000,
     }
-    let gates = workload.records as u64;
-    let (count, unit) = match workload.runs {
-        _ if workload.prints => (outcome.length as f64, "MB/s"),
-        false => (workload.program.len() as f64, "MB/s"),
-        true if steps > 100 * gates => (steps as f64, "Msteps/s"),
-        true => (gates as f64, "Mgates/s"),
+}
+
+/// The time of a very short call or, in a check, of each byte; else a speed in millions
+/// of what is counted, each second.
+fn speed(workload: &Workload, outcome: &TextOutcome, seconds: f64) -> String {
+    if is_short(workload, outcome) {
+        return format!("{:9.3} µs/call ", seconds * 1e6);
+    }
+    if !workload.runs {
+        let bytes = workload.program.len() as f64;
+        return format!("{:9.2} ns/byte ", seconds * 1e9 / bytes);
+    }
+    let (steps, gates) = (outcome.steps, workload.records as u64);
+    let (count, unit) = match workload.prints {
+        true => (outcome.length, "MB/s"),
+        false if steps > 100 * gates => (steps, "Msteps/s"),
+        false => (gates, "Mgates/s"),
     };
-    format!("{:9.2} {unit:8}", count / seconds / 1e6)
+    format!("{:9.2} {unit:8}", count as f64 / seconds / 1e6)
 }
 
 /// Writes one line to standard output.

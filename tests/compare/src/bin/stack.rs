@@ -9,8 +9,8 @@
 
 use compare::ask::ask_library;
 use compare::{header, library, Call, Question};
-use generate::build::program;
-use generate::library::{Shape, SHAPES};
+use generate::build::{families, program};
+use generate::shapes::{Shape, SHAPES};
 use std::io::Write;
 use std::process::{Command, ExitCode, Stdio};
 
@@ -20,11 +20,33 @@ const PAGE: usize = 4;
 const MOST: usize = 65_536 / PAGE;
 const USE: &str = "use: stack, without arguments";
 
-/// Makes a call about program bytes; fails if it does not come to 0.
-fn once(call: &str, bytes: &[u8], sizes: &[u8]) -> Result<(), String> {
-    let family = 254;
+/// What a call is about: a program, and its last family with sizes.
+struct Deepest {
+    program: Vec<u8>,
+    family: u32,
+    sizes: Vec<u8>,
+}
+
+impl Deepest {
+    /// The program of a shape that is deepest for a call.
+    fn of(call: &str, shape: &Shape) -> Deepest {
+        let fields = match call {
+            "check" => shape.deepest_indexes(),
+            _ => shape.deepest(),
+        };
+        Deepest {
+            program: program(&fields),
+            family: families(&fields) as u32 - 1,
+            sizes: shape.sizes(),
+        }
+    }
+}
+
+/// Makes a call; fails if it does not come to 0.
+fn once(call: &str, deepest: &Deepest) -> Result<(), String> {
+    let (family, sizes) = (deepest.family, &deepest.sizes);
     let question = Question {
-        program: bytes,
+        program: &deepest.program,
         call: match call {
             "check" => Call::Check,
             "instance" | "instance_text" => Call::Instance { family, sizes },
@@ -40,14 +62,6 @@ fn once(call: &str, bytes: &[u8], sizes: &[u8]) -> Result<(), String> {
     }
 }
 
-/// The bytes of a shape's program that is deepest for a call.
-fn bytes(call: &str, shape: &Shape) -> Vec<u8> {
-    match call {
-        "check" => program(&shape.deepest_indexes()),
-        _ => program(&shape.deepest()),
-    }
-}
-
 /// Makes one call on a thread with a stack of so many KiB.
 fn on_a_thread(words: &[String]) -> Result<(), String> {
     let [call, shape, kib] = words else {
@@ -57,10 +71,10 @@ fn on_a_thread(words: &[String]) -> Result<(), String> {
     let (Some(shape), Ok(kib)) = (shape, kib.parse::<usize>()) else {
         return Err(USE.into());
     };
-    let (call, bytes, sizes) = (call.clone(), bytes(call, shape), shape.sizes());
+    let (call, deepest) = (call.clone(), Deepest::of(call, shape));
     let thread = std::thread::Builder::new()
         .stack_size(kib << 10)
-        .spawn(move || once(&call, &bytes, &sizes))
+        .spawn(move || once(&call, &deepest))
         .map_err(|error| format!("no thread: {error}"))?;
     thread.join().map_err(|_| "the thread failed")?
 }

@@ -34,25 +34,14 @@ fn lengths() -> Vec<Recorded> {
     ]
 }
 
-/// 255 and 256 families and registers.
+/// 255 and 256 registers, and the most parameters.
 fn declarations() -> Vec<Recorded> {
-    let family = bytes("01 05 00 00 01 10 00 00");
-    let last = joined(&[&family.repeat(255), &bytes("01 00 00")]);
-    let called = joined(&[
-        &bytes("02 02 00 01 00"),
-        &family.repeat(255),
-        &bytes("24 0a 00 fe 31 06 00 00 40 02 00 00 00"),
-    ]);
     let pair = bytes("02 02 00 00 00 03 02 00 00 00");
     let registers = joined(&[&pair.repeat(127), &pair[..5]]);
     let over = joined(&[&registers, &bytes("03 00 00")]);
     let named = joined(&[&registers, &bytes("20 09 00 31 06 00 fe 40 02 00 00 00")]);
     let most = joined(&[&bytes("01 1a 00 04 08"), &[0x10, 0, 0].repeat(8)]);
     vec![
-        Recorded::check("255 families", family.repeat(255), 0, 0),
-        Recorded::check("256 families", family.repeat(256), 6, 2_040),
-        Recorded::check("256th family without content", last, 6, 2_040),
-        Recorded::run("call of family 254", called, [0, 0, 0, 1], ""),
         Recorded::check("255 registers", registers, 0, 0),
         Recorded::check("256th register without content", over, 6, 1_275),
         Recorded::check("register 254 of size 0", named, 12, 1_278),

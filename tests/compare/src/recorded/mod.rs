@@ -1,6 +1,7 @@
 //! Recorded answers: programs as bytes, with results worked out by hand.
 
 mod examples;
+mod families;
 mod limits;
 mod refusals;
 mod states;
@@ -40,6 +41,7 @@ pub fn recorded() -> Vec<Recorded> {
     let mut rows = examples::rows();
     rows.extend(refusals::rows());
     rows.extend(limits::rows());
+    rows.extend(families::rows());
     rows.extend(states::rows());
     rows.extend(texts::rows());
     rows

@@ -274,6 +274,7 @@ fn refused() -> Vec<Recorded> {
         ),
         (bytes(FIRST_OF_N), 12, 15),
         (bytes("06 01 00 02"), 13, 0),
+        (bytes("27 02 00 00 00"), 31, 0),
     ];
     let rows = table.into_iter().flat_map(|(program, number, place)| {
         let name = format!("refused with {number}, no room for text");

@@ -1,0 +1,229 @@
+//! The deepest programs: as many families as fit, each of which calls the one before.
+
+use crate::build::*;
+
+/// How the families of a deepest program are nested.
+#[derive(Clone, Copy, Debug)]
+pub struct Shape {
+    pub name: &'static str,
+    order: Order,
+    loops: usize,
+    reversals: usize,
+    parameters: Parameters,
+}
+
+/// In which order loops and reversals are nested, and what else a reversal holds.
+#[derive(Clone, Copy, Debug)]
+enum Order {
+    /// Loops inside reversals that hold nothing else.
+    Single,
+    /// Loops inside reversals that each hold a list of two, or the call.
+    Listed,
+    /// Loops and such reversals in turn.
+    InTurn,
+}
+
+/// The parameters of each family, 1 to 8.
+#[derive(Clone, Copy, Debug)]
+enum Parameters {
+    /// So many wires.
+    Wires(u8),
+    /// So many registers over so many index variables, 1 to 4.
+    Registers { count: u8, indexes: u8 },
+}
+
+use Order::{InTurn, Listed, Single};
+use Parameters::{Registers, Wires};
+
+/// One register over one index variable.
+const ONE: Parameters = Registers {
+    count: 1,
+    indexes: 1,
+};
+/// The most registers over the most index variables.
+const MOST: Parameters = Registers {
+    count: 8,
+    indexes: 4,
+};
+
+/// From the most families without nesting to those of 16 levels. Reversals that hold
+/// nothing else take the fewest bytes; those that hold a list take the most stack each.
+pub const SHAPES: [Shape; 9] = [
+    shape("calls alone", Single, [0, 0], Wires(1)),
+    shape("1 reversal", Single, [0, 1], Wires(1)),
+    shape("15 reversals", Single, [0, 15], Wires(1)),
+    shape("15 reversals, 8 wires", Single, [0, 15], Wires(8)),
+    shape("7 reversals in lists", Listed, [0, 7], Wires(1)),
+    shape("15 reversals in lists", Listed, [0, 15], Wires(1)),
+    shape("8 loops in 7 reversals", Single, [8, 7], Wires(1)),
+    shape("in turn, 1 register", InTurn, [8, 7], ONE),
+    shape("in turn, 8 registers", InTurn, [8, 7], MOST),
+];
+
+/// A shape of so many loops and reversals.
+const fn shape(
+    name: &'static str,
+    order: Order,
+    [loops, reversals]: [usize; 2],
+    parameters: Parameters,
+) -> Shape {
+    Shape {
+        name,
+        order,
+        loops,
+        reversals,
+        parameters,
+    }
+}
+
+impl Parameters {
+    /// How many there are.
+    fn count(self) -> u8 {
+        match self {
+            Wires(count) | Registers { count, .. } => count,
+        }
+    }
+
+    /// The index variables of each family.
+    fn indexes(self) -> u8 {
+        match self {
+            Wires(_) => 0,
+            Registers { indexes, .. } => indexes,
+        }
+    }
+
+    /// The types: wires, or a register of n+1 wires and registers of a variable's size.
+    fn types(self) -> Vec<Field> {
+        match self {
+            Wires(count) => vec![qbit(); usize::from(count)],
+            Registers { count, indexes } => {
+                let others = (1..count).map(|number| qbits(variable(number % indexes)));
+                [qbits(plus(0, 1))].into_iter().chain(others).collect()
+            }
+        }
+    }
+
+    /// One wire of the first parameter, at an index where that is a register.
+    fn wire(self, index: Field) -> Field {
+        match self {
+            Wires(_) => whole(0),
+            Registers { .. } => element(0, index),
+        }
+    }
+}
+
+/// A field as often as a count says.
+fn times(count: u8, field: Field) -> Vec<Field> {
+    vec![field; usize::from(count)]
+}
+
+impl Shape {
+    /// Statements at the bottom of the loops and reversals.
+    fn nest(&self, statements: Vec<Field>) -> Vec<Field> {
+        let levels = self.loops + self.reversals;
+        let is_loop = |level: usize| match self.order {
+            Single | Listed => level >= self.reversals,
+            InTurn => level & 1 == 0,
+        };
+        let inside_out = (0..levels).rev().map(is_loop);
+        inside_out.fold(statements, |inner, is_loop| match is_loop {
+            true => vec![repeat(literal(1), literal(1), inner)],
+            false => vec![self.reversal(inner)],
+        })
+    }
+
+    /// A reversal of statements, and of an empty reversal where a list is asked for and
+    /// there would be nothing but a loop or a reversal.
+    fn reversal(&self, mut statements: Vec<Field>) -> Field {
+        let alone = matches!(&statements[..], [Field { tag: 37 | 38, .. }]);
+        if alone && !matches!(self.order, Single) {
+            statements.push(reverse(vec![]));
+        }
+        reverse(statements)
+    }
+
+    /// A family with statements at the bottom of its body.
+    fn family(&self, statements: Vec<Field>) -> Field {
+        let parameters = self.parameters;
+        let body = self.nest(statements);
+        family(parameters.indexes(), parameters.types(), body)
+    }
+
+    /// A call that passes all index variables and parameters on.
+    fn call(&self, number: u16) -> Field {
+        let sizes = (0..self.parameters.indexes()).map(variable).collect();
+        let operands = (0..self.parameters.count()).map(whole).collect();
+        call(number, sizes, operands)
+    }
+
+    /// What the first family has at the bottom: a gate, or gates with indexes of 16 levels.
+    fn gates(&self) -> Vec<Field> {
+        match self.parameters {
+            Wires(_) => vec![t(whole(0))],
+            Registers { .. } => vec![t(element(0, left_deep())), t(element(0, right_deep()))],
+        }
+    }
+
+    /// Statements of a run that call a family from as deep as families do.
+    fn run(&self, number: u16) -> Vec<Field> {
+        let operand = match self.parameters {
+            Wires(_) => at(0, 0),
+            Registers { .. } => whole(0),
+        };
+        let sizes = times(self.parameters.indexes(), literal(0));
+        let operands = times(self.parameters.count(), operand);
+        self.nest(vec![call(number, sizes, operands)])
+    }
+
+    /// A whole program: as many families as fit, each of which calls the one before
+    /// from the bottom, and a run that calls the last one from as deep.
+    pub fn deepest(&self) -> Vec<Field> {
+        let mut fields = vec![qreg(1), self.family(self.gates())];
+        let mut bytes = length(&fields);
+        let mut last = 0;
+        while usize::from(last) + 1 < MOST_FAMILIES {
+            let next = self.family(vec![self.call(last)]);
+            bytes += next.size();
+            if bytes + length(&self.run(last + 1)) > MOST_BYTES {
+                break;
+            }
+            fields.push(next);
+            last += 1;
+        }
+        fields.extend(self.run(last));
+        fields
+    }
+
+    /// The sizes with which the last family of the program is unrolled.
+    pub fn sizes(&self) -> Vec<u8> {
+        sizes(&vec![0; usize::from(self.parameters.indexes())])
+    }
+
+    /// Families of which the last one has the deepest indexes at the bottom, in calls
+    /// with a number of one byte and of two.
+    pub fn deepest_indexes(&self) -> Vec<Field> {
+        let small = family(1, vec![qbit()], vec![]);
+        let mut fields = vec![small; 256];
+        fields.push(self.family(vec![]));
+        let wire = |index| self.parameters.wire(index);
+        let sizes = times(self.parameters.indexes(), left_deep());
+        let operands = times(self.parameters.count(), whole(0));
+        let statements = vec![
+            call(255, vec![right_deep()], vec![wire(left_deep())]),
+            call(256, sizes, operands),
+            cx(wire(left_deep()), wire(right_deep())),
+        ];
+        fields.push(self.family(statements));
+        fields
+    }
+}
+
+/// The index 0 as a sum of 16 levels to the left.
+fn left_deep() -> Field {
+    (1..16).fold(literal(0), |inner, _| sum(inner, literal(0)))
+}
+
+/// The index 0 as a sum of 16 levels to the right.
+fn right_deep() -> Field {
+    (1..16).fold(literal(0), |inner, _| sum(literal(0), inner))
+}
