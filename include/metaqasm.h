@@ -19,8 +19,8 @@
  * Nothing else is asked. Every byte string, number and length has an answer and every call ends. The library keeps no state
  * between calls, and uses no heap, no files and no globals, so calls may run on any number of threads at once.
  *
- * Time. The figures are of a common machine of two cores. A check takes at most some 30 ns for each byte of the program, 2 ms
- * for the longest. The step limit bounds steps, not seconds: a step takes time in proportion to the indexes and operands of
+ * Time. The figures are of common machines of two cores. A check takes at most some 30 to 50 ns for each byte of the program, 2 to
+ * 3 ms for the longest. The step limit bounds steps, not seconds: a step takes time in proportion to the indexes and operands of
  * its own statement (and, where a list begins to run backward, to the fields of the list). Most take 0.1 microseconds or
  * less. The slowest found are gates in a loop with an index of 60,000 bytes, which each round evaluates: 0.07 ms a step, or
  * 1 ns for each byte of the program, and twice that while the machine was busy. Reckon with at most 0.2 ms, or 3 ns a byte.
@@ -50,18 +50,19 @@ extern "C" {
 #endif
 
 /* The version of this header and of the archive that is built beside it. */
-#define METAQASM_VERSION "1.1.0"
+#define METAQASM_VERSION "1.2.0"
 
 /* The stack that a call needs at most, in KiB, for every program within the limits and beside what the host has in use there;
- * and what a check alone needs. On less, a deep program may end the process at the guard page below the stack. Both are
- * measured with the deepest programs (`cargo run --release -p compare --bin stack` in tests prints the need beside these
- * figures, and a test holds the library to them). */
-#define METAQASM_STACK_KIB 3520
-#define METAQASM_CHECK_STACK_KIB 160
+ * and what a check alone needs. On less, a deep program may end the process at the guard page below the stack. (The first
+ * thread of a process usually has 8,192 KiB, as `ulimit -s` says; where that is not enough, calls are made on a thread that
+ * is given more.) Both are measured with the deepest programs (`cargo run --release -p compare --bin stack` in tests prints
+ * the need beside these figures, and a test holds the library to them). */
+#define METAQASM_STACK_KIB 8704
+#define METAQASM_CHECK_STACK_KIB 320
 
-/* Limits of a program; what goes past one is refused. */
+/* Limits of a program; what goes past one is refused. A call names families 0 to 255 by one byte, and all others by two. */
 #define METAQASM_MOST_PROGRAM_BYTES 65535
-#define METAQASM_MOST_FAMILIES 255
+#define METAQASM_MOST_FAMILIES 4096
 #define METAQASM_MOST_REGISTERS 255      /* qregs and cregs together */
 #define METAQASM_MOST_QUBITS 65535       /* of all qregs, or of an instance's parameters */
 #define METAQASM_MOST_BITS 65535         /* of all cregs */
@@ -96,6 +97,7 @@ extern "C" {
  *             count what was written and taken so far.
  *   30        from a call that prints a text: the list is complete, and its text does not fit. The output holds the list,
  *             and records and steps count it.
+ *   31        from every call: the program is refused, as with 1 to 13
  *
  * A call that prints a text answers as an instance or a run does, and with 30 after all else. Where its number is not 0, the
  * text is as it was. */
@@ -169,7 +171,7 @@ enum metaqasm_condition {
 /* Checks a program and lists one of its families at given sizes.
  *
  * program  the program's bytes; NULL is allowed where program_len is 0 (it has no family: 20)
- * family   the number of the family; families are numbered from 0 as declared
+ * family   the number of the family; families are numbered from 0 as declared, and so up to METAQASM_MOST_FAMILIES - 1
  * sizes    the values of the family's index variables in order, four bytes for each, unsigned, low byte first; NULL is
  *          allowed where sizes_len is 0 (as it is for a family without index variables)
  * limit    the most steps that may be taken

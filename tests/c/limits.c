@@ -1,50 +1,7 @@
 /* Every limit by its name: a program at the limit is accepted, and one past it is refused with the limit's number. */
+#include "build.h"
 #include "expect.h"
 #include <metaqasm.h>
-#include <string.h>
-
-/* A program that is being built. */
-typedef struct {
-    uint8_t bytes[METAQASM_MOST_PROGRAM_BYTES + 1];
-    size_t length;
-} program;
-
-static program built;
-
-/* Puts bytes at the end. */
-static void put(const uint8_t *bytes, size_t length)
-{
-    memcpy(built.bytes + built.length, bytes, length);
-    built.length += length;
-}
-
-/* Puts one byte at the end. */
-static void put_byte(unsigned byte)
-{
-    built.bytes[built.length++] = (uint8_t)byte;
-}
-
-/* Puts a two-byte number at the end, low byte first. */
-static void put_two(unsigned number)
-{
-    put_byte(number & 255);
-    put_byte(number >> 8);
-}
-
-/* Puts a field around all that there is, with a head before it. */
-static void surround(unsigned tag, const uint8_t *head, size_t head_len)
-{
-    size_t content = head_len + built.length;
-
-    memmove(built.bytes + 3 + head_len, built.bytes, built.length);
-    built.bytes[0] = (uint8_t)tag;
-    built.bytes[1] = (uint8_t)(content & 255);
-    built.bytes[2] = (uint8_t)(content >> 8);
-    if (head_len > 0) {
-        memcpy(built.bytes + 3, head, head_len);
-    }
-    built.length = 3 + content;
-}
 
 /* So many bytes of empty reversals, three to each; what is left over is a header cut short. */
 static void build_bytes(unsigned count)

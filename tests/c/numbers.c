@@ -49,6 +49,8 @@ static const uint8_t huge[] = {1, 18, 0, 0, 1, 17, 13, 0, 68, 10, 0, 64, 2, 0, 0
 static const uint8_t unshown[] = {1, 21, 0, 1, 1, 17, 4, 0, 65, 1, 0, 0, 32, 9, 0, 49, 6, 0, 0, 64, 2, 0, 0, 0};
 /* a creg of 1, and a condition that it is 2 */
 static const uint8_t is_2[] = {3, 2, 0, 1, 0, 6, 10, 0, 2, 49, 6, 0, 0, 64, 2, 0, 0, 0};
+/* a call of family 255 by a two-byte number */
+static const uint8_t low_number[] = {39, 2, 0, 255, 0};
 /* a family of n with two parameters Qbit[n] */
 static const uint8_t pair[] = {1, 16, 0, 1, 2, 17, 4, 0, 65, 1, 0, 0, 17, 4, 0, 65, 1, 0, 0};
 /* a family of n with a parameter Qbit[n * 40000] */
@@ -101,10 +103,11 @@ static const question questions[] = {
     LISTED(bell, 1, 16, OUT_OF_STEPS, 26, 17),
     LISTED(bell, 2, 15, OUTPUT_FULL, 27, 17),
     PRINTED(bell, sizeof BELLS_TEXT - 2, TEXT_FULL, 30, 0),
+    CHECKED(low_number, LOW_NUMBER, 31, 0),
 };
 
 /* Numbers that no call answers. */
-static const uint32_t unknown[] = {14,  15,  16,  17,  18,    19,          28,         29, 31,
+static const uint32_t unknown[] = {14,  15,  16,  17,  18,    19,          28,         29, 32,
                                    100, 255, 256, 268, 65536, 0x80000000u, 0xFFFFFFFFu};
 
 #define COUNT(list) (sizeof(list) / sizeof((list)[0]))
@@ -216,7 +219,7 @@ static void entries(void)
     };
     size_t i;
 
-    expect(COUNT(listed) == COUNT(questions), "metaqasm_numbers.def", "23 entries");
+    expect(COUNT(listed) == COUNT(questions), "metaqasm_numbers.def", "24 entries");
     for (i = 0; i < COUNT(listed) && i < COUNT(questions); i++) {
         expect(listed[i] == questions[i].value, metaqasm_message(listed[i]), "entries in order");
     }
@@ -262,6 +265,6 @@ int main(void)
     messages();
     entries();
     records();
-    expect(strcmp(METAQASM_VERSION, "1.1.0") == 0, "the version", "1.1.0");
+    expect(strcmp(METAQASM_VERSION, "1.2.0") == 0, "the version", "1.2.0");
     return closed();
 }

@@ -62,6 +62,21 @@ family there-and-back.back.n1 there-and-back 2 1
 family there-and-back.n2 there-and-back 3 2
 family two-sizes.m2.n1 two-sizes 0 2 1
 
+# A library of 257 families of one wire: h in family 0, nothing in families 1 to 255, t in family 256; then a call of 256.
+long_library() {
+    printf '\1\14\0\0\1\20\0\0\40\4\0\60\1\0\0'
+    printf '\1\5\0\0\1\20\0\0%.0s' {1..255}
+    printf '\1\14\0\0\1\20\0\0\41\4\0\60\1\0\0'
+    printf '\2\2\0\1\0\47\13\0\0\1\61\6\0\0\100\2\0\0\0'
+}
+long_library >"$work/library"
+gives 'a call of family 256' $'t 0\nend 0 0 1 2' '' "$list" <"$work/library"
+gives 'family 256' $'t 0\nend 0 0 1 1' '' "$list" 256 <"$work/library"
+gives 'family 255' 'end 0 0 0 0' '' "$list" 255 <"$work/library"
+gives 'family 0 of 257' $'h 0\nend 0 0 1 1' '' "$list" 0 <"$work/library"
+gives 'family 257 of 257' 'end 20 0 0 0' '' "$list" 257 <"$work/library"
+gives 'family 255 by two bytes' 'end 31 0 0 0' '' "$list" < <(printf '\47\2\0\377\0')
+
 # What the library turns down.
 gives 'no such family' 'end 20 0 0 0' '' "$list" 3 1 <examples/adder.bytes
 gives 'the largest family' 'end 20 0 0 0' '' "$list" 4294967295 <examples/adder.bytes

@@ -14,6 +14,7 @@ const CTRLADD: &str = include_str!("../../../examples/ctrladd.mq");
 const CTRLADD_PRINTED: &str = include_str!("../../../examples/ctrladd-printed.mq");
 const LOOP_DOWN: &str = include_str!("../../../examples/loop-down.mq");
 const THERE_AND_BACK: &str = include_str!("../../../examples/there-and-back.mq");
+const LIBRARY: &str = include_str!("../../../examples/library.mq");
 
 /// What a check answers: nothing, or what went wrong.
 pub type Answer = Result<(), String>;
@@ -22,7 +23,7 @@ pub type Answer = Result<(), String>;
 pub type Check = fn(&Calls) -> Answer;
 
 /// Every check by its name.
-pub const ALL: [(&str, Check); 12] = [
+pub const ALL: [(&str, Check); 13] = [
     ("bell_pair_agrees", bell_pair_agrees),
     ("coin_is_put_back", coin_is_put_back),
     ("teleport_moves_the_state", teleport_moves_the_state),
@@ -36,6 +37,7 @@ pub const ALL: [(&str, Check); 12] = [
         ctrladd_as_printed_adds_two_cells_only,
     ),
     ("there_and_back_is_no_change", there_and_back_is_no_change),
+    ("library_flips_what_it_names", library_flips_what_it_names),
     ("reversed_lists_are_mirrored", reversed_lists_are_mirrored),
     ("lists_of_both_calls_agree", lists_of_both_calls_agree),
 ];
@@ -277,6 +279,21 @@ pub fn there_and_back_is_no_change(calls: &Calls) -> Answer {
         no_change(&list, wires)?;
     }
     Ok(())
+}
+
+/// Each xorK flips the wires that are 1 in K, and the run takes y to y xor x xor 10.
+pub fn library_flips_what_it_names(calls: &Calls) -> Answer {
+    for constant in 1..256 {
+        let list = family_list(calls, LIBRARY, &format!("xor{constant}"), &[])?;
+        [0, 0b1010_0101]
+            .into_iter()
+            .try_for_each(|from: usize| takes(&list, 8, from, from ^ constant))?;
+    }
+    let list = run_list(calls, LIBRARY)?;
+    let pairs: [(usize, usize); 3] = [(0, 0), (255, 0), (0b11_0101, 0b1100_0001)];
+    pairs
+        .into_iter()
+        .try_for_each(|(x, y)| takes(&list, 16, x | y << 8, x | (y ^ x ^ 10) << 8))
 }
 
 /// A reversed list has the undone records from the last to the first.

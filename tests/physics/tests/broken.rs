@@ -103,6 +103,7 @@ fn a_missing_record_is_noticed() {
         "adder_adds",
         "ctrladd_adds_under_control",
         "there_and_back_is_no_change",
+        "library_flips_what_it_names",
     ] {
         assert!(failed.contains(&name), "{name}");
     }

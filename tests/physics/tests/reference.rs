@@ -24,6 +24,7 @@ with_the_reference! {
     ctrladd_adds_under_control
     ctrladd_as_printed_adds_two_cells_only
     there_and_back_is_no_change
+    library_flips_what_it_names
     reversed_lists_are_mirrored
     lists_of_both_calls_agree
 }

@@ -36,8 +36,8 @@ impl Class {
     /// Whether a field with this tag may stand there.
     fn allows(self, tag: u8) -> bool {
         match self {
-            Class::Top => matches!(tag, 1..=6 | 32..=38),
-            Class::Statement => matches!(tag, 32..=38),
+            Class::Top => matches!(tag, 1..=6 | 32..=39),
+            Class::Statement => matches!(tag, 32..=39),
             Class::Type => matches!(tag, 16 | 17),
             Class::Operand => tags::is_operand(tag),
             Class::Index => tags::is_index(tag),
@@ -86,7 +86,7 @@ fn refuse<T>(place: usize, message: impl Into<String>) -> Result<T, ByteError> {
 /// How many own bytes a field has.
 fn head_length(tag: u8) -> usize {
     match tag {
-        tags::FAMILY | tags::QREG | tags::CREG | tags::LITERAL => 2,
+        tags::FAMILY | tags::QREG | tags::CREG | tags::LONG_CALL | tags::LITERAL => 2,
         tags::IF | tags::CALL | tags::WHOLE | tags::ELEMENT | tags::VARIABLE => 1,
         _ => 0,
     }
@@ -104,7 +104,7 @@ fn parts_due(tag: u8, head: &[u8]) -> (Vec<Class>, Option<Class>) {
         tags::MEASURE | tags::CX => (vec![Class::Operand; 2], None),
         tags::RESET | tags::H | tags::T | tags::TDG => (vec![Class::Operand], None),
         tags::IF => (vec![Class::Operand], Some(Class::Statement)),
-        tags::CALL => (Vec::new(), Some(Class::Argument)),
+        tags::CALL | tags::LONG_CALL => (Vec::new(), Some(Class::Argument)),
         tags::REVERSE => (Vec::new(), Some(Class::Statement)),
         tags::FOR => (vec![Class::Index; 2], Some(Class::Statement)),
         _ => (Vec::new(), None),
@@ -183,7 +183,7 @@ impl Reader<'_> {
         } else if next < end {
             return refuse(at, "this field has bytes left over");
         }
-        if tag == tags::CALL && !indexes_first(&parts) {
+        if tags::is_call(tag) && !indexes_first(&parts) {
             return refuse(at, "this call has an index after an operand");
         }
         Ok(Field::new(tag, head, parts, Spot::default()))

@@ -19,6 +19,7 @@ pub mod tags {
     pub const CALL: u8 = 36;
     pub const REVERSE: u8 = 37;
     pub const FOR: u8 = 38;
+    pub const LONG_CALL: u8 = 39;
     pub const WHOLE: u8 = 48;
     pub const ELEMENT: u8 = 49;
     pub const LITERAL: u8 = 64;
@@ -40,11 +41,16 @@ pub mod tags {
             T => "t",
             TDG => "tdg",
             CX => "cx",
-            CALL => "call",
+            CALL | LONG_CALL => "call",
             REVERSE => "reverse",
             FOR => "for",
             _ => return None,
         })
+    }
+
+    /// Whether a field with this tag is a call.
+    pub fn is_call(tag: u8) -> bool {
+        matches!(tag, CALL | LONG_CALL)
     }
 
     /// Whether a field with this tag is an index.
@@ -96,6 +102,11 @@ impl Field {
             depth: inner + 1,
             names: Vec::new(),
         }
+    }
+
+    /// Whether it is a call, by a number of one byte or of two.
+    pub fn is_call(&self) -> bool {
+        self.tag.is_some_and(tags::is_call)
     }
 
     /// The same field with the names that the text gives.

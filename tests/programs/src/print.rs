@@ -1,7 +1,7 @@
 //! Fields to text, with invented names where the fields have none.
 
 use crate::field::{tags, Field};
-use crate::scope::{own_variables, parameter_count, parameter_name};
+use crate::scope::{called_number, own_variables, parameter_count, parameter_name};
 use crate::scope::{two_bytes, variable_name, Scope};
 
 /// Writes a program as text.
@@ -42,7 +42,7 @@ impl<'a> Printer<'a> {
             tags::T => self.operands("t ", ", ", field),
             tags::TDG => self.operands("tdg ", ", ", field),
             tags::CX => self.operands("cx ", ", ", field),
-            tags::CALL => self.call(field),
+            tags::CALL | tags::LONG_CALL => self.call(field),
             tags::IF => {
                 let bit = self.scope.operand(&field.parts[0]);
                 self.line(&format!("if ({bit} == {})", field.head[0]));
@@ -108,7 +108,10 @@ impl<'a> Printer<'a> {
     fn call(&mut self, field: &Field) {
         let is_index = |part: &&Field| part.tag.is_some_and(tags::is_index);
         let (indexes, operands): (Vec<_>, Vec<_>) = field.parts.iter().partition(is_index);
-        let name = self.scope.family(usize::from(field.head[0]));
+        let name = match low_by_two(field) {
+            Some(number) => format!("##{number}"),
+            None => self.scope.family(called_number(field)),
+        };
         let sizes = match indexes.is_empty() {
             true => String::new(),
             false => format!("({})", join(indexes, |part| self.scope.index(part))),
@@ -126,6 +129,12 @@ impl<'a> Printer<'a> {
         self.block(&field.parts[2..]);
         self.scope.leave(field);
     }
+}
+
+/// The number of a call by two bytes where one byte would hold it; no name stands for that.
+fn low_by_two(call: &Field) -> Option<u8> {
+    let number = (call.tag == Some(tags::LONG_CALL)).then(|| two_bytes(call))?;
+    u8::try_from(number).ok()
 }
 
 /// Texts with commas between them.

@@ -77,6 +77,14 @@ pub fn two_bytes(field: &Field) -> u16 {
     u16::from_le_bytes([field.head[0], field.head[1]])
 }
 
+/// The number of the family that a call names, by one byte or by two.
+pub fn called_number(call: &Field) -> usize {
+    match call.tag {
+        Some(tags::LONG_CALL) => usize::from(two_bytes(call)),
+        _ => usize::from(call.head[0]),
+    }
+}
+
 /// A count with its word, as `no size`, `1 size` or `2 families`.
 pub fn counted(count: usize, word: &str) -> String {
     match (count, word.strip_suffix('y')) {

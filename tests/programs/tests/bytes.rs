@@ -145,10 +145,26 @@ fn calls() {
 }
 
 #[test]
+fn families_from_256_on_are_called_by_two_bytes() {
+    let gates = (0..299).map(|number| format!("gate f{number}(a: Qbit) {{}}\n"));
+    let before: String = gates.collect();
+    let last = "gate last(a: Qbit) { f256(a); f10(a); f255(a); f298(a); } last(#0);";
+    let bytes = "01 05 00 00 01 10 00 00 ".repeat(299)
+        + "01 27 00 00 01 10 00 00 \
+           27 06 00 00 01 30 01 00 00 24 05 00 0a 30 01 00 00 \
+           24 05 00 ff 30 01 00 00 27 06 00 2a 01 30 01 00 00 \
+           27 06 00 2b 01 30 01 00 00";
+    gives(&format!("{before}{last}"), &bytes);
+}
+
+#[test]
 fn what_the_checker_refuses_can_be_written() {
     gives("h #7;", "20 04 00 30 01 00 07");
     gives("h #7[#9];", "20 08 00 31 05 00 07 41 01 00 09");
     gives("#3(1)(#0);", "24 0a 00 03 40 02 00 01 00 30 01 00 00");
+    gives("#255(); #256();", "24 01 00 ff 27 02 00 00 01");
+    gives("##3(1)(#0);", "27 0b 00 03 00 40 02 00 01 00 30 01 00 00");
+    gives("##255(); ##65535();", "27 02 00 ff 00 27 02 00 ff ff");
     gives(
         "creg c[1]; if (c == 200) {}",
         "03 02 00 01 00 06 05 00 c8 30 01 00 00",

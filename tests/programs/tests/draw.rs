@@ -260,6 +260,9 @@ fn refused_programs_have_no_drawing() {
     let found = tool(&["draw", "element-n.mq"], b"");
     assert_eq!(wrote(&found), "end 12 15 0 0\n");
     assert_eq!(found.status.code(), Some(1));
+    let found = tool(&["draw", "-"], b"qreg q[1]; ##0(q[0]);");
+    assert_eq!(wrote(&found), "end 31 5 0 0\n");
+    assert_eq!(found.status.code(), Some(1));
     let found = tool(&["draw", "cx-one-wire.mq"], b"");
     assert!(wrote(&found).ends_with("end 25 5 0 1\n"));
     assert_eq!(found.status.code(), Some(1));

@@ -33,7 +33,7 @@ fn number(output: &str) -> u32 {
 
 #[test]
 fn checks_say_why() {
-    let mut shown = 0;
+    let (mut shown, mut low) = (0, 0);
     for seed in 0..6000 {
         let case = case(seed);
         let (code, output, messages) = tool(&["check", "--bytes", "-"], &case.program);
@@ -47,8 +47,12 @@ fn checks_say_why() {
         if number == 9 && programs::disassemble(&case.program).is_ok() {
             assert!(messages.contains(" takes "), "{seed}: {messages}");
         }
+        if number == 31 && programs::disassemble(&case.program).is_ok() {
+            assert!(messages.contains(" by one byte"), "{seed}: {messages}");
+            low += 1;
+        }
     }
-    assert!(shown > 100, "{shown}");
+    assert!(shown > 100 && low > 5, "{shown}, {low}");
 }
 
 #[test]

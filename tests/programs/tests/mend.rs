@@ -237,6 +237,90 @@ fn counts_and_numbers() {
     );
 }
 
+/// The text of so many families of one wire, one to a line.
+fn families(count: usize) -> String {
+    let gates = (0..count).map(|number| format!("gate f{number}(a: Qbit) {{}}\n"));
+    gates.collect()
+}
+
+#[test]
+fn calls_by_two_bytes_that_one_byte_would_do() {
+    let low = |number: &str, name: &str| {
+        format!(
+            "the two bytes say {number}, and families 0 to 255 are called by one byte: \
+             write {name}(..), which is tag 36"
+        )
+    };
+    mend(
+        "gate f(a: Qbit) {}\nqreg q[1];\n  ##0(q[0]);",
+        "3:3",
+        "end 31 13 0 0\n",
+        31,
+        &low("0", "f"),
+    );
+    mend(
+        "gate g(a: Qbit) { ##255(#9); }",
+        "1:19",
+        "end 31 8 0 0\n",
+        31,
+        &low("255", "#255"),
+    );
+    let found = tool(&["check", "--bytes", "-"], &[0x27, 2, 0, 3, 0]);
+    let message = format!("byte 0: 31: {}\n  {}\n", meaning(31), low("3", "#3"));
+    assert_eq!(said(&found), format!("mqasm: standard input: {message}"));
+}
+
+#[test]
+fn calls_of_families_past_255() {
+    let behind = |call: &str, number: u32, details: &str| {
+        let text = format!("{}qreg q[2];\n{call}", families(300));
+        let end = format!("end {number} {} 0 0\n", 300 * 8 + 5);
+        mend(&text, "302:1", &end, number, details);
+    };
+    behind(
+        "#300(q[0]);",
+        8,
+        "#300 is asked for, and there are 300 families here, from number 0 on",
+    );
+    behind(
+        "f299(q[0], q[1]);",
+        4,
+        "'f299' takes no size and 1 operand, and this call has no size and 2 operands",
+    );
+    let text = format!("{}qreg q[2];\nf256(q);", families(257));
+    let found = tool(&["check", "-"], text.as_bytes());
+    let details = "'f256' takes one qubit here, and q is a whole register of qubits: \
+                   write q[0], or another element";
+    assert!(said(&found).contains(":259:6: 9: "));
+    assert!(said(&found).ends_with(&format!("  {details}\n")));
+}
+
+#[test]
+fn sizes_of_families_past_255() {
+    let before = families(256);
+    not_shown(
+        &format!("{before}family(k) f(x: Qbit[k+1]) {{}} qreg q[5]; f(5)(q);"),
+        "'q' has 5 cells, and 'x' of 'f' takes 6 here: the one less the other comes to -1",
+    );
+    not_shown(
+        &format!("{before}family(k) f(x: Qbit[k]) {{}} family(n) g(x: Qbit[n]) {{ f(n-1)(x); }}"),
+        "the size n - 1 for 'k' of 'f' is not shown to be 0 or more: \
+         it comes to n - 1, which is -1 at n = 0",
+    );
+}
+
+#[test]
+fn more_families_than_there_may_be() {
+    gives(&["check", "-"], &families(4096), 0, "end 0 0 0 0\n", "");
+    mend(
+        &families(4097),
+        "4097:1",
+        "end 6 32768 0 0\n",
+        6,
+        "4096 families are declared before this one, and 4096 are the most",
+    );
+}
+
 #[test]
 fn indexes_and_conditions() {
     mend(

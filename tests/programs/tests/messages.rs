@@ -86,6 +86,42 @@ fn names() {
 }
 
 #[test]
+fn numbers_past_their_bytes() {
+    let registers: String = (0..257)
+        .map(|number| format!("qreg q{number}[0];"))
+        .collect();
+    says(
+        &format!("{registers}\nh q256[0];"),
+        "2:3: 'q256' is number 256, and numbers go up to 255",
+    );
+    let gates: String = (0..65_537)
+        .map(|number| format!("gate g{number}(){{}}"))
+        .collect();
+    says(
+        &format!("{gates}\ng65536();"),
+        "2:1: 'g65536' is number 65536, and numbers go up to 65535",
+    );
+    assert!(assemble(&format!("{gates}\ng65535();")).is_ok());
+}
+
+#[test]
+fn numbers_of_calls() {
+    says(
+        "#f(q);",
+        "1:2: expected a number from 0 to 65535, found 'f'",
+    );
+    says(
+        "##f(q);",
+        "1:3: expected a number from 0 to 65535, found 'f'",
+    );
+    says(
+        "###3(q);",
+        "1:3: expected a number from 0 to 65535, found '#'",
+    );
+    says("#65536(q);", "1:2: the number 65536 is above 65535");
+}
+
+#[test]
 fn what_is_due() {
     says("qreg q[1]", "1:10: expected ';', found the end of the text");
     says("qreg q(1);", "1:7: expected '[', found '('");
@@ -190,6 +226,13 @@ fn bytes_that_do_not_read() {
     );
     says_of_bytes(
         &[0x24, 9, 0, 0, 0x30, 1, 0, 0, 0x41, 1, 0, 0],
+        "byte 0: this call has an index after an operand",
+    );
+    for head in [&[0x27, 0, 0][..], &[0x27, 1, 0, 44]] {
+        says_of_bytes(head, "byte 0: this field ends before its own bytes do");
+    }
+    says_of_bytes(
+        &[0x27, 10, 0, 0, 1, 0x30, 1, 0, 0, 0x41, 1, 0, 0],
         "byte 0: this call has an index after an operand",
     );
     says_of_bytes(

@@ -62,13 +62,22 @@ fn statement(dice: &mut Dice, depth: usize) -> Vec<u8> {
         4 => {
             let indexes = some(dice, 2, |dice| index(dice, 1));
             let operands = some(dice, 3, operand);
-            field(36, [vec![dice.byte(3)], indexes, operands].concat())
+            let (tag, number) = called(dice);
+            field(tag, [number, indexes, operands].concat())
         }
         5 => field(37, statements(dice, depth + 1)),
         _ => {
             let (low, high) = (index(dice, 1), index(dice, 1));
             field(38, [low, high, statements(dice, depth + 1)].concat())
         }
+    }
+}
+
+/// The tag and number of a call: one byte, or two that one byte may hold as well.
+fn called(dice: &mut Dice) -> (u8, Vec<u8>) {
+    match dice.below(3) {
+        0 => (39, vec![dice.byte(3), dice.byte(3)]),
+        _ => (36, vec![dice.byte(3)]),
     }
 }
 
@@ -176,9 +185,29 @@ reset q0[1];
 if (c1[0] == 1) {
     tdg #7;
     #1(q0);
+    #256(2)(q0);
+    ##0(2)(q0, q0[0]);
 }
 ";
     assert_eq!(goes_round(&assemble(text).unwrap().bytes), text);
+}
+
+#[test]
+fn libraries_past_255_families_go_round() {
+    let family = field(1, [vec![0, 1], field(16, vec![])].concat());
+    let call = |tag: u8, number: &[u8]| field(tag, [number, &field(48, vec![0])].concat());
+    let calls = [
+        call(36, &[10]),
+        call(36, &[255]),
+        call(39, &[0, 1]),
+        call(39, &[43, 1]),
+        call(39, &[44, 1]),
+        call(39, &[10, 0]),
+    ];
+    let text = goes_round(&[family.repeat(300), calls.concat()].concat());
+    let found: Vec<_> = text.lines().skip(600).collect();
+    let due = ["f10", "f255", "f256", "f299", "#300", "##10"];
+    assert_eq!(found, due.map(|name| format!("{name}(#0);")));
 }
 
 #[test]
@@ -210,8 +239,8 @@ fn damaged_texts_are_read_or_refused() {
     let mut dice = Dice(11);
     let pieces = [
         "family", "gate", "qreg", "for", "i", "=", "..", "{", "}", "(", ")", "[", "]", ";", ",",
-        "#", "1", "65536", "x", ":", "Qbit", "h", "cx", "->", "==", "\"", "é", "\n", "/", "//",
-        "bytes", "reverse", "if", "+", "-", "*",
+        "#", "##", "1", "300", "65536", "x", ":", "Qbit", "h", "cx", "->", "==", "\"", "é", "\n",
+        "/", "//", "bytes", "reverse", "if", "+", "-", "*",
     ];
     for _ in 0..3000 {
         let count = dice.below(40);

@@ -106,6 +106,33 @@ fn lists_instances() {
 }
 
 #[test]
+fn lists_instances_of_families_past_255() {
+    let copies: String = (0..8)
+        .map(|wire| format!("cx {wire} {}\n", wire + 8))
+        .collect();
+    for family in ["xor_into", "256"] {
+        let words = ["list", "library.mq", "--family", family];
+        gives(&words, "", 0, &format!("{copies}end 0 0 8 17\n"), "");
+    }
+    let words = ["list", "library.mq", "--family", "258"];
+    let message = "mqasm: library.mq: 20: the program declares no family of this number\n  \
+        family numbers start at 0; it declares 258 families\n";
+    gives(&words, "", 1, "end 20 0 0 0\n", message);
+}
+
+#[test]
+fn lists_deep_programs() {
+    let (open, close) = ("reverse {".repeat(15), "}".repeat(15));
+    let calls = (1..1057).map(|number| {
+        let before = number - 1;
+        format!("gate f{number}(a: Qbit) {{ {open} f{before}(a); {close} }}\n")
+    });
+    let calls: String = calls.collect();
+    let text = format!("gate f0(a: Qbit) {{ t a; }}\n{calls}qreg q[1]; f1056(q[0]);");
+    gives(&["list", "-"], &text, 0, "t 0\nend 0 0 1 16898\n", "");
+}
+
+#[test]
 fn families_and_sizes_that_do_not_fit() {
     let list = |family: &str, sizes: &str, end: &str, message: &str| {
         let words = ["list", "loop.mq", "--family", family, "--sizes", sizes];

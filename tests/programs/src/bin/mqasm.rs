@@ -4,8 +4,23 @@ use programs::tool::{self, Streams};
 use std::ffi::OsString;
 use std::io::{self, Read, Write};
 use std::process::ExitCode;
+use std::thread;
+
+/// The stack that the work has, in bytes: statements may lie 17,000 deep in each other's calls.
+const STACK: usize = 64 << 20;
 
 fn main() -> ExitCode {
+    match thread::Builder::new().stack_size(STACK).spawn(work) {
+        Ok(worker) => worker.join().unwrap_or(ExitCode::FAILURE),
+        Err(error) => {
+            let _ = writeln!(io::stderr(), "mqasm: cannot start: {error}");
+            ExitCode::FAILURE
+        }
+    }
+}
+
+/// Does what the command line says.
+fn work() -> ExitCode {
     let words: Vec<OsString> = std::env::args_os().skip(1).collect();
     let mut input: Box<dyn Read> = match start::was_open(0) {
         true => Box::new(io::stdin()),

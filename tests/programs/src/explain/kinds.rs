@@ -2,7 +2,7 @@
 
 use super::locate::Found;
 use crate::field::{tags, Field};
-use crate::scope::{own_variables, Scope};
+use crate::scope::{called_number, own_variables, Scope};
 
 /// What an operand's name stands for.
 #[derive(Clone, Copy, PartialEq)]
@@ -75,7 +75,9 @@ fn due(found: &Found) -> Option<(String, Due)> {
     let word = tags::word(around.tag?)?;
     let due = match (around.tag?, found.part_number()?) {
         (tags::IF, _) | (tags::MEASURE, 1) => Due::Bit,
-        (tags::CALL, number) => return argument_due(around, number, &found.scope),
+        (tags::CALL | tags::LONG_CALL, number) => {
+            return argument_due(around, number, &found.scope)
+        }
         _ => Due::Qubit,
     };
     Some((word.to_string(), due))
@@ -83,7 +85,7 @@ fn due(found: &Found) -> Option<(String, Due)> {
 
 /// What a call's family takes for one of its operands.
 fn argument_due(call: &Field, part: usize, scope: &Scope) -> Option<(String, Due)> {
-    let number = usize::from(call.head[0]);
+    let number = called_number(call);
     let called = scope.families.get(number)?;
     let parameter = part.checked_sub(own_variables(called))?;
     let due = match called.parts.get(parameter)?.tag? {

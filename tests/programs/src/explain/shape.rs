@@ -2,14 +2,17 @@
 
 use super::locate::Found;
 use crate::field::{tags, Field};
-use crate::scope::{counted, own_variables, parameter_count, two_bytes, Scope};
+use crate::scope::{called_number, counted, own_variables, parameter_count, two_bytes, Scope};
 use crate::tool::size_names;
+
+/// The most families that a program may declare.
+const MOST_FAMILIES: usize = 4096;
 
 /// What to mend where more can be said than the number's sentence.
 pub fn misshapen(found: &Found, number: u32) -> Option<String> {
     let (field, scope) = (found.field(), &found.scope);
     match number {
-        4 if field.tag == Some(tags::CALL) => call(field, scope),
+        4 if field.is_call() => call(field, scope),
         6 => too_many(field, scope),
         7 => Some(too_large(field, scope)),
         8 => out_of_scope(field, scope),
@@ -27,6 +30,7 @@ pub fn misshapen(found: &Found, number: u32) -> Option<String> {
             scope.operand(field.parts.first()?),
             scope.operand(field.parts.get(1)?),
         )),
+        31 if field.is_call() => Some(low_number(field, scope)),
         _ => None,
     }
 }
@@ -41,7 +45,7 @@ pub fn tag_alone(tag: Option<&u8>) -> Option<String> {
 pub fn misplaced(found: &Found) -> Option<String> {
     let around = found.around()?;
     let tag = found.field().tag?;
-    if around.tag == Some(tags::CALL) {
+    if around.is_call() {
         return call(around, &found.scope);
     }
     let outer = match around.tag? {
@@ -56,7 +60,7 @@ pub fn misplaced(found: &Found) -> Option<String> {
 
 /// What a call takes and what it has.
 fn call(field: &Field, scope: &Scope) -> Option<String> {
-    let number = usize::from(field.head[0]);
+    let number = called_number(field);
     let called = scope.families.get(number)?;
     let name = scope.family(number);
     let (sizes, operands) = (own_variables(called), parameter_count(called));
@@ -79,6 +83,16 @@ fn call(field: &Field, scope: &Scope) -> Option<String> {
     ))
 }
 
+/// How a family is called that one byte can name.
+fn low_number(field: &Field, scope: &Scope) -> String {
+    let number = called_number(field);
+    let name = scope.family(number);
+    format!(
+        "the two bytes say {number}, and families 0 to 255 are called by one byte: \
+         write {name}(..), which is tag 36"
+    )
+}
+
 /// Which count is past its limit.
 fn too_many(field: &Field, scope: &Scope) -> Option<String> {
     Some(match field.tag? {
@@ -94,7 +108,7 @@ fn too_many(field: &Field, scope: &Scope) -> Option<String> {
             format!("{count} parameters are declared, and 8 are the most")
         }
         tags::FAMILY => format!(
-            "{} families are declared before this one, and 255 are the most",
+            "{} families are declared before this one, and {MOST_FAMILIES} are the most",
             scope.families.len()
         ),
         _ => return None,
@@ -115,7 +129,7 @@ fn too_large(field: &Field, scope: &Scope) -> String {
 /// How many there are of what is named.
 fn out_of_scope(field: &Field, scope: &Scope) -> Option<String> {
     let (what, count) = match field.tag? {
-        tags::CALL => ("family", scope.families.len()),
+        tags::CALL | tags::LONG_CALL => ("family", scope.families.len()),
         tags::VARIABLE => ("index variable", scope.variables()),
         tags::WHOLE | tags::ELEMENT => match scope.inside {
             Some(family) => ("parameter", parameter_count(family)),
@@ -123,7 +137,10 @@ fn out_of_scope(field: &Field, scope: &Scope) -> Option<String> {
         },
         _ => return None,
     };
-    let number = field.head[0];
+    let number = match field.is_call() {
+        true => called_number(field),
+        false => usize::from(field.head[0]),
+    };
     Some(match (count, counted(count, what)) {
         (0, none) => format!("#{number} is asked for, and there is {none} here"),
         (1, one) => format!("#{number} is asked for, and there is {one} here, number 0"),

@@ -4,7 +4,8 @@ use super::locate::Found;
 use crate::field::{tags, Field};
 use crate::form::Form;
 use crate::print::join;
-use crate::scope::{own_variables, parameter_name, two_bytes, variable_name, Scope};
+use crate::scope::{called_number, own_variables, parameter_name};
+use crate::scope::{two_bytes, variable_name, Scope};
 
 /// Which showing failed, and for what index.
 pub fn not_shown(found: &Found) -> Option<String> {
@@ -16,9 +17,9 @@ pub fn not_shown(found: &Found) -> Option<String> {
             let name = parameter_name(around, found.part_number()?);
             size(&field.parts[0], &format!("of parameter '{name}'"), scope)
         }
-        (tags::WHOLE, tags::CALL) => argument(found, around),
-        (_, tags::CALL) => {
-            let number = usize::from(around.head[0]);
+        (tags::WHOLE, tags::CALL | tags::LONG_CALL) => argument(found, around),
+        (_, tags::CALL | tags::LONG_CALL) => {
+            let number = called_number(around);
             let called = scope.families.get(number)?;
             let variable = variable_name(called, found.part_number()?);
             let of = format!("for '{variable}' of '{}'", scope.family(number));
@@ -61,7 +62,7 @@ fn size(index: &Field, of: &str, scope: &Scope) -> Option<String> {
 /// A register handed to a parameter that asks for more cells.
 fn argument(found: &Found, call: &Field) -> Option<String> {
     let scope = &found.scope;
-    let number = usize::from(call.head[0]);
+    let number = called_number(call);
     let called = scope.families.get(number)?;
     let (sizes, operands) = call.parts.split_at_checked(own_variables(called))?;
     let field = found.field();

@@ -1,7 +1,9 @@
 //! Text to fields: names get their numbers, nothing is type-checked.
 //!
 //! Wherever a name stands for a number, `#3` gives the number itself, in scope
-//! or not. `bytes "20 00 00";` puts bytes into a list of statements as they are.
+//! or not. A call names its family by one byte where that holds the number, and
+//! by two where it does not; `##3(..)` is a call by two bytes, whatever the number.
+//! `bytes "20 00 00";` puts bytes into a list of statements as they are.
 
 mod declarations;
 mod operands;
@@ -155,18 +157,26 @@ impl Parser {
     }
 }
 
-/// The number of a name, or a message that it has none.
-fn resolve(name: &str, names: &Names, what: &str, spot: Spot) -> Answer<u8> {
+/// The number of a name, or a message that it has none up to a largest one.
+fn resolve(name: &str, names: &Names, what: &str, largest: u16, spot: Spot) -> Answer<u16> {
     let Some(number) = names.number(name) else {
         return Err(TextError::new(
             spot,
             format!("no {what} named '{name}' here"),
         ));
     };
-    u8::try_from(number).map_err(|_| {
-        let message = format!("'{name}' is number {number}, and numbers go up to 255");
-        TextError::new(spot, message)
-    })
+    match u16::try_from(number) {
+        Ok(number) if number <= largest => Ok(number),
+        _ => {
+            let message = format!("'{name}' is number {number}, and numbers go up to {largest}");
+            Err(TextError::new(spot, message))
+        }
+    }
+}
+
+/// The number of a name, which one byte must hold.
+fn resolve_byte(name: &str, names: &Names, what: &str, spot: Spot) -> Answer<u8> {
+    Ok(resolve(name, names, what, 255, spot)?.to_le_bytes()[0])
 }
 
 /// A count that one byte must hold.

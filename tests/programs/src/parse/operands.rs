@@ -1,6 +1,6 @@
 //! Operands and indexes of the text form.
 
-use super::{field, resolve, Answer, Parser};
+use super::{field, resolve_byte, Answer, Parser};
 use crate::field::{tags, Field};
 use crate::token::{Spot, TextError, Token, Word};
 
@@ -35,7 +35,7 @@ impl Parser {
             let message = format!("expected an operand, and '{name}' is an index variable");
             return Err(TextError::new(spot, message));
         }
-        resolve(name, names, what, spot)
+        resolve_byte(name, names, what, spot)
     }
 
     /// Sums and differences, the left ones first.
@@ -76,7 +76,7 @@ impl Parser {
                 field(tags::LITERAL, number.to_le_bytes().to_vec(), vec![], spot)
             }
             Word::Name(name) => {
-                let number = resolve(&name, &self.indexes, "index variable", spot)?;
+                let number = resolve_byte(&name, &self.indexes, "index variable", spot)?;
                 field(tags::VARIABLE, vec![number], vec![], spot)
             }
             Word::Symbol("#") => {

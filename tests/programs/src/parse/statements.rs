@@ -4,6 +4,19 @@ use super::{field, resolve, Answer, Parser};
 use crate::field::{tags, Field};
 use crate::token::{Spot, TextError, Word};
 
+/// The tag and own bytes of a call: by one byte where that holds the family's number.
+fn shortest_call(number: u16) -> (u8, Vec<u8>) {
+    match u8::try_from(number) {
+        Ok(byte) => (tags::CALL, vec![byte]),
+        Err(_) => long_call(number),
+    }
+}
+
+/// The tag and own bytes of a call by two bytes.
+fn long_call(number: u16) -> (u8, Vec<u8>) {
+    (tags::LONG_CALL, number.to_le_bytes().to_vec())
+}
+
 /// Statements.
 impl Parser {
     /// One declaration or statement.
@@ -12,8 +25,7 @@ impl Parser {
         let spot = start.spot;
         let Word::Name(name) = &start.word else {
             if start.word == Word::Symbol("#") {
-                let number = self.byte()?;
-                return self.call(number, spot);
+                return self.numbered_call(spot);
             }
             let message = format!("expected a statement, found {}", start.word);
             return Err(TextError::new(spot, message));
@@ -37,8 +49,9 @@ impl Parser {
             "for" => self.counted_loop(spot),
             "bytes" => self.bare_bytes(spot),
             _ => {
-                let number = resolve(name, &self.families, "statement or family", spot)?;
-                self.call(number, spot)
+                let what = "statement or family";
+                let number = resolve(name, &self.families, what, u16::MAX, spot)?;
+                self.call(shortest_call(number), spot)
             }
         }
     }
@@ -120,8 +133,18 @@ impl Parser {
         Ok(field(tags::FOR, vec![], parts, spot)?.named(vec![name]))
     }
 
+    /// `#3(x);`, or `##3(x);` for a call by two bytes, whatever the number.
+    fn numbered_call(&mut self, spot: Spot) -> Answer<Field> {
+        let start = match self.accept("#") {
+            true => long_call,
+            false => shortest_call,
+        };
+        let number = self.number(u16::MAX)?;
+        self.call(start(number), spot)
+    }
+
     /// `f(n - 1)(x, y[0]);`, or `f(x, y[0]);` without indexes.
-    fn call(&mut self, number: u8, spot: Spot) -> Answer<Field> {
+    fn call(&mut self, (tag, head): (u8, Vec<u8>), spot: Spot) -> Answer<Field> {
         let mut parts = Vec::new();
         if self.two_groups() {
             self.expect("(")?;
@@ -137,7 +160,7 @@ impl Parser {
             parts.push(self.call_operand(before == 0)?);
         }
         self.end_of_statement()?;
-        field(tags::CALL, vec![number], parts, spot)
+        field(tag, head, parts, spot)
     }
 
     /// An operand of a call; a number in its place may be a size without operands.

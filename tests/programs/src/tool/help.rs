@@ -54,6 +54,8 @@ The text form, by example:
 Indexes are made of numbers up to 65535, names, +, -, * and parentheses.
 #3 is the operand, family or index variable of that number, in scope or not,
 and bytes \"20 00 00\"; puts bytes into a list of statements as they are.
+Families 0 to 255 are called by a number of one byte (tag 36), and others by two
+(tag 39); ##3(..) is a call by two bytes, whatever the number.
 ";
 
 const ASSEMBLE: &str = "\

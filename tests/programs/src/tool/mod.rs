@@ -183,7 +183,7 @@ fn draw_program(options: &Options, input: &mut dyn Read) -> Answer<Done> {
     let asked = Asked::read(options, input)?;
     let (outcome, records) = asked.answer(options, reference::run, reference::instance);
     let mut drawing = String::new();
-    if !matches!(outcome.number, 1..=23) {
+    if !matches!(outcome.number, 1..=23 | 31) {
         let fields = &asked.program.fields;
         let rows = match asked.family {
             None => draw::registers(fields),
