@@ -113,6 +113,35 @@ bad 'help after a family' 2 --help
 bad 'an option' -h
 bad 'words too long' "$(printf '%04096d' 2)" 1
 
+# The deepest program: as many families as fit, each of which calls the one before in 15 reversals, of which all but the
+# innermost hold an empty one, too. It needs more stack than a process usually has.
+field() { # TAG CONTENT, in hexadecimal: the field goes to REPLY
+    printf -v REPLY '%s%02x%02x%s' "$1" $((${#2} / 2 % 256)) $((${#2} / 512)) "$2"
+}
+nested() { # STATEMENT
+    field 25 "$1"
+    for _ in {1..14}; do field 25 "${REPLY}250000"; done
+    field 01 "0001100000$REPLY"
+}
+nested 21040030010000
+deep=$REPLY
+families=1
+while :; do
+    called=$((families - 1))
+    printf -v number '%02x%02x' $((called % 256)) $((called / 256))
+    if [ "$called" -lt 256 ]; then field 24 "${number%00}30010000"; else field 27 "${number}30010000"; fi
+    nested "$REPLY"
+    [ $((${#deep} + ${#REPLY})) -le 131070 ] || break
+    deep+=$REPLY
+    families=$((families + 1))
+done
+# shellcheck disable=SC2059
+printf "$(sed 's/../\\x&/g' <<<"$deep")" >"$work/deep"
+gate=t
+[ $((families % 2)) -eq 0 ] || gate=tdg
+gives "the deepest program, $families families" "$(printf '%s 0\nend 0 0 1 %s' "$gate" $((30 * families)))" '' \
+    bash -c "ulimit -s 16384 && '$list' $((families - 1)) <'$work/deep'"
+
 # Help.
 "$list" --help >"$work/help" 2>"$work/message" </dev/null
 head -n 1 "$work/help" >"$work/output"
