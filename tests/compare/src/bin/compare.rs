@@ -1,13 +1,18 @@
 //! Compares the library with the reference and says how much was compared.
 //!
 //! Use: `compare [FIRST_SEED [COUNT]]`. It holds both to the recorded answers
-//! and asks them about a range of generated programs. It fails where the
-//! archive lacks a call.
+//! and asks them about a range of generated programs, and for every hundredth
+//! seed about two libraries of many families. It fails where the archive lacks
+//! a call.
 
 use compare::recorded::recorded;
 use compare::{library, Tally};
+use generate::{libraries, Case};
 use std::io::Write;
 use std::process::ExitCode;
+
+/// Of how many seeds one makes libraries, which take long.
+const LIBRARY_SEEDS: usize = 100;
 
 /// Reads one argument as a number, or takes what stands in for it.
 fn number(argument: Option<&String>, otherwise: u64) -> Result<u64, String> {
@@ -41,6 +46,22 @@ fn say(line: &str) -> Result<(), String> {
     writeln!(std::io::stdout(), "{line}").map_err(|error| format!("standard output: {error}"))
 }
 
+/// Compares all calls on the cases of some seeds and says how many there were.
+fn compare_cases(
+    what: &str,
+    made: fn(u64) -> Case,
+    seeds: impl Iterator<Item = u64>,
+) -> Result<(), String> {
+    let mut tally = Tally::default();
+    let mut count = 0;
+    for seed in seeds {
+        let compared = tally.case(&made(seed));
+        compared.map_err(|message| format!("{what}, seed {seed}: {message}"))?;
+        count += 1;
+    }
+    say(&format!("{count} {what}: {}", tally.line()))
+}
+
 /// Compares everything and prints what was counted.
 fn compare_all() -> Result<(), String> {
     let (first, last) = seeds()?;
@@ -56,13 +77,10 @@ fn compare_all() -> Result<(), String> {
         rows.len(),
         tally.line()
     ))?;
-    let mut tally = Tally::default();
-    for seed in first..last {
-        let compared = tally.case(&generate::case(seed));
-        compared.map_err(|message| format!("seed {seed}: {message}"))?;
-    }
-    let count = last - first;
-    say(&format!("{count} generated programs: {}", tally.line()))
+    compare_cases("generated programs", generate::case, first..last)?;
+    let hundredth = || (first..last).step_by(LIBRARY_SEEDS);
+    compare_cases("libraries", libraries::sound, hundredth())?;
+    compare_cases("damaged libraries", libraries::damaged, hundredth())
 }
 
 fn main() -> ExitCode {
