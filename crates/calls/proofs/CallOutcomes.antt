@@ -23,7 +23,6 @@ use Rattle.calls.specs.declared.Gathered.{Gathered}
 use Rattle.calls.specs.declared.Gathered.the-variants.{Are, Over as gOver, Stuck as gStuck}
 use Rattle.calls.specs.declared.Fit.{Fit}
 use Rattle.calls.specs.declared.Fit.the-variants.{From, Not}
-use Rattle.calls.specs.declared.Taken.{Taken}
 use Rattle.calls.specs.declared.Taken.the-variants.{All, Over, Stuck}
 use Rattle.calls.proofs.Gathered.{the-type as gathered-type}
 use Rattle.calls.specs.Families.{FamilyHead, declaredAt, BodyFrom}

@@ -6,16 +6,14 @@ use native.Mathlib.Omega.{arith}
 use native.Mathlib.Nat.{sub-zero}
 use types.Run.{OneOf}
 use denote.Enum.Declared.{tagOf}
-use lib.ListN.{length, getD, take, drop, length-take, length-drop}
+use lib.ListN.{drop}
 use lib.Seq.{slice, slice-empty, drop-nil}
 use Rattle.language.specs.Tree.{Place}
-use Rattle.language.specs.Read.{field, fields, fieldsAfter, statementsBy, outerStatement}
+use Rattle.language.specs.Read.{fields, fieldsAfter}
 use Rattle.fields.specs.declared.Header.{Header}
 use Rattle.fields.specs.declared.Header.the-variants.{Whole, End, Cut}
-use Rattle.fields.specs.Table.{pastOf}
 use Rattle.fields.proofs.Header.{the-type}
 use Rattle.fields.proofs.Parts.{not-first}
-use Rattle.fields.proofs.Headers.{part-slice}
 use Rattle.fields.proofs.Between.{lookIn, in-whole, in-none, in-bad}
 use Rattle.calls.specs.Families.{PastFields}
 

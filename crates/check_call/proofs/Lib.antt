@@ -1,2 +1,3 @@
+-- The laws and lemmas of crate check_call, file by file.
 pub mod Forms
 pub mod Calls

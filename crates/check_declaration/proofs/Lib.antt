@@ -1,3 +1,4 @@
+-- The laws and lemmas of crate check_declaration, file by file.
 pub mod Types
 pub mod Registers
 pub mod Families

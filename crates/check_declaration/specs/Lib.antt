@@ -1,3 +1,4 @@
+-- The definitions of crate check_declaration, file by file.
 pub mod Types
 pub mod Families
 pub mod Registers

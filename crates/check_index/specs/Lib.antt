@@ -1,2 +1,3 @@
+-- The definitions of crate check_index, file by file.
 pub mod Answers
 pub mod Indexes

@@ -1,3 +1,4 @@
+-- The laws and lemmas of crate check_operand, file by file.
 pub mod OperandKinds
 pub mod Tables
 pub mod Operands

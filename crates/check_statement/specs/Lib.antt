@@ -1,1 +1,2 @@
+-- The definitions of crate check_statement, file by file.
 pub mod Statements

@@ -4,26 +4,24 @@ use mathlib.Core.List.{List, [], _∷_, _++_}
 use mathlib.Core.Bool.{Bool, true, false}
 use Prim.Native.Nat.{ℕ, zero, suc, _+_, _-_, _≤_, _<_}
 use native.Mathlib.Omega.{arith}
-use native.Mathlib.Nat.{zero-add}
 use types.Run.{OneOf}
 use denote.Enum.Declared.{tagOf}
-use lib.Dec.{leb}
 use borrow.Author.Tests.{leb-true, le-leb}
 use lib.ListN.{length, getD, set, take, drop, length-take, length-drop, length-append, take-append-drop}
-use lib.Seq.{slice, take-length, take-take, drop-drop, take-all, slice-empty, length-slice, getD-set-same, getD-set-other}
+use lib.Seq.{slice, take-length, take-take, drop-drop, slice-empty, length-slice, getD-set-same, getD-set-other}
 use Rattle.language.specs.Read.{Field, field, badHeader, fields, fieldsAfter, twoBytes}
 use Rattle.language.proofs.ReadLaws.{fields-next}
 use Rattle.language.proofs.Integers.{clash}
 use Rattle.language.proofs.Runs.{Skips}
 use Rattle.language.proofs.Runs as R
 use Rattle.fields.specs.declared.Header.{Header}
-use Rattle.fields.specs.declared.Header.the-variants.{Whole, End, Cut}
+use Rattle.fields.specs.declared.Header.the-variants.{Whole}
 use Rattle.fields.specs.Header.{fieldsAt, headerOf}
 use Rattle.fields.specs.Count.{Counted, Many, Broken, more, counted, span}
 use Rattle.fields.proofs.Header.{the-type}
 use Rattle.fields.proofs.Parts as P
-use Rattle.fields.proofs.Parts.{look, Part, when-part, when-bad, part-is, not-first, stands}
-use Rattle.fields.proofs.Counts.{plus, plus-none, skips, span-all, skips-shorter}
+use Rattle.fields.proofs.Parts.{look, when-part, part-is, not-first, stands}
+use Rattle.fields.proofs.Counts.{plus, plus-none, skips, span-all}
 use Rattle.fields.proofs.Headers.{slice-none}
 use Rattle.field_walk.specs.declared.Begun.the-variants as B
 use Rattle.field_walk.specs.Walks.{mostKept, isBroken, brokenIn, Unbroken, FieldBegins, FieldEnds, PositionsKept, Linked, Lasts, Walking, Starting, wholeOf}

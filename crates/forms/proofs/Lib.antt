@@ -1,3 +1,4 @@
+-- The laws and lemmas of crate forms, file by file.
 pub mod Lists
 pub mod Laws
 pub mod Products

@@ -1,11 +1,10 @@
 -- Gates, as runs of the machine. Assumes nothing.
-use Prim.Native.Nat.{ℕ, zero, suc, _+_, _*_, _-_, _<_, _≤_}
+use Prim.Native.Nat.{ℕ, _+_, _-_}
 use mathlib.Core.Path.{_≡_, refl, sym, ap, _∙_, subst}
 use mathlib.Core.List.{List, [], _∷_}
 use mathlib.Core.Bool.{Bool, true, false, cond}
-use native.Mathlib.Omega.{arith}
-use borrow.Author.Tests.{eq-eqb, ne-eqb, eqb-true, eqb-false}
-use lib.ListN.{length, getD, take, drop}
+use borrow.Author.Tests.{eq-eqb, ne-eqb}
+use lib.ListN.{drop}
 use lib.Seq.{slice}
 use lib.Dec.{eqb}
 use lib.IntN.{ℤ}
@@ -13,7 +12,7 @@ use types.Run.{OneOf}
 use denote.Enum.Declared.{tagOf}
 use Rattle.language.specs.Tree.{Place, badOperand, Gate, gateH, gateT, gateTdg}
 use Rattle.language.specs.Read.{fields, due, readOperand, operandDue}
-use Rattle.language.specs.Machine.{Meaning, Run, Frame, Direction, forward, backward, Condition, give, endAt, noMeaning, after, _>>=_, wireOf, write, written, doCx, runGate, runCx}
+use Rattle.language.specs.Machine.{Meaning, Run, Direction, Condition, endAt, noMeaning, after, _>>=_, wireOf, write, written, doCx, runGate, runCx}
 use Rattle.language.specs.Result.{op, firstNumber, secondNumber}
 use Rattle.fields.specs.declared.Header.the-variants.{Whole}
 use Rattle.fields.proofs.Header.{the-type}

@@ -1,11 +1,11 @@
 -- What the statements that hold no statements do, and the numbers of a loop.
-use Prim.Native.Nat.{ℕ, _+_, _-_, _≤_, _<_}
+use Prim.Native.Nat.{ℕ, _+_, _-_, _≤_}
 use mathlib.Core.Path.{_≡_}
 use mathlib.Core.List.{List}
 use mathlib.Core.Bool.{Bool, true, false, cond, not, _&&_}
 use lib.Dec.{eqb}
 use lib.IntN.{ℤ, pos, _+ℤ_, _-ℤ_}
-use lib.ListN.{length, drop}
+use lib.ListN.{drop}
 use lib.Seq.{slice}
 use Rattle.language.specs.Limits.{deepest, furthest}
 use Rattle.language.specs.Tree.{Place, Gate, gateH, gateT, gateTdg, badIndex}

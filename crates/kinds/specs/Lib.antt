@@ -1,1 +1,2 @@
+-- The definitions of crate kinds, file by file.
 pub mod Numbers

@@ -7,10 +7,10 @@ use native.Mathlib.Omega.{arith}
 use borrow.Author.Tests.{le-leb, lt-leb, ne-eqb}
 use types.Run.{OneOf}
 use denote.Enum.Declared.{tagOf}
-use native.Mathlib.Nat.{sub-zero, add-zero}
+use native.Mathlib.Nat.{sub-zero}
 use native.Mathlib.Numerals.{add-one}
 use lib.IntN.{ℤ, pos, negsuc, natAbs}
-use lib.ListN.{length, take, drop, set, length-set}
+use lib.ListN.{length, take, set, length-set}
 use lib.Seq.{slice, take-suc-set}
 use lib.Signed.{ltZ}
 use Rattle.language.proofs.Integers.{integers, range-true}
@@ -18,8 +18,8 @@ use Rattle.language.specs.Form.{inRange}
 use Rattle.language.specs.Limits.{mostParameters, mostWires, furthest}
 use Rattle.language.specs.Tree.{Place, ParameterType}
 use Rattle.language.specs.Read.{field, fields, readType, typesOf, due, choose, readQbit, qbitsOf}
-use Rattle.language.specs.Machine.{Meaning, wires, Run, Outcome, going, ended, stuck, give, endAt, noMeaning, laidOut, sizeOf, laidThen, layWire, layRegister, layout, after, _>>=_, _>>_}
-use Rattle.operands.specs.Meanings.{theWire, parameterOf, ofParameter, clipped}
+use Rattle.language.specs.Machine.{Meaning, Run, Outcome, going, ended, stuck, give, endAt, noMeaning, laidOut, sizeOf, laidThen, layWire, layRegister, layout, after, _>>=_, _>>_}
+use Rattle.operands.specs.Meanings.{parameterOf, ofParameter, clipped}
 use Rattle.operands.specs.declared.Wire.{Wire}
 use Rattle.operands.specs.declared.Operand.{Operand}
 use Rattle.operands.specs.declared.Operand.the-variants.{Single, Register}

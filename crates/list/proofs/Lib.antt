@@ -1,1 +1,2 @@
+-- The laws and lemmas of crate list, file by file.
 pub mod LentBuffers

@@ -1,6 +1,6 @@
 -- What operands stand for. Assumes nothing.
-use Prim.Native.Nat.{ℕ, zero, suc, _+_, _*_, _-_, _<_, _≤_, min}
-use mathlib.Core.Path.{_≡_, refl, sym, ap, _∙_}
+use Prim.Native.Nat.{ℕ, zero, suc, _+_, _*_, _-_, _<_, _≤_}
+use mathlib.Core.Path.{_≡_, refl, ap, _∙_}
 use mathlib.Core.List.{List, [], _∷_, map}
 use mathlib.Core.Bool.{Bool, true, false, cond}
 use mathlib.Core.Option.{Option, none, some}
@@ -8,14 +8,14 @@ use mathlib.Core.Logic.{⊎-elim}
 use native.Mathlib.Omega.{arith}
 use types.Run.{OneOf}
 use denote.Enum.Declared.{tagOf}
-use borrow.Author.Tests.{lt-ltb, le-ltb, eq-eqb, ne-eqb}
-use lib.ListN.{length, getD, getElem?, take, drop, length-take}
+use borrow.Author.Tests.{lt-ltb, le-ltb}
+use lib.ListN.{length, getD, getElem?, take, length-take}
 use lib.Seq.{getD-take}
-use lib.Dec.{eqb, ltb, T}
+use lib.Dec.{ltb, T}
 use lib.IntN.{ℤ, pos, negsuc, natAbs}
-use lib.Signed.{leZ, ltZ, nonNeg}
+use lib.Signed.{ltZ, nonNeg}
 use mir.Syntax.{w64}
-use mir.Val.{ofZ, Fits}
+use mir.Val.{Fits}
 use Rattle.language.proofs.Integers.{integers, range-true}
 use Rattle.language.specs.Form.{inRange}
 use Rattle.kinds.specs.declared.Kind.{Kind}
@@ -25,14 +25,14 @@ use Rattle.kinds.proofs.Kind.{the-type as kind-type}
 use Rattle.operands.specs.declared.Wire.{Wire}
 use Rattle.operands.specs.declared.Bit.{Bit}
 use Rattle.language.specs.Tree.{Place}
-use Rattle.language.specs.Machine.{Meaning, aWire, aBit, wires, bits, Run, give, noMeaning, found, elementAt, after, _>>=_}
+use Rattle.language.specs.Machine.{Meaning, aWire, aBit, wires, bits, give, noMeaning, found, elementAt}
 use Rattle.operands.specs.declared.Operand.{Operand}
 use Rattle.operands.specs.declared.Operand.the-variants.{Single, Register}
 use Rattle.operands.specs.declared.Parameter.{Parameter}
 use Rattle.operands.specs.declared.OperandMeaning.{OperandMeaning}
-use Rattle.operands.specs.declared.OperandMeaning.the-variants.{AWire, ABit, Wires, Bits, Over, Stuck}
+use Rattle.operands.specs.declared.OperandMeaning.the-variants.{AWire, ABit, Wires, Stuck}
 use Rattle.operands.specs.declared.Location.the-variants.{At, Nowhere}
-use Rattle.operands.specs.Meanings.{ofParameter, parameterOf, registerOf, registersOf, operandsOf, meaningTold, locationIn, locations, clipped, locationOf, theWire, theBit}
+use Rattle.operands.specs.Meanings.{ofParameter, parameterOf, registerOf, registersOf, meaningTold, locationIn, locations, clipped, locationOf, theWire, theBit}
 
 pub register-at : (n : ℕ) (l : List ℕ) → 3 * n + 2 < length l → getElem? (registersOf l) n ≡ some (registerOf (kindWith (getD l (3 * n) 0)) (getD l (3 * n + 1) 0) (getD l (3 * n + 2) 0))
 unfolding registersOf

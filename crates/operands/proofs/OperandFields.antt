@@ -1,13 +1,13 @@
 -- What an operand's field stands for. Assumes nothing.
-use Prim.Native.Nat.{ℕ, zero, suc, _+_, _*_, _-_, _<_, _≤_}
+use Prim.Native.Nat.{ℕ, _+_, _-_}
 use mathlib.Core.Path.{_≡_, refl, sym, ap, _∙_}
 use mathlib.Core.List.{List, [], _∷_}
 use mathlib.Core.Bool.{Bool, true, false, cond}
 use mathlib.Core.Option.{Option, none, some}
 use mathlib.Core.Logic.{⊎-elim}
 use native.Mathlib.Omega.{arith}
-use borrow.Author.Tests.{eq-eqb, ne-eqb}
-use lib.ListN.{length, getD, getElem?, take, drop}
+use borrow.Author.Tests.{ne-eqb}
+use lib.ListN.{length, getD, getElem?, drop}
 use lib.Seq.{slice}
 use lib.Dec.{eqb}
 use lib.IntN.{ℤ}
@@ -15,8 +15,8 @@ use types.Run.{OneOf}
 use denote.Enum.Declared.{tagOf}
 use Rattle.language.specs.Limits.{deepest}
 use Rattle.language.specs.Tree.{Place, badIndex, badOperand, Operand}
-use Rattle.language.specs.Read.{field, fields, fieldsAfter, due, choose, readOperand, readWhole, readElement, elementOf, readIndex, outerIndex, Reader}
-use Rattle.language.specs.Machine.{Meaning, Run, Outcome, going, ended, stuck, State, begin, give, endAt, noMeaning, found, after, _>>=_, elementAt, meaningOf, evaluate, Direction, Condition, wireOf, asWire, bitOf, asBit}
+use Rattle.language.specs.Read.{field, fields, due, choose, readOperand, readWhole, readElement, elementOf, readIndex, Reader}
+use Rattle.language.specs.Machine.{Meaning, Run, stuck, begin, endAt, noMeaning, found, after, _>>=_, elementAt, meaningOf, evaluate, Direction, Condition, wireOf, asWire, bitOf, asBit}
 use Rattle.indexes.specs.declared.Value.{Value}
 use Rattle.indexes.specs.declared.Value.the-variants.{Is, Over, Stuck}
 use Rattle.fields.specs.declared.Header.the-variants.{Whole, End, Cut}

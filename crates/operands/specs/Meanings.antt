@@ -1,16 +1,14 @@
 -- What the code's operands stand for in the machine.
-use Prim.Native.Nat.{ℕ, zero, suc, _+_, _*_, _-_, _≤_, _<_, min}
+use Prim.Native.Nat.{ℕ, _+_, _*_, _-_, min}
 use mathlib.Core.Path.{_≡_}
 use mathlib.Core.List.{List, [], _∷_, map}
-use mathlib.Core.Bool.{Bool, true, false, cond}
-use mathlib.Core.Option.{Option, none, some}
+use mathlib.Core.Bool.{cond}
 use lib.Dec.{ltb}
 use lib.IntN.{ℤ, pos, negsuc}
-use lib.ListN.{length, getD, getElem?, take, drop}
+use lib.ListN.{getElem?, take, drop}
 use Rattle.language.specs.Limits.{mostRegisters}
 use Rattle.language.specs.Tree.{Place, badOperand}
-use Rattle.language.specs.Tree as tree
-use Rattle.language.specs.Read.{Field, field, readOperand, due, fields}
+use Rattle.language.specs.Read.{field, readOperand, due, fields}
 use Rattle.language.specs.Machine.{Meaning, aWire, aBit, wires, bits, Run, give, endAt, noMeaning, found, elementAt, meaningOf, Frame, Direction, Condition, asWire, asBit, wireOf, bitOf, _>>=_}
 use Rattle.language.specs.Machine as machine
 use Rattle.kinds.specs.declared.Kind.{Kind}

@@ -1,1 +1,2 @@
+-- The definitions of crate qasm_length, file by file.
 pub mod Lengths

@@ -1,1 +1,2 @@
+-- The definitions of crate qasm_print, file by file.
 pub mod Prints

@@ -1,3 +1,4 @@
+-- The laws and lemmas of crate qasm_text, file by file.
 pub mod TextLength
 pub mod TextBack
 pub mod RecordsBack

@@ -1,3 +1,4 @@
+-- The definitions of crate qasm_text, file by file.
 pub mod Text
 pub mod RecordsIn
 pub mod TextResult

@@ -1,22 +1,20 @@
 -- A record's bytes, and what writing one does. Assumes nothing.
-use Prim.Native.Nat.{ℕ, zero, suc, _+_, _*_, _-_, _<_, _≤_}
+use Prim.Native.Nat.{ℕ, suc, _+_, _*_, _-_, _<_, _≤_}
 use mathlib.Core.Path.{_≡_, refl, sym, ap, _∙_}
 use mathlib.Core.List.{List, [], _∷_, _++_, append-assoc, append-nil}
-use mathlib.Core.Bool.{true, false}
 use native.Mathlib.Omega.{arith}
 use native.Mathlib.Numerals.{towards-suc}
 use borrow.Author.Tests.{le-leb, lt-leb}
-use lib.ListN.{length, take, drop, set, length-append, length-drop}
+use lib.ListN.{length, take, drop, set, length-append}
 use lib.Seq.{sets, sets-eq, take-at, drop-append-add, drop-drop}
 use Rattle.language.specs.Tree.{Place}
 use Rattle.language.specs.Machine.{Record, Action, Frame, write}
 use Rattle.language.specs.Machine as machine
-use Rattle.language.specs.Result.{op, firstNumber, secondNumber, recordBytes, bytesOf, conditionByte, conditionBit, outputBytes, writtenInto}
+use Rattle.language.specs.Result.{recordBytes, bytesOf, conditionByte, conditionBit, outputBytes, writtenInto}
 use Rattle.records.specs.declared.State.{State}
-use Rattle.records.specs.declared.Answer.the-variants.{Going, Ended, Stuck}
+use Rattle.records.specs.declared.Answer.the-variants.{Going, Ended}
 use Rattle.records.specs.declared.Condition.{Condition}
-use Rattle.records.specs.declared.Condition.the-variants.{Always, IsZero, IsOne}
-use Rattle.records.specs.Outcomes.{FlatOutcome, going, ended, answerTold, flatOutcome, Holds, Does, conditionOf, bytes8, ActionNumbers, stateOf}
+use Rattle.records.specs.Outcomes.{answerTold, flatOutcome, Does, conditionOf, bytes8, ActionNumbers}
 
 pub stores : (l : List ℕ) (at a b c d e f g h : ℕ) →
     set (set (set (set (set (set (set (set l at a) (at + 1) b) (at + 2) c) (at + 3) d) (at + 4) e) (at + 5) f) (at + 6) g) (at + 7) h

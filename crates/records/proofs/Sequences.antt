@@ -1,5 +1,5 @@
 -- Parts of a run one after the other. Assumes nothing.
-use Prim.Native.Nat.{ℕ, zero, suc, _+_, _*_, _-_, _<_, _≤_}
+use Prim.Native.Nat.{ℕ, suc, _+_, _*_, _-_, _<_, _≤_}
 use mathlib.Core.Path.{_≡_, refl, sym, ap, _∙_}
 use mathlib.Core.List.{List, [], _∷_}
 use mathlib.Core.Logic.{⊎-elim}
@@ -9,13 +9,13 @@ use lib.ListN.{length}
 use types.Run.{OneOf}
 use denote.Enum.Declared.{tagOf}
 use Rattle.language.specs.Tree.{Place}
-use Rattle.language.specs.Machine.{Outcome, Run, Record, after, _>>=_, _>>_, step, done, give, noMeaning, endAt}
+use Rattle.language.specs.Machine.{Outcome, Run, after, _>>_, step, done, noMeaning, endAt}
 use Rattle.language.specs.Machine as machine
 use Rattle.language.specs.Result.{writtenInto}
 use Rattle.records.specs.declared.State.{State}
 use Rattle.records.specs.declared.Answer.{Answer}
 use Rattle.records.specs.declared.Answer.the-variants.{Going, Ended, Stuck}
-use Rattle.records.specs.Outcomes.{FlatOutcome, going, ended, stuck, answerTold, flatOutcome, Holds, Does, Leads, OneStep, Stepped, stateOf}
+use Rattle.records.specs.Outcomes.{going, ended, stuck, answerTold, flatOutcome, Does, OneStep, Stepped, stateOf}
 use Rattle.records.proofs.Answer.{the-type}
 
 pub not-first : OneOf (1 ∷ 2 ∷ []) 0 → ⊥

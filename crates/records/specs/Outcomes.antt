@@ -1,12 +1,11 @@
 -- What the code's state, answer and output tell of a run.
-use Prim.Native.Nat.{ℕ, zero, suc, _+_, _*_, _/_, _%_, _≤_, _<_}
+use Prim.Native.Nat.{ℕ, _+_, _*_, _/_, _%_, _≤_, _<_}
 use mathlib.Core.Path.{_≡_}
 use mathlib.Core.List.{List, [], _∷_}
-use mathlib.Core.Bool.{Bool, true, false, cond}
-use lib.ListN.{length, take, drop}
+use lib.ListN.{length}
 use Rattle.language.specs.Limits.{recordSize}
 use Rattle.language.specs.Tree.{Place, Refusal}
-use Rattle.language.specs.Machine.{Outcome, Run, Record, Action, Frame, write, give, endAt, noMeaning}
+use Rattle.language.specs.Machine.{Outcome, Run, Record, Action, Frame, write}
 use Rattle.language.specs.Machine as machine
 use Rattle.language.specs.Result.{op, firstNumber, secondNumber, writtenInto}
 use Rattle.operands.specs.Meanings.{theBit}

@@ -1,20 +1,15 @@
 -- Reset and measure, as runs of the machine. Assumes nothing.
-use Prim.Native.Nat.{ℕ, zero, suc, _+_, _*_, _-_, _<_, _≤_}
-use mathlib.Core.Path.{_≡_, refl, sym, ap, _∙_, subst}
+use Prim.Native.Nat.{ℕ, _+_, _-_}
+use mathlib.Core.Path.{_≡_, sym, ap, _∙_}
 use mathlib.Core.List.{List, [], _∷_}
-use mathlib.Core.Bool.{Bool, true, false, cond}
-use native.Mathlib.Omega.{arith}
-use borrow.Author.Tests.{eq-eqb, ne-eqb, eqb-true, eqb-false}
-use lib.ListN.{length, getD, take, drop}
+use lib.ListN.{drop}
 use lib.Seq.{slice}
-use lib.Dec.{eqb}
 use lib.IntN.{ℤ}
 use types.Run.{OneOf}
 use denote.Enum.Declared.{tagOf}
-use Rattle.language.specs.Tree.{Place, badOperand, Gate, gateH, gateT, gateTdg}
+use Rattle.language.specs.Tree.{Place, badOperand}
 use Rattle.language.specs.Read.{fields, due, readOperand, operandDue}
-use Rattle.language.specs.Machine.{Meaning, Run, Frame, Direction, forward, backward, Condition, give, endAt, noMeaning, after, _>>=_, wireOf, write, written, doCx}
-use Rattle.language.specs.Result.{op, firstNumber, secondNumber}
+use Rattle.language.specs.Machine.{Meaning, Run, Direction, Condition, endAt, noMeaning, after, _>>=_, write}
 use Rattle.fields.specs.declared.Header.the-variants.{Whole}
 use Rattle.fields.proofs.Header.{the-type}
 use Rattle.fields.proofs.Between.{lookIn, in-whole}
@@ -23,9 +18,6 @@ use Rattle.operands.specs.declared.WireMeaning.the-variants.{Is, Over, Stuck}
 use Rattle.operands.specs.declared.Wire.{Wire}
 use Rattle.operands.specs.Meanings.{theWire, wireTold, WireAt, frameOf}
 use Rattle.operands.proofs.OperandFields.{wire-none}
-use Rattle.records.specs.declared.State.{State}
-use Rattle.records.specs.declared.Answer.{Answer}
-use Rattle.records.specs.Outcomes.{Does, ActionNumbers}
 use Rattle.gates.specs.declared.Mode.{Mode}
 use Rattle.reset_measure.specs.Tops.{resetAt, measureAt}
 use Rattle.operands.specs.declared.BitMeaning.{BitMeaning}

@@ -1,19 +1,18 @@
 -- From what the code's answer tells of a run to what a call comes to. Assumes nothing.
-use Prim.Native.Nat.{ℕ, zero, suc, _+_, _*_, _/_}
+use Prim.Native.Nat.{ℕ, _*_, _/_}
 use native.Mathlib.Omega.{arith}
-use mathlib.Core.Path.{_≡_, refl, sym, ap, _∙_}
+use mathlib.Core.Path.{_≡_, refl, sym}
 use mathlib.Core.List.{List, []}
-use lib.ListN.{length, drop}
+use lib.ListN.{length}
 use Rattle.language.specs.Limits.{recordSize}
 use Rattle.language.specs.Machine as machine
-use Rattle.language.specs.Machine.{Outcome, Run, Record, begin}
-use Rattle.language.specs.Result.{Result, Conclusion, finished, gotStuck, outputBytes, writtenInto, resultOf, conclusionOf, untouched}
-use Rattle.records.specs.declared.State.{State}
+use Rattle.language.specs.Machine.{Outcome, Run, begin}
+use Rattle.language.specs.Result.{outputBytes, writtenInto, resultOf, conclusionOf, untouched}
 use Rattle.records.specs.declared.Answer.{Answer}
 use Rattle.records.specs.declared.Answer.the-variants.{Going, Ended, Stuck}
 use Rattle.records.specs.Outcomes.{answerTold, flatOutcome, Holds, Does}
 use Rattle.runs.specs.Whole.{started}
-use Rattle.runs.specs.Conclusions.{resultIn, concluded}
+use Rattle.runs.specs.Conclusions.{concluded}
 
 -- a number of records, from its bytes
 records-of : (n at : ℕ) → 8 * n ≡ at → at / recordSize ≡ n

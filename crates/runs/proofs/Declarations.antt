@@ -1,19 +1,19 @@
 -- Top fields that declare something. Assumes nothing.
-use Prim.Native.Nat.{ℕ, zero, suc, _+_, _*_, _≤_, _<_}
+use Prim.Native.Nat.{ℕ, _+_, _*_, _≤_, _<_}
 use native.Mathlib.Omega.{arith}
 use mathlib.Core.Path.{_≡_, refl, sym, ap, _∙_, subst}
-use mathlib.Core.List.{List, [], _∷_, _++_, map}
+use mathlib.Core.List.{List, [], _∷_, _++_}
 use mathlib.Core.Bool.{Bool, true, false, cond}
-use lib.ListN.{length, take, getD, length-append}
+use lib.ListN.{length, take, length-append}
 use lib.Seq.{slice}
 use lib.IntN.{pos}
 use Rattle.language.specs.Limits.{mostWires, mostFamilies, mostRegisters, mostWires, mostBits}
-use Rattle.language.specs.Tree.{Place, Top, family, qreg, creg, measure, reset, if, statement, badTop, number, missing, Number, Ending, Statements, ParameterType}
-use Rattle.language.specs.Read.{read, field, readTop, readFamily, readRegister, registerSize, registerEnd, familyOf, choose, twoBytes}
+use Rattle.language.specs.Tree.{Place, Top, family, qreg, creg, measure, reset, if, statement, badTop, number, missing, Number, Ending}
+use Rattle.language.specs.Read.{read, field, readTop, readFamily, readRegister, registerSize, registerEnd, familyOf, choose}
 use Rattle.language.specs.Form.{constantForm}
 use Rattle.language.specs.Check as C
 use Rattle.language.specs.Check.{Declared, Signature, quantum, classical}
-use Rattle.language.specs.Machine.{Meaning, wires, bits, Globals, Family, Run, give, declared, allDeclared, actTop, declareTop, runTop, runTops, withFamilies, withWires, withBits, _>>=_, _>>_, after}
+use Rattle.language.specs.Machine.{wires, bits, Globals, Family, Run, give, declared, allDeclared, actTop, declareTop, runTop, runTops, withFamilies, withWires, withBits, _>>=_, _>>_, after}
 use Rattle.language.proofs.Accepted.{TopGood, aFamily, aQreg, aCreg, aMeasure, aReset, anIf, aStatement}
 use Rattle.kinds.specs.declared.Kind.the-variants.{Quantum, Classical}
 use Rattle.operands.specs.Meanings.{theWire, theBit, clipped, registerOf, registersOf}

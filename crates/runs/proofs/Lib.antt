@@ -1,3 +1,4 @@
+-- The laws and lemmas of crate runs, file by file.
 pub mod Reached
 pub mod Declarations
 pub mod TopActions

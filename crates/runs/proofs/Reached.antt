@@ -1,21 +1,16 @@
 -- What is known at a top field of an accepted program. Assumes nothing.
-use Prim.Native.Nat.{ℕ, zero, suc, _+_, _*_, _≤_, _<_}
+use Prim.Native.Nat.{ℕ, _+_}
 use native.Mathlib.Omega.{arith}
 use mathlib.Core.Path.{_≡_, refl, sym, ap, _∙_, subst}
 use mathlib.Core.List.{List, [], _∷_, _++_, map, append-assoc}
-use mathlib.Core.Bool.{Bool, true, false, cond}
-use lib.Dec.{eqb}
-use lib.ListN.{length, take, length-append}
+use lib.ListN.{length, take}
 use lib.Seq.{slice}
-use Rattle.language.specs.Limits.{mostRegisters, mostWires, mostBits}
-use Rattle.language.specs.Tree.{Top, family, qreg, creg, measure, reset, if, statement, badTop, number, missing, Number, Ending}
-use Rattle.language.specs.Read.{Field, field, badHeader, fields, read, readTop, readFamily, readRegister, twoBytes}
-use Rattle.language.specs.Check as C
+use Rattle.language.specs.Tree.{Top}
+use Rattle.language.specs.Read.{field, fields, read, readTop}
 use Rattle.language.specs.Check.{Declared, nothingDeclared, check, good}
 use Rattle.language.specs.Machine.{Family, declared, allDeclared}
-use Rattle.language.proofs.Accepted.{TopGood, aFamily, aQreg, aCreg, aMeasure, aReset, anIf, aStatement, TopsGood, noMore, andThen, tops-good}
+use Rattle.language.proofs.Accepted.{TopGood, TopsGood, andThen, tops-good}
 use Rattle.language.proofs.Families.{families-before}
-use Rattle.fields.specs.Header.{fieldsAt, headerOf}
 use Rattle.fields.specs.declared.Header.the-variants.{Whole}
 use Rattle.fields.proofs.Parts.{look, rest-is}
 use Rattle.fields.proofs.Headers.{when-whole}

@@ -1,20 +1,18 @@
 -- Top fields that declare nothing, and parts of a run that give the globals on. Assumes nothing.
-use Prim.Native.Nat.{ℕ, zero, suc, _+_, _*_}
+use Prim.Native.Nat.{ℕ, _+_, _*_}
 use native.Mathlib.Omega.{arith}
-use mathlib.Core.Path.{_≡_, refl, sym, ap, _∙_, subst}
+use mathlib.Core.Path.{_≡_, refl, sym, ap, _∙_}
 use mathlib.Core.List.{List, [], _∷_}
-use mathlib.Core.Bool.{Bool, true, false, cond}
 use borrow.Author.Tests.{ne-eqb}
 use types.Run.{OneOf}
 use denote.Enum.Declared.{tagOf}
-use lib.Dec.{eqb}
 use lib.ListN.{length}
 use lib.Seq.{slice}
-use Rattle.language.specs.Tree.{Place, Top, family, qreg, creg, measure, reset, if, statement, badTop, number, missing}
-use Rattle.language.specs.Read.{Reader, field, ofFields, choose, readTop, readFamily, readRegister, readIf, ifOf, measureOf, resetOf, outerStatement}
+use Rattle.language.specs.Tree.{Place, Top, family, qreg, creg, measure, reset, if, statement, badTop}
+use Rattle.language.specs.Read.{Reader, field, ofFields, choose, readTop, readIf, ifOf, measureOf, resetOf}
 use Rattle.language.specs.Check.{Declared}
 use Rattle.language.specs.Machine as machine
-use Rattle.language.specs.Machine.{Outcome, Run, Globals, Family, give, after, declared, allDeclared, runTops, runTop, _>>=_, _>>_}
+use Rattle.language.specs.Machine.{Outcome, Run, Globals, Family, give, after, declared, allDeclared, _>>=_, _>>_}
 use Rattle.language.specs.Result.{writtenInto}
 use Rattle.language.proofs.ReadLaws.{AllRows, choose-all}
 use Rattle.language.proofs.Accepted.{TopGood, aFamily, aQreg, aCreg, aMeasure, aReset, anIf, aStatement}
@@ -27,8 +25,7 @@ use Rattle.records.proofs.Sequences.{not-first}
 use Rattle.fields.specs.declared.Header.the-variants.{Whole}
 use Rattle.fields.proofs.Parts.{look}
 use Rattle.runs.specs.declared.Totals.{Totals}
-use Rattle.runs.specs.Whole.{topsAt}
-use Rattle.runs.proofs.Reached.{Counted, Reached, topOf, tops-next, reached-next}
+use Rattle.runs.proofs.Reached.{Reached, topOf, reached-next}
 
 -- ---- what declares nothing
 

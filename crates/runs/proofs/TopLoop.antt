@@ -16,7 +16,6 @@ use Rattle.language.specs.Tree.{Place, Top, family, qreg, creg, measure, reset,
 use Rattle.language.specs.Read.{Field, field, read, readTop, readIf, ifOf, choose}
 use Rattle.language.specs.Check.{Declared, check, good}
 use Rattle.language.specs.Lookup.{mapped}
-use Rattle.language.specs.Machine as machine
 use Rattle.language.specs.Machine.{actTop, declareTop, Run, Globals, give, noMeaning, after, allDeclared, runTop, runTops, nothingYet, _>>=_, _>>_}
 use Rattle.language.proofs.Accepted.{TopGood, aFamily, aQreg, aCreg, aMeasure, aReset, anIf, aStatement}
 use Rattle.language.proofs.Families.{family-at}

@@ -1,7 +1,7 @@
 -- Top fields by their tags, as runs of the machine. Assumes nothing.
 use Prim.Native.Nat.{ℕ, _+_, _*_, _-_, _≤_, _<_}
 use native.Mathlib.Omega.{arith}
-use mathlib.Core.Path.{_≡_, refl, sym, ap, _∙_, fun-ext}
+use mathlib.Core.Path.{_≡_, refl, sym, ap, _∙_}
 use mathlib.Core.List.{List, [], _∷_}
 use mathlib.Core.Bool.{Bool, true, false}
 use mathlib.Core.Logic.{_⊎_, inl, inr}
@@ -11,7 +11,6 @@ use lib.ListN.{length, take, drop, getD}
 use lib.Seq.{slice, drop-drop}
 use Rattle.language.specs.Tree.{Place, Top, family, qreg, creg, measure, reset, if, statement, badTop}
 use Rattle.language.specs.Read.{Field, field, fields, choose, readTop, readIf, ifOf, measureOf, resetOf, readStatement, statementsBy}
-use Rattle.language.specs.Machine as machine
 use Rattle.language.specs.Machine.{actTop, declareTop, runMeasure, runReset, runIf, Run, Frame, forward, always, endAt, Globals, Family, give, after, step, topFrame, inCondition, whenBit, noMeaning, runTop, inOrder, runStatement, runStatements, _>>=_, _>>_}
 use Rattle.language.proofs.Runs.{then-done}
 use types.Run.{OneOf}

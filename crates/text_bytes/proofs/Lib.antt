@@ -1,2 +1,3 @@
+-- The laws and lemmas of crate text_bytes, file by file.
 pub mod DecimalLaws
 pub mod Pieces

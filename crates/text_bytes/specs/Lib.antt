@@ -1,2 +1,3 @@
+-- The definitions of crate text_bytes, file by file.
 pub mod Decimal
 pub mod Buffers

@@ -10,10 +10,9 @@ use denote.Enum.Declared.{tagOf}
 use native.Mathlib.Decide.{decLt}
 use lib.ListN.{getElem?, drop}
 use lib.Dec.{eqb, leb}
-use lib.IntN.{_-ℤ_}
 use Rattle.language.specs.Tree.{badIndex, Argument, Statement, call, badStatement}
 use Rattle.language.specs.Read.{Field, field, fields, due, choose, outerIndex, readStatement, statementBy, deepStatement, statementsBy, gateOf, cxOf, callOf, forOf, isStatementTag}
-use Rattle.language.specs.Machine.{callFamily, runGate, runCx, runCall, runReverse, runFor, Run, Frame, flipped, noMeaning, evaluate, found, step, rounds, roundsOf, startOf, inRound, inDirection, runStatement, runStatements, _>>=_, _>>_}
+use Rattle.language.specs.Machine.{callFamily, runGate, runCx, runCall, runReverse, runFor, Run, Frame, flipped, noMeaning, found, step, inDirection, runStatement, runStatements, _>>=_, _>>_}
 use Rattle.language.proofs.Integers.{clash}
 use Rattle.fields.specs.CallNumber.{callReader, isCallTag}
 use Rattle.fields.proofs.CallNumbers.{call-read, named-bad, named-family}

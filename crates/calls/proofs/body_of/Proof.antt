@@ -2,7 +2,6 @@
 use borrow.Author.Needs.{needs}
 use Rattle.calls.proofs.body_of.Statement.{statement}
 use Rattle.calls.proofs.body_of.Tie as tie
-use native.Mathlib.Omega.{arith}
 use denote.Ref.{now}
 use mathlib.Core.Path.{sym}
 use Rattle.fields.specs.Table.{pastOf}

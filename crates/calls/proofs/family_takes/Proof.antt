@@ -2,9 +2,7 @@
 use borrow.Author.Needs.{needs}
 use Rattle.calls.proofs.family_takes.Statement.{statement}
 use Rattle.calls.proofs.family_takes.Tie as tie
-use Prim.Native.Nat.{_+_}
-use mathlib.Core.Path.{_≡_, refl, _∙_, ap, sym}
-use native.Mathlib.Omega.{arith}
+use mathlib.Core.Path.{_∙_, sym}
 use denote.Ref.{now}
 use Rattle.calls.proofs.Types.{family-sizes, family-count, family-types}
 

@@ -1,13 +1,9 @@
+-- `check_call::call` meets its contract. Assumes nothing.
 use borrow.Author.Needs.{needs}
 use Rattle.check_call.proofs.call.Statement.{statement}
 use Rattle.check_call.proofs.call.Tie as tie
-use Rattle.check_call.proofs.call.Reads as reads
-use Rattle.check_call.proofs.call.Lts as lts
-use Rattle.check_call.proofs.call_of.Reads as call-of-reads
-use Rattle.fields.proofs.family_named.Reads as family-named-reads
-use Rattle.fields.proofs.long.Reads as long-reads
 use borrow.Author.Needs.{needs}
-use mathlib.Core.Path.{_≡_, sym, ap, _∙_}
+use mathlib.Core.Path.{sym, ap, _∙_}
 use Prim.Native.Nat.{ℕ, _+_, _-_}
 use native.Mathlib.Omega.{arith}
 use denote.Ref.{now}
@@ -21,37 +17,30 @@ use Rattle.check_index.specs.Answers.{checkedPart}
 use Rattle.check_call.specs.Calls.{scopeFull}
 use Rattle.check_call.proofs.Calls.{call-unnamed}
 
--- src/lib.rt:212:41
 add-family-named : tie.Need-add-family-named
 add-family-named c =
     search needs
 
--- src/lib.rt:212:11
 family-named-requires : tie.Need-family-named-requires
 family-named-requires c κs =
     search needs
 
--- src/lib.rt:213:20
 enum-known-k : tie.Need-enum-known-k
 enum-known-k c =
     search needs
 
--- src/lib.rt:214:23
 enum-known-n : tie.Need-enum-known-n
 enum-known-n c =
     search needs
 
--- src/lib.rt:219:13
 long-requires : tie.Need-long-requires
 long-requires c κs =
     search needs
 
--- src/lib.rt:214:35
 call-of-requires : tie.Need-call-of-requires
 call-of-requires c κs =
     (c .before .before .before .before .before .before .before .pre .0 .1, (c .before .before .before .before .before .before .before .pre .1 .0, c .before .before .before .before .before .before .before .pre .1 .1))
 
--- src/lib.rt:195:1
 returns : tie.Need-returns
 unfolding checkedPart
 returns c =
@@ -61,7 +50,6 @@ returns c =
     let content = slice (a .at + 3) (a .next) program in
     call-unnamed s (a .at) (c .before .k .given .0 .0) (a .tag) content (named-bad (a .tag) (a .at + 3) content (c .before .k .given .0 .0) (sym (c .before .before .before .family-named .ensures) ∙ c .before .k .given .1) (a .at))
 
--- src/lib.rt:195:1
 returns-2 : tie.Need-returns-2
 unfolding fieldsAt
 returns-2 c =

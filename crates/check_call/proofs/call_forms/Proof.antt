@@ -1,9 +1,6 @@
+-- `check_call::call_forms` meets its contract. Assumes nothing.
 use Rattle.check_call.proofs.call_forms.Statement.{statement}
 use Rattle.check_call.proofs.call_forms.Tie as tie
-use Rattle.check_call.proofs.call_forms.Reads as reads
-use Rattle.check_call.proofs.call_forms.Lts as lts
-use Rattle.check_index.proofs.index.Reads as index-reads
-use Rattle.check_operand.proofs.must_show.Reads as must-show-reads
 use mathlib.Core.Path.{_≡_, sym, ap, _∙_}
 use mathlib.Core.List.{List, map, _++_}
 use Prim.Native.Nat.{ℕ, suc, _+_, _-_, _≤_}

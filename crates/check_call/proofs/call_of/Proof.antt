@@ -1,11 +1,7 @@
+-- `check_call::call_of` meets its contract. Assumes nothing.
 use borrow.Author.Needs.{needs}
 use Rattle.check_call.proofs.call_of.Statement.{statement}
 use Rattle.check_call.proofs.call_of.Tie as tie
-use Rattle.check_call.proofs.call_of.Reads as reads
-use Rattle.check_call.proofs.call_of.Lts as lts
-use Rattle.check_call.proofs.call_forms.Reads as call-forms-reads
-use Rattle.check_call.proofs.call_operands.Reads as call-operands-reads
-use Rattle.fields.proofs.long.Reads as long-reads
 use borrow.Author.Needs.{needs}
 use mathlib.Core.Path.{ap, _∙_}
 use Prim.Native.Nat.{ℕ}
@@ -26,7 +22,6 @@ use Rattle.check_call.proofs.Calls.{call-beyond, call-stops, call-good}
 use Rattle.check_index.proofs.Answers.{count-upto}
 use Rattle.check_call.proofs.Forms.{four-rows}
 
--- src/lib.rt:166:9
 returns : tie.Need-returns
 unfolding checkedPart
 returns c =
@@ -37,68 +32,56 @@ returns c =
     let n = a .n in
     call-beyond s (a .at) (a .from) n program (a .next) (row-none (signatureAt (now (a .families)) (now (a .kinds)) (now (a .sizes))) (a .s .families) 0 n (c .if1 .taken))
 
--- src/lib.rt:168:18
 mul-family : tie.Need-mul-family
 mul-family c =
     let d = c .before .before .before .before .pre .1 .1 .enough in
     let h = c .if1 .left in
     omega (arith, c .before .before .before .before .good)
 
--- src/lib.rt:168:18
 shared-slice-copy-out-family : tie.Need-shared-slice-copy-out-family
 shared-slice-copy-out-family c =
     let d = c .before .before .before .before .pre .1 .1 .enough in
     let h = c .if1 .left in
     omega (arith, c .before .before .before .before .good)
 
--- src/lib.rt:169:26
 array-read-long : tie.Need-array-read-long
 array-read-long c =
     search needs
 
--- src/lib.rt:169:9
 long-requires : tie.Need-long-requires
 long-requires c κs =
     search needs
 
--- src/lib.rt:170:30
 array-read-long-2 : tie.Need-array-read-long-2
 array-read-long-2 c =
     search needs
 
--- src/lib.rt:170:9
 long-requires-2 : tie.Need-long-requires-2
 long-requires-2 c κs =
     search needs
 
--- src/lib.rt:171:30
 array-read-long-3 : tie.Need-array-read-long-3
 array-read-long-3 c =
     search needs
 
--- src/lib.rt:171:9
 long-requires-3 : tie.Need-long-requires-3
 long-requires-3 c κs =
     search needs
 
--- src/lib.rt:173:9
 call-forms-requires : tie.Need-call-forms-requires
 call-forms-requires c κs =
     let r = c .before .before .before .before .before .before .before .before .before .pre .1 .0 in
     let d = c .before .before .before .before .before .before .before .before .before .pre .1 .1 .each (c .before .before .before .before .before .before .before .before .before .args .n) (c .before .before .before .before .before .if1 .left) in
     (c .before .before .before .before .before .before .before .before .before .pre .0, (omega (arith, d .few, c .before .before .before .long .ensures .0), (record { few = r .few; nested = r .nested; lowRows = r .lowRows; highRows = r .highRows }, four-rows)))
 
--- src/lib.rt:174:20
 enum-known-r : tie.Need-enum-known-r
 enum-known-r c =
     search needs
 
--- src/lib.rt:175:9
 enum-told : tie.Need-enum-told
 enum-told c =
     search needs
 
--- src/lib.rt:175:9
 returns-2 : tie.Need-returns-2
 returns-2 c =
     let a = c .before .before .before .before .before .before .before .before .before .before .before .before .args in
@@ -114,13 +97,11 @@ returns-2 c =
     let e = c .before .before .before .before .before .before .long .ensures .0 in
     call-stops s (a .at) (a .from) n program (a .next) f get (c .before .before .call-forms .result) l m e (c .before .before .call-forms .ensures .0 fs ks) (c .before .match .keys2)
 
--- src/lib.rt:177:5
 call-operands-requires : tie.Need-call-operands-requires
 call-operands-requires c κs =
     let d = c .before .before .before .before .before .before .before .before .before .before .before .before .before .before .pre .1 .1 .each (c .before .before .before .before .before .before .before .before .before .before .before .before .before .before .args .n) (c .before .before .before .before .before .before .before .before .before .before .if1 .left) in
     (c .before .before .before .before .before .before .before .before .before .before .before .before .before .before .pre .0, (omega (arith, d .few, c .before .before .before .before .before .before .before .before .long .ensures .0), (c .before .before .before .before .call-forms .ensures .1 .1, (omega (arith, d .inside, c .before .before .before .before .before .before .before .long2 .ensures .0, c .before .before .before .before .before .before .long3 .ensures .0), c .before .before .before .before .before .before .before .before .before .before .before .before .before .before .pre .1 .0))))
 
--- src/lib.rt:147:1
 returns-3 : tie.Need-returns-3
 returns-3 c =
     let a = c .before .before .before .before .before .before .before .before .before .before .before .before .before .before .before .args in

@@ -1,11 +1,6 @@
+-- `check_call::call_operands` meets its contract. Assumes nothing.
 use Rattle.check_call.proofs.call_operands.Statement.{statement}
 use Rattle.check_call.proofs.call_operands.Tie as tie
-use Rattle.check_call.proofs.call_operands.Reads as reads
-use Rattle.check_call.proofs.call_operands.Lts as lts
-use Rattle.check_call.proofs.taken_by.Reads as taken-by-reads
-use Rattle.check_operand.proofs.kind_by.Reads as kind-by-reads
-use Rattle.check_operand.proofs.operand.Reads as operand-reads
-use Rattle.check_operand.proofs.size_by.Reads as size-by-reads
 use mathlib.Core.Path.{_≡_, refl, sym, ap, _∙_}
 use mathlib.Core.List.{List, [], map}
 use Prim.Native.Nat.{ℕ, suc, _+_, _-_, _≤_}
@@ -35,12 +30,10 @@ abbrev μ-loop : tie.MeasureT-loop
 μ-loop program at to parent first count forms m s kinds sizes lows highs from₀ j₀ from j =
     count - j
 
--- src/lib.rt:115:5
 loop-holds : tie.Need-loop-holds Inv-loop μ-loop
 loop-holds c =
     (omega arith, λ fs. refl)
 
--- src/lib.rt:116:19
 add-row : tie.Need-add-row Inv-loop μ-loop
 add-row c =
     let h = c .loop-test .taken in
@@ -48,7 +41,6 @@ add-row c =
     let r = c .before .before .before .before .pre .1 .1 .1 .1 .kindRows in
     omega (arith, c .before .before .before .before .good)
 
--- src/lib.rt:118:22
 mul-number : tie.Need-mul-number Inv-loop μ-loop
 mul-number c =
     let h = c .loop-test .taken in
@@ -56,7 +48,6 @@ mul-number c =
     let r = c .before .before .before .before .pre .1 .1 .1 .1 .kindRows in
     omega (arith, c .before .before .before .before .good)
 
--- src/lib.rt:118:22
 shared-slice-read-number : tie.Need-shared-slice-read-number Inv-loop μ-loop
 shared-slice-read-number c =
     let h = c .before .loop-test .taken in
@@ -64,48 +55,39 @@ shared-slice-read-number c =
     let r = c .before .before .before .before .before .pre .1 .1 .1 .1 .kindRows in
     omega (arith, c .before .before .before .before .before .good)
 
--- src/lib.rt:119:13
 kind-by-requires : tie.Need-kind-by-requires Inv-loop μ-loop
 kind-by-requires c κs =
     search needs
 
--- src/lib.rt:120:13
 size-by-requires : tie.Need-size-by-requires Inv-loop μ-loop
 size-by-requires c κs =
     search needs
 
--- src/lib.rt:121:37
 mul-taken-by : tie.Need-mul-taken-by Inv-loop μ-loop
 mul-taken-by c =
     omega (arith, c .before .before .before .before .before .before .before .good, c .size-by .ensures, c .before .before .before .before .before .before .before .pre .1 .1 .1 .1 .named (c .before .before .before .before .before .before .before .args .first + c .before .before .before .before .loop .j))
 
--- src/lib.rt:121:37
 shared-slice-element-taken-by : tie.Need-shared-slice-element-taken-by Inv-loop μ-loop
 shared-slice-element-taken-by c =
     omega (arith, c .before .before .before .before .before .before .before .good, c .size-by .ensures, c .before .before .before .before .before .before .before .pre .1 .1 .1 .1 .named (c .before .before .before .before .before .before .before .args .first + c .before .before .before .before .loop .j))
 
--- src/lib.rt:121:13
 taken-by-requires : tie.Need-taken-by-requires Inv-loop μ-loop
 taken-by-requires c κs =
     let a = c .before .before .before .before .before .before .before .before .before .args in
     (c .before .before .before .before .before .before .before .before .before .pre .1 .1 .1 .1 .sizeRows .each (c .before .before .size-by .result) (omega (arith, c .before .before .size-by .ensures, c .before .before .before .before .before .before .before .before .before .pre .1 .1 .1 .1 .named (a .first + c .before .before .before .before .before .before .loop .j))), (c .before .before .before .before .before .before .before .before .before .pre .1 .0, c .before .before .before .before .before .before .before .before .before .pre .1 .1 .0))
 
--- src/lib.rt:122:13
 operand-requires : tie.Need-operand-requires Inv-loop μ-loop
 operand-requires c κs =
     (c .before .before .before .before .before .before .before .before .before .before .before .pre .0, (c .before .taken-by .ensures .1, c .before .before .before .before .before .before .before .before .before .before .before .pre .1 .1 .1 .1))
 
--- src/lib.rt:135:24
 enum-known-r : tie.Need-enum-known-r Inv-loop μ-loop
 enum-known-r c =
     search needs
 
--- src/lib.rt:136:13
 enum-told : tie.Need-enum-told Inv-loop μ-loop
 enum-told c =
     search needs
 
--- src/lib.rt:136:13
 returns : tie.Need-returns Inv-loop μ-loop
 returns c =
     let a = c .before .before .before .before .before .before .before .before .before .before .before .before .before .before .args in
@@ -126,17 +108,14 @@ returns c =
       ends-stops (c .before .before .operand .result) (a .to) (c .before .match .keys2),
     )
 
--- src/lib.rt:115:9
 add-j : tie.Need-add-j Inv-loop μ-loop
 add-j c =
     search needs
 
--- src/lib.rt:115:5
 loop-less : tie.Need-loop-less Inv-loop μ-loop
 loop-less c =
     search needs
 
--- src/lib.rt:115:5
 loop-again : tie.Need-loop-again Inv-loop μ-loop
 loop-again c =
     let a = c .before .before .before .before .before .before .before .before .before .before .before .before .before .before .before .args in
@@ -161,7 +140,6 @@ loop-again c =
           ∙ rw add-one (ap (λ (l : List Field). callOperands (s fs) (a .parent) gs (drop (suc (i .j)) ks) (map readArgument l)) (v .rest))),
     )
 
--- src/lib.rt:141:9
 returns-2 : tie.Need-returns-2 Inv-loop μ-loop
 unfolding checkedPart
 returns-2 c =
@@ -174,7 +152,6 @@ returns-2 c =
     let e = drop-end (λ (x : ℕ). kindAt x (now (a .kinds)) (now (a .sizes))) (a .count) (a .first) (i .j) (c .before .loop-test .left) in
     (λ fs. sym (i .inv .1 fs ∙ ap (λ (l : List Kind). callOperands (s fs) (a .parent) gs l (map readArgument (fieldsAt program (i .from) (a .to)))) e ∙ operands-left (s fs) (a .parent) gs program (i .from) (a .to) (c .if1 .taken) (c .before .before .before .before .before .pre .0)), tt)
 
--- src/lib.rt:91:1
 returns-3 : tie.Need-returns-3 Inv-loop μ-loop
 unfolding checkedPart
 returns-3 c =

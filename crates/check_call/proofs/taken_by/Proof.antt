@@ -1,9 +1,7 @@
+-- `check_call::taken_by` meets its contract. Assumes nothing.
 use borrow.Author.Needs.{needs}
 use Rattle.check_call.proofs.taken_by.Statement.{statement}
 use Rattle.check_call.proofs.taken_by.Tie as tie
-use Rattle.check_call.proofs.taken_by.Reads as reads
-use Rattle.check_call.proofs.taken_by.Lts as lts
-use Rattle.forms.proofs.put_in.Reads as put-in-reads
 use mathlib.Core.Path.{sym, ap, _∙_}
 use denote.Ref.{now}
 use Rattle.language.specs.Check.{register, taken}

@@ -1,9 +1,7 @@
+-- `check_declaration::family_counts` meets its contract. Assumes nothing.
 use borrow.Author.Needs.{needs}
 use Rattle.check_declaration.proofs.family_counts.Statement.{statement}
 use Rattle.check_declaration.proofs.family_counts.Tie as tie
-use Rattle.check_declaration.proofs.family_counts.Reads as reads
-use Rattle.check_declaration.proofs.family_counts.Lts as lts
-use Rattle.fields.proofs.wide.Reads as wide-reads
 use mathlib.Core.Path.{_≡_, sym, ap, _∙_}
 use mathlib.Core.List.{_∷_}
 use Prim.Native.Nat.{ℕ, _+_}

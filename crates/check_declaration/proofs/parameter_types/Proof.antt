@@ -1,8 +1,6 @@
+-- `check_declaration::parameter_types` meets its contract. Assumes nothing.
 use Rattle.check_declaration.proofs.parameter_types.Statement.{statement}
 use Rattle.check_declaration.proofs.parameter_types.Tie as tie
-use Rattle.check_declaration.proofs.parameter_types.Reads as reads
-use Rattle.check_declaration.proofs.parameter_types.Lts as lts
-use Rattle.check_declaration.proofs.typed_row.Reads as typed-row-reads
 use mathlib.Core.Path.{_≡_, sym, ap, _∙_}
 use mathlib.Core.List.{List, [], _++_}
 use Prim.Native.Nat.{ℕ, suc, _+_, _-_, _≤_}
@@ -28,43 +26,35 @@ abbrev μ-loop : tie.MeasureT-loop
 μ-loop program at to parent m count first registers kinds₀ sizes₀ from₀ j₀ kinds sizes from j =
     count - j
 
--- src/lib.rt:185:5
 loop-holds : tie.Need-loop-holds Inv-loop μ-loop
 loop-holds c =
     let a = c .before .before .args in
     (omega arith, apart-none (length (now (a .program))) (a .first) (a .count) (now (a .kinds)) (now (a .sizes)) (c .before .before .pre .1 .1 .1 .1), beyond-none (now (a .program)) (a .at) (a .to), in-use-later (a .first) (a .first + 0) (a .registers) (a .at) (a .at) (now (a .kinds)) (c .before .before .pre .1 .1 .1 .0) (omega arith) (omega (arith, c .before .before .pre .1 .1 .1 .0 .few)), c .before .before .pre .1 .1 .0 .0, (λ fs ks. let z : a .count - 0 ≡ a .count = omega arith in rw z (no-kinds _ (a .first) (now (a .kinds)) (now (a .sizes)))))
 
--- src/lib.rt:186:19
 add-row : tie.Need-add-row Inv-loop μ-loop
 add-row c =
     omega (arith, c .before .loop .inv .3 .few, c .before .loop .inv .4, c .before .before .before .before .pre .0, c .before .before .before .before .pre .1 .1 .0 .1)
 
--- src/lib.rt:187:13
 typed-row-requires : tie.Need-typed-row-requires Inv-loop μ-loop
 typed-row-requires c κs =
     (c .before .before .before .before .before .before .pre .0, (c .before .before .before .before .before .before .pre .1 .0, (c .before .before .before .before .before .before .pre .1 .1 .0 .1, (c .before .before .before .loop .inv .3, c .before .before .before .loop .inv .1 .table))))
 
--- src/lib.rt:188:24
 enum-known-r : tie.Need-enum-known-r Inv-loop μ-loop
 enum-known-r c =
     search needs
 
--- src/lib.rt:189:13
 enum-told : tie.Need-enum-told Inv-loop μ-loop
 enum-told c =
     search needs
 
--- src/lib.rt:189:13
 same-length : tie.Need-same-length Inv-loop μ-loop
 same-length c =
     c .before .before .before .before .before .typed-row .ensures .1 .1 .1 .kindsSame ∙ c .before .before .before .before .before .before .before .before .before .loop .inv .1 .kindsSame
 
--- src/lib.rt:189:13
 same-length-2 : tie.Need-same-length-2 Inv-loop μ-loop
 same-length-2 c =
     c .before .before .before .before .before .typed-row .ensures .1 .1 .1 .sizesSame ∙ c .before .before .before .before .before .before .before .before .before .loop .inv .1 .sizesSame
 
--- src/lib.rt:189:13
 returns : tie.Need-returns Inv-loop μ-loop
 returns c =
     let a = c .before .before .before .before .before .before .before .before .before .before .before .before .args in
@@ -81,17 +71,14 @@ returns c =
       (beyond-stops program (a .at) (a .to) (a .count) (c .before .before .before .before .before .typed-row .result) (c .before .match .keys2), (in-use-stops (a .first + a .count) (a .registers) (a .to) (c .before .before .before .before .before .typed-row .result) kinds (c .before .match .keys2), apart-more (length program) (a .first) (a .count) (i .j) (c .before .before .before .before .before .before .before .before .loop-test .taken) (i .inv .1) (c .before .before .before .before .before .typed-row .ensures .1 .1 .1))),
     )
 
--- src/lib.rt:185:9
 add-j : tie.Need-add-j Inv-loop μ-loop
 add-j c =
     search needs
 
--- src/lib.rt:185:5
 loop-less : tie.Need-loop-less Inv-loop μ-loop
 loop-less c =
     search needs
 
--- src/lib.rt:185:5
 loop-again : tie.Need-loop-again Inv-loop μ-loop
 loop-again c =
     let a = c .before .before .before .before .before .before .before .before .before .before .before .before .before .args in
@@ -116,17 +103,14 @@ loop-again c =
           ∙ more-kinds (kindsOf (scopeWith fs ks (a .m) []) (typesOf (a .parent) (a .count - (i .j + 1)) (fieldsAt program next (a .to)))) (length program) (a .first) (a .count) (i .j) (c .before .before .before .before .before .before .typed-row .ensures .1 .1 .1)),
     )
 
--- src/lib.rt:162:1
 same-length-3 : tie.Need-same-length-3 Inv-loop μ-loop
 same-length-3 c =
     c .before .loop .inv .1 .kindsSame
 
--- src/lib.rt:162:1
 same-length-4 : tie.Need-same-length-4 Inv-loop μ-loop
 same-length-4 c =
     c .before .loop .inv .1 .sizesSame
 
--- src/lib.rt:162:1
 returns-2 : tie.Need-returns-2 Inv-loop μ-loop
 unfolding checkedRows
 returns-2 c =

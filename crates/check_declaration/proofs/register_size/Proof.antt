@@ -1,9 +1,7 @@
+-- `check_declaration::register_size` meets its contract. Assumes nothing.
 use borrow.Author.Needs.{needs}
 use Rattle.check_declaration.proofs.register_size.Statement.{statement}
 use Rattle.check_declaration.proofs.register_size.Tie as tie
-use Rattle.check_declaration.proofs.register_size.Reads as reads
-use Rattle.check_declaration.proofs.register_size.Lts as lts
-use Rattle.fields.proofs.two_bytes.Reads as two-bytes-reads
 use mathlib.Core.Path.{_≡_, ap, _∙_}
 use mathlib.Core.List.{List, _∷_}
 use Prim.Native.Nat.{ℕ, _+_}

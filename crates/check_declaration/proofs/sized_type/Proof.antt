@@ -1,10 +1,7 @@
+-- `check_declaration::sized_type` meets its contract. Assumes nothing.
 use borrow.Author.Needs.{needs}
 use Rattle.check_declaration.proofs.sized_type.Statement.{statement}
 use Rattle.check_declaration.proofs.sized_type.Tie as tie
-use Rattle.check_declaration.proofs.sized_type.Reads as reads
-use Rattle.check_declaration.proofs.sized_type.Lts as lts
-use Rattle.check_index.proofs.index.Reads as index-reads
-use Rattle.check_operand.proofs.must_show.Reads as must-show-reads
 use mathlib.Core.Path.{refl}
 use Prim.Native.Nat.{_+_}
 use native.Mathlib.Omega.{arith}

@@ -1,11 +1,6 @@
+-- `check_declaration::typed_row` meets its contract. Assumes nothing.
 use Rattle.check_declaration.proofs.typed_row.Statement.{statement}
 use Rattle.check_declaration.proofs.typed_row.Tie as tie
-use Rattle.check_declaration.proofs.typed_row.Reads as reads
-use Rattle.check_declaration.proofs.typed_row.Lts as lts
-use Rattle.check_declaration.proofs.parameter_type.Reads as parameter-type-reads
-use Rattle.check_declaration.proofs.row_number.Reads as row-number-reads
-use Rattle.check_declaration.proofs.size_row.Reads as size-row-reads
-use Rattle.forms.proofs.store.Reads as store-reads
 use borrow.Author.Needs.{needs}
 use mathlib.Core.Path.{_≡_, _∙_}
 use Prim.Native.Nat.{ℕ, _+_, _<_}
@@ -23,22 +18,18 @@ use Rattle.kinds.specs.declared.Kind.the-variants.{Qubit, Quantum}
 use Rattle.check_operand.specs.Tables.{scopeWith, sizeOfRow}
 use Rattle.check_declaration.proofs.Sizes.{narrow}
 
--- src/lib.rt:144:11
 parameter-type-requires : tie.Need-parameter-type-requires
 parameter-type-requires c κs =
     search needs
 
--- src/lib.rt:145:26
 enum-known-next : tie.Need-enum-known-next
 enum-known-next c =
     search needs
 
--- src/lib.rt:146:26
 row-number-requires : tie.Need-row-number-requires
 row-number-requires c κs =
     search needs
 
--- src/lib.rt:146:13
 mul-kinds : tie.Need-mul-kinds
 mul-kinds c =
     let a = c .before .before .before .before .before .before .before .before .args in
@@ -54,7 +45,6 @@ mul-kinds c =
     let h : a .row < length kinds = omega (arith, u .low, u .high, c .before .before .before .before .before .before .before .before .pre .0, t .kindsLong, before .few) in
     omega (arith, c .before .before .before .before .before .before .before .before .good)
 
--- src/lib.rt:146:13
 slice-write-kinds : tie.Need-slice-write-kinds
 slice-write-kinds c =
     let a = c .before .before .before .before .before .before .before .before .args in
@@ -70,12 +60,10 @@ slice-write-kinds c =
     let h : a .row < length kinds = omega (arith, u .low, u .high, c .before .before .before .before .before .before .before .before .pre .0, t .kindsLong, before .few) in
     omega (arith, c .before .before .before .before .before .before .before .before .good)
 
--- src/lib.rt:149:24
 enum-known-next-2 : tie.Need-enum-known-next-2
 enum-known-next-2 c =
     search needs
 
--- src/lib.rt:151:13
 store-requires : tie.Need-store-requires
 store-requires c κs =
     let a = c .before .before .before .before .before .before .before .before .before .args in
@@ -92,7 +80,6 @@ store-requires c κs =
     let few = c .before .before .before .before .before .before .before .before .before .pre .1 .0 in
     (u .1, narrow (c .before .before .before .before .before .parameter-type .result) next l (scopeWith [] [] (a .m) []) (due readType (badType 4 (a .parent)) (fieldsAt program (a .at) (a .to))) (c .before .before .before .next2 .given .1) (u .1) (c .before .before .before .before .before .parameter-type .ensures .0 [] []) (omega arith))
 
--- src/lib.rt:152:17
 size-row-requires : tie.Need-size-row-requires
 size-row-requires c κs =
     let a = c .before .before .before .before .before .before .before .before .before .before .args in
@@ -108,7 +95,6 @@ size-row-requires c κs =
     let h : a .row < length kinds = omega (arith, u .0 .low, u .0 .high, c .before .before .before .before .before .before .before .before .before .before .pre .0, t .kindsLong, before .few) in
     (omega (arith, u .0 .low, u .0 .high, c .before .before .before .before .before .before .before .before .before .before .pre .0, c .before .before .before .before .before .before .before .before .before .before .pre .1 .1 .0), before .fewRegisters)
 
--- src/lib.rt:153:26
 row-number-requires-2 : tie.Need-row-number-requires-2
 row-number-requires-2 c κs =
     let a = c .before .before .before .before .before .before .before .before .before .before .before .args in
@@ -124,7 +110,6 @@ row-number-requires-2 c κs =
     let h : a .row < length kinds = omega (arith, u .0 .low, u .0 .high, c .before .before .before .before .before .before .before .before .before .before .before .pre .0, t .kindsLong, before .few) in
     omega (arith, c .size-row .ensures, before .fewRegisters, u .0 .low, u .0 .high, c .before .before .before .before .before .before .before .before .before .before .before .pre .0, c .before .before .before .before .before .before .before .before .before .before .before .pre .1 .1 .0)
 
--- src/lib.rt:153:13
 mul-kinds-2 : tie.Need-mul-kinds-2
 mul-kinds-2 c =
     let a = c .before .before .before .before .before .before .before .before .before .before .before .before .args in
@@ -140,7 +125,6 @@ mul-kinds-2 c =
     let h : a .row < length kinds = omega (arith, u .0 .low, u .0 .high, c .before .before .before .before .before .before .before .before .before .before .before .before .pre .0, t .kindsLong, before .few) in
     omega (arith, c .before .before .before .before .before .before .before .before .before .before .before .before .good)
 
--- src/lib.rt:153:13
 slice-write-kinds-2 : tie.Need-slice-write-kinds-2
 slice-write-kinds-2 c =
     let a = c .before .before .before .before .before .before .before .before .before .before .before .before .args in
@@ -156,7 +140,6 @@ slice-write-kinds-2 c =
     let h : a .row < length kinds = omega (arith, u .0 .low, u .0 .high, c .before .before .before .before .before .before .before .before .before .before .before .before .pre .0, t .kindsLong, before .few) in
     omega (arith, c .before .before .before .before .before .before .before .before .before .before .before .before .good)
 
--- src/lib.rt:154:13
 mul-t29 : tie.Need-mul-t29
 mul-t29 c =
     let a = c .before .before .before .before .before .before .before .before .before .before .before .before .args in
@@ -175,7 +158,6 @@ mul-t29 c =
     let f : own < length sizes = omega (arith, u .0 .low, u .0 .high, c .before .before .before .before .before .before .before .before .before .before .before .before .pre .0, t .sizesLong, before .fewRegisters) in
     omega (arith, c .before .before .before .before .before .before .before .before .before .before .before .before .good)
 
--- src/lib.rt:154:13
 slice-set-from-sizes : tie.Need-slice-set-from-sizes
 slice-set-from-sizes c =
     let a = c .before .before .before .before .before .before .before .before .before .before .before .before .args in
@@ -194,17 +176,14 @@ slice-set-from-sizes c =
     let f : own < length sizes = omega (arith, u .0 .low, u .0 .high, c .before .before .before .before .before .before .before .before .before .before .before .before .pre .0, t .sizesLong, before .fewRegisters) in
     omega (arith, c .before .before .before .before .before .before .before .before .before .before .before .before .good)
 
--- src/lib.rt:157:23
 enum-known-n : tie.Need-enum-known-n
 enum-known-n c =
     search needs
 
--- src/lib.rt:122:1
 same-length : tie.Need-same-length
 same-length c =
     search needs
 
--- src/lib.rt:122:1
 returns : tie.Need-returns
 returns c =
     let a = c .before .before .before .before .before .before .before .before .args in
@@ -227,17 +206,14 @@ returns c =
       ),
     )
 
--- src/lib.rt:122:1
 same-length-2 : tie.Need-same-length-2
 same-length-2 c =
     search needs
 
--- src/lib.rt:122:1
 same-length-3 : tie.Need-same-length-3
 same-length-3 c =
     search needs
 
--- src/lib.rt:122:1
 returns-2 : tie.Need-returns-2
 returns-2 c =
     let a = c .before .before .before .before .before .before .before .before .before .before .before .before .args in
@@ -265,7 +241,6 @@ returns-2 c =
       ),
     )
 
--- src/lib.rt:122:1
 returns-3 : tie.Need-returns-3
 returns-3 c =
     let a = c .before .before .before .before .before .before .before .args in

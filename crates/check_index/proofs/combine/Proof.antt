@@ -1,11 +1,7 @@
+-- `check_index::combine` meets its contract. Assumes nothing.
 use borrow.Author.Needs.{needs}
 use Rattle.check_index.proofs.combine.Statement.{statement}
 use Rattle.check_index.proofs.combine.Tie as tie
-use Rattle.check_index.proofs.combine.Reads as reads
-use Rattle.check_index.proofs.combine.Lts as lts
-use Rattle.check_index.proofs.product.Reads as product-reads
-use Rattle.forms.proofs.add.Reads as add-reads
-use Rattle.forms.proofs.subtract.Reads as subtract-reads
 use mathlib.Core.Path.{refl, sym, ap, _∙_}
 use denote.Ref.{now}
 use Rattle.language.specs.Check.{combined}

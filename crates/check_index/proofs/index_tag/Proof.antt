@@ -1,7 +1,6 @@
+-- `check_index::index_tag` meets its contract. Assumes nothing.
 use Rattle.check_index.proofs.index_tag.Statement.{statement}
 use Rattle.check_index.proofs.index_tag.Tie as tie
-use Rattle.check_index.proofs.index_tag.Reads as reads
-use Rattle.check_index.proofs.index_tag.Lts as lts
 use borrow.Author.Tests.{ne-eqb}
 use Rattle.check_index.specs.Indexes.{treeOperation}
 use Rattle.language.specs.Read.{indexBy, choose}

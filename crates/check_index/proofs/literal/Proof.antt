@@ -1,10 +1,7 @@
+-- `check_index::literal` meets its contract. Assumes nothing.
 use borrow.Author.Needs.{needs}
 use Rattle.check_index.proofs.literal.Statement.{statement}
 use Rattle.check_index.proofs.literal.Tie as tie
-use Rattle.check_index.proofs.literal.Reads as reads
-use Rattle.check_index.proofs.literal.Lts as lts
-use Rattle.fields.proofs.two_bytes.Reads as two-bytes-reads
-use Rattle.forms.proofs.set_constant.Reads as set-constant-reads
 use mathlib.Core.Path.{refl, sym, ap, _∙_}
 use Prim.Native.Nat.{_+_}
 use native.Mathlib.Omega.{arith}

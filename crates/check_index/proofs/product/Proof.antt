@@ -1,9 +1,7 @@
+-- `check_index::product` meets its contract. Assumes nothing.
 use borrow.Author.Needs.{needs}
 use Rattle.check_index.proofs.product.Statement.{statement}
 use Rattle.check_index.proofs.product.Tie as tie
-use Rattle.check_index.proofs.product.Reads as reads
-use Rattle.check_index.proofs.product.Lts as lts
-use Rattle.forms.proofs.multiply.Reads as multiply-reads
 use mathlib.Core.Path.{refl}
 use Rattle.forms.specs.Products.{productOf}
 use Rattle.check_index.specs.Answers.{checkedForm}

@@ -1,7 +1,6 @@
+-- `check_index::too_deep` meets its contract. Assumes nothing.
 use Rattle.check_index.proofs.too_deep.Statement.{statement}
 use Rattle.check_index.proofs.too_deep.Tie as tie
-use Rattle.check_index.proofs.too_deep.Reads as reads
-use Rattle.check_index.proofs.too_deep.Lts as lts
 use Rattle.check_index.proofs.Forms.{deep-below, deep-above, deep-index}
 
 returns : tie.Need-returns

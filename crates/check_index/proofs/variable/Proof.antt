@@ -1,10 +1,7 @@
+-- `check_index::variable` meets its contract. Assumes nothing.
 use borrow.Author.Needs.{needs}
 use Rattle.check_index.proofs.variable.Statement.{statement}
 use Rattle.check_index.proofs.variable.Tie as tie
-use Rattle.check_index.proofs.variable.Reads as reads
-use Rattle.check_index.proofs.variable.Lts as lts
-use Rattle.fields.proofs.wide.Reads as wide-reads
-use Rattle.forms.proofs.set_variable.Reads as set-variable-reads
 use mathlib.Core.Path.{_≡_, refl, ap, _∙_}
 use Prim.Native.Nat.{_+_}
 use native.Mathlib.Omega.{arith}

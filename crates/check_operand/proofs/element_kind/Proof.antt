@@ -1,8 +1,7 @@
+-- `check_operand::element_kind` meets its contract. Assumes nothing.
 use borrow.Author.Needs.{needs}
 use Rattle.check_operand.proofs.element_kind.Statement.{statement}
 use Rattle.check_operand.proofs.element_kind.Tie as tie
-use Rattle.check_operand.proofs.element_kind.Reads as reads
-use Rattle.check_operand.proofs.element_kind.Lts as lts
 use mathlib.Core.Path.{refl, sym, ap, _∙_}
 use Rattle.language.specs.Check.{elementSize}
 use Rattle.check_operand.specs.declared.Wanted.{Wanted}

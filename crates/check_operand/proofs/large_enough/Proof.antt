@@ -1,11 +1,7 @@
+-- `check_operand::large_enough` meets its contract. Assumes nothing.
 use borrow.Author.Needs.{needs}
 use Rattle.check_operand.proofs.large_enough.Statement.{statement}
 use Rattle.check_operand.proofs.large_enough.Tie as tie
-use Rattle.check_operand.proofs.large_enough.Reads as reads
-use Rattle.check_operand.proofs.large_enough.Lts as lts
-use Rattle.check_operand.proofs.must_show.Reads as must-show-reads
-use Rattle.forms.proofs.load.Reads as load-reads
-use Rattle.forms.proofs.subtract.Reads as subtract-reads
 use mathlib.Core.Path.{sym, ap, _∙_}
 use mathlib.Core.Bool.{Bool}
 use denote.Ref.{now}

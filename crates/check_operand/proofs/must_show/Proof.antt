@@ -1,9 +1,7 @@
+-- `check_operand::must_show` meets its contract. Assumes nothing.
 use borrow.Author.Needs.{needs}
 use Rattle.check_operand.proofs.must_show.Statement.{statement}
 use Rattle.check_operand.proofs.must_show.Tie as tie
-use Rattle.check_operand.proofs.must_show.Reads as reads
-use Rattle.check_operand.proofs.must_show.Lts as lts
-use Rattle.forms.proofs.show.Reads as show-reads
 use mathlib.Core.Path.{refl, sym, ap, _∙_}
 use Rattle.language.specs.Check.{byShowing, mustShow}
 use Rattle.forms.specs.Flat.{shownOf}

@@ -1,11 +1,7 @@
+-- `check_operand::operand` meets its contract. Assumes nothing.
 use borrow.Author.Needs.{needs}
 use Rattle.check_operand.proofs.operand.Statement.{statement}
 use Rattle.check_operand.proofs.operand.Tie as tie
-use Rattle.check_operand.proofs.operand.Reads as reads
-use Rattle.check_operand.proofs.operand.Lts as lts
-use Rattle.check_operand.proofs.element.Reads as element-reads
-use Rattle.check_operand.proofs.whole.Reads as whole-reads
-use Rattle.fields.proofs.header_at.Reads as header-at-reads
 use mathlib.Core.Path.{sym, _∙_}
 use native.Mathlib.Omega.{arith}
 use denote.Ref.{now}

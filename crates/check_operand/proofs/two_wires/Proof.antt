@@ -1,9 +1,7 @@
+-- `check_operand::two_wires` meets its contract. Assumes nothing.
 use borrow.Author.Needs.{needs}
 use Rattle.check_operand.proofs.two_wires.Statement.{statement}
 use Rattle.check_operand.proofs.two_wires.Tie as tie
-use Rattle.check_operand.proofs.two_wires.Reads as reads
-use Rattle.check_operand.proofs.two_wires.Lts as lts
-use Rattle.check_operand.proofs.two_operands.Reads as two-operands-reads
 use Rattle.check_operand.specs.Operands.{wantedOf}
 
 two-operands-requires : tie.Need-two-operands-requires

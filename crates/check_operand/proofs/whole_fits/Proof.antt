@@ -1,9 +1,7 @@
+-- `check_operand::whole_fits` meets its contract. Assumes nothing.
 use borrow.Author.Needs.{needs}
 use Rattle.check_operand.proofs.whole_fits.Statement.{statement}
 use Rattle.check_operand.proofs.whole_fits.Tie as tie
-use Rattle.check_operand.proofs.whole_fits.Reads as reads
-use Rattle.check_operand.proofs.whole_fits.Lts as lts
-use Rattle.check_operand.proofs.large_enough.Reads as large-enough-reads
 use mathlib.Core.Path.{refl, sym, ap, _∙_}
 use denote.Ref.{now}
 use Rattle.language.specs.Check.{wholeFits}

@@ -1,12 +1,7 @@
+-- `check_operand::within` meets its contract. Assumes nothing.
 use borrow.Author.Needs.{needs}
 use Rattle.check_operand.proofs.within.Statement.{statement}
 use Rattle.check_operand.proofs.within.Tie as tie
-use Rattle.check_operand.proofs.within.Reads as reads
-use Rattle.check_operand.proofs.within.Lts as lts
-use Rattle.check_operand.proofs.must_show.Reads as must-show-reads
-use Rattle.forms.proofs.load.Reads as load-reads
-use Rattle.forms.proofs.set_constant.Reads as set-constant-reads
-use Rattle.forms.proofs.subtract.Reads as subtract-reads
 use mathlib.Core.Path.{refl, sym, ap, _∙_}
 use mathlib.Core.List.{List}
 use denote.Ref.{now}

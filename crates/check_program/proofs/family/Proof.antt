@@ -1,10 +1,7 @@
+-- `check_program::family` meets its contract. Assumes nothing.
 use borrow.Author.Needs.{needs}
 use Rattle.check_program.proofs.family.Statement.{statement}
 use Rattle.check_program.proofs.family.Tie as tie
-use Rattle.check_program.proofs.family.Reads as reads
-use Rattle.check_program.proofs.family.Lts as lts
-use Rattle.check_declaration.proofs.family_counts.Reads as family-counts-reads
-use Rattle.check_program.proofs.family_body.Reads as family-body-reads
 use borrow.Author.Needs.{needs}
 use mathlib.Core.Path.{ap, _∙_}
 use native.Mathlib.Omega.{arith}
@@ -15,22 +12,18 @@ use Rattle.language.specs.Check.{good}
 use Rattle.check_program.specs.Declarations.{checkedStep}
 use Rattle.check_program.proofs.Families.{family-bad, family-stops, family-goes, with-family, holds-family, counts-right, in-use-goes}
 
--- src/lib.rt:141:11
 family-counts-requires : tie.Need-family-counts-requires
 family-counts-requires c κs =
     search needs
 
--- src/lib.rt:142:21
 enum-known-k : tie.Need-enum-known-k
 enum-known-k c =
     search needs
 
--- src/lib.rt:143:22
 enum-known-m : tie.Need-enum-known-m
 enum-known-m c =
     search needs
 
--- src/lib.rt:145:19
 family-body-requires : tie.Need-family-body-requires
 family-body-requires c κs =
     let a = c .before .before .before .before .before .before .before .before .before .args in
@@ -45,17 +38,14 @@ family-body-requires c κs =
     let w = counts-right (a .at) (a .next) (a .t .families) (c .before .before .before .before .before .before .family-counts .result) m p u (c .before .before .before .before .before .before .family-counts .ensures .1) in
     ((w .3, c .before .before .before .before .before .before .before .before .before .pre .0 .1), (w .0, (w .1, (w .2, h))))
 
--- src/lib.rt:146:31
 enum-known-k-2 : tie.Need-enum-known-k-2
 enum-known-k-2 c =
     search needs
 
--- src/lib.rt:148:34
 enum-told : tie.Need-enum-told
 enum-told c =
     search needs
 
--- src/lib.rt:148:34
 cast-t29 : tie.Need-cast-t29
 cast-t29 c =
     let a = c .before .before .before .before .before .before .before .before .before .before .before .before .before .before .before .args in
@@ -74,7 +64,6 @@ cast-t29 c =
     let lr = h .used .few in
     omega (arith, c .before .before .before .before .before .before .before .before .before .before .before .before .before .before .before .pre .0 .0, c .before .before .before .before .before .before .before .before .before .before .before .before .before .before .before .pre .0 .1, h .short, c .before .before .before .before .before .before .before .before .before .before .before .before .before .before .before .good)
 
--- src/lib.rt:148:44
 cast-t30 : tie.Need-cast-t30
 cast-t30 c =
     let a = c .before .before .before .before .before .before .before .before .before .before .before .before .before .before .before .args in
@@ -93,12 +82,10 @@ cast-t30 c =
     let lr = h .used .few in
     omega (arith, c .before .before .before .before .before .before .before .before .before .before .before .before .before .before .before .pre .0 .0, c .before .before .before .before .before .before .before .before .before .before .before .before .before .before .before .pre .0 .1, h .short, c .before .before .before .before .before .before .before .before .before .before .before .before .before .before .before .good)
 
--- src/lib.rt:148:63
 cast-t31 : tie.Need-cast-t31
 cast-t31 c =
     search needs
 
--- src/lib.rt:149:21
 mul-entry : tie.Need-mul-entry
 mul-entry c =
     let a = c .before .before .before .before .before .before .before .before .before .before .before .before .before .before .before .args in
@@ -117,7 +104,6 @@ mul-entry c =
     let lr = h .used .few in
     omega (arith, c .before .before .before .before .before .before .before .before .before .before .before .before .before .before .before .pre .0 .0, c .before .before .before .before .before .before .before .before .before .before .before .before .before .before .before .pre .0 .1, h .short, c .before .before .before .before .before .before .before .before .before .before .before .before .before .before .before .good)
 
--- src/lib.rt:149:21
 slice-set-from-entry : tie.Need-slice-set-from-entry
 slice-set-from-entry c =
     let a = c .before .before .before .before .before .before .before .before .before .before .before .before .before .before .before .args in
@@ -136,12 +122,10 @@ slice-set-from-entry c =
     let lr = h .used .few in
     omega (arith, c .before .before .before .before .before .before .before .before .before .before .before .before .before .before .before .pre .0 .0, c .before .before .before .before .before .before .before .before .before .before .before .before .before .before .before .pre .0 .1, h .short, c .before .before .before .before .before .before .before .before .before .before .before .before .before .before .before .good)
 
--- src/lib.rt:150:33
 add-after : tie.Need-add-after
 add-after c =
     search needs
 
--- src/lib.rt:151:32
 add-rows : tie.Need-add-rows
 add-rows c =
     let a = c .before .before .before .before .before .before .before .before .before .before .before .before .before .before .before .args in
@@ -160,7 +144,6 @@ add-rows c =
     let lr = h .used .few in
     omega (arith, c .before .before .before .before .before .before .before .before .before .before .before .before .before .before .before .pre .0 .0, c .before .before .before .before .before .before .before .before .before .before .before .before .before .before .before .pre .0 .1, h .short, c .before .before .before .before .before .before .before .before .before .before .before .before .before .before .before .good)
 
--- src/lib.rt:126:1
 returns : tie.Need-returns
 returns c =
     let a = c .before .before .before .before .before .before .args in
@@ -171,22 +154,18 @@ returns c =
     let e = c .before .before .before .family-counts .ensures .0 in
     (family-bad (a .t) x (now (a .kinds)) (now (a .sizes)) program (a .at) (a .next) (c .before .before .before .family-counts .result) e (c .before .k .given .0 .0) (c .before .k .given .0 .1 .0) x (now (a .kinds)) (now (a .sizes)) (c .before .k .given .1), tt)
 
--- src/lib.rt:126:1
 same-length : tie.Need-same-length
 same-length c =
     search needs
 
--- src/lib.rt:126:1
 same-length-2 : tie.Need-same-length-2
 same-length-2 c =
     search needs
 
--- src/lib.rt:126:1
 same-length-3 : tie.Need-same-length-3
 same-length-3 c =
     search needs
 
--- src/lib.rt:126:1
 returns-2 : tie.Need-returns-2
 returns-2 c =
     let a = c .before .before .before .before .before .before .before .before .before .before .before .before .before .before .before .before .args in
@@ -205,22 +184,18 @@ returns-2 c =
     let d = c .before .before .before .before .before .before .family-body .ensures .1 .1 in
     (family-stops (a .t) x (now (a .kinds)) (now (a .sizes)) program (a .at) (a .next) (c .before .before .before .before .before .before .before .before .before .before .before .before .before .family-counts .result) e m p u (c .before .before .before .before .before .before .family-body .result) kinds sizes b (c .before .k2 .given .0 .0) (c .before .k2 .given .0 .1 .0) x kinds sizes (c .before .k2 .given .1), tt)
 
--- src/lib.rt:126:1
 same-length-4 : tie.Need-same-length-4
 same-length-4 c =
     search needs
 
--- src/lib.rt:126:1
 same-length-5 : tie.Need-same-length-5
 same-length-5 c =
     search needs
 
--- src/lib.rt:126:1
 same-length-6 : tie.Need-same-length-6
 same-length-6 c =
     search needs
 
--- src/lib.rt:126:1
 returns-3 : tie.Need-returns-3
 unfolding checkedStep
 returns-3 c =

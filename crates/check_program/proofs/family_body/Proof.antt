@@ -1,10 +1,7 @@
+-- `check_program::family_body` meets its contract. Assumes nothing.
 use borrow.Author.Needs.{needs}
 use Rattle.check_program.proofs.family_body.Statement.{statement}
 use Rattle.check_program.proofs.family_body.Tie as tie
-use Rattle.check_program.proofs.family_body.Reads as reads
-use Rattle.check_program.proofs.family_body.Lts as lts
-use Rattle.check_declaration.proofs.parameter_types.Reads as parameter-types-reads
-use Rattle.check_statement.proofs.list.Reads as list-reads
 use borrow.Author.Needs.{needs}
 use mathlib.Core.Path.{refl}
 use mathlib.Core.List.{[]}
@@ -20,12 +17,10 @@ use Rattle.check_program.proofs.Scopes.{eight-rows, scope-right, scope-
 use Rattle.check_program.proofs.Families.{familyRows, body-stops, body-goes, before-upto, before-kept}
 use Rattle.check_declaration.proofs.Tables.{in-use-later, in-use-stops}
 
--- src/lib.rt:86:16
 add-from : tie.Need-add-from
 add-from c =
     search needs
 
--- src/lib.rt:88:9
 parameter-types-requires : tie.Need-parameter-types-requires
 parameter-types-requires c κs =
     let a = c .before .before .before .before .args in
@@ -37,27 +32,22 @@ parameter-types-requires c κs =
     let none = replicate 8 (replicate 13 (pos 0)) in
     (long, (few, ((omega (arith, c .before .before .before .before .pre .0 .0), h .short), (in-use-later (a .t .rows) (a .t .rows) (a .t .registers) (a .at) (a .at + 5) (now (a .kinds)) (h .used) (omega arith) (omega (arith, h .used .few)), h .table))))
 
--- src/lib.rt:100:20
 enum-known-r : tie.Need-enum-known-r
 enum-known-r c =
     search needs
 
--- src/lib.rt:101:9
 enum-told : tie.Need-enum-told
 enum-told c =
     search needs
 
--- src/lib.rt:101:9
 same-length : tie.Need-same-length
 same-length c =
     search needs
 
--- src/lib.rt:101:9
 same-length-2 : tie.Need-same-length-2
 same-length-2 c =
     search needs
 
--- src/lib.rt:101:9
 returns : tie.Need-returns
 unfolding familyScope
 returns c =
@@ -73,7 +63,6 @@ returns c =
     let d = declaredIn (a .t) (now (a .families)) (now (a .kinds)) (now (a .sizes)) in
     (body-stops bytes (a .t) (now (a .families)) (a .at) (a .m) (a .parameters) program (a .at + 5) (a .next) h (c .before .before .before .before .before .parameter-types .ensures .1 .1 .1) (c .before .before .before .before .before .parameter-types .result) (c .before .before .before .before .before .parameter-types .ensures .0 (d .families) []) (c .before .match .keys2), (in-use-stops (a .t .rows + a .parameters) (a .t .registers) (a .next) (c .before .before .before .before .before .parameter-types .result) kinds (c .before .match .keys2), c .before .before .before .before .before .parameter-types .ensures .1 .1 .1))
 
--- src/lib.rt:111:5
 list-requires : tie.Need-list-requires
 list-requires c κs =
     let a = c .before .before .before .before .before .before .before .before .before .before .before .before .before .before .before .args in
@@ -89,17 +78,14 @@ list-requires c κs =
     let used = before-upto (a .t .rows + a .parameters) (a .t .registers) (a .next) mid (c .before .before .before .before .before .before .before .before .before .before .parameter-types .result) kinds (c .before .before .before .before .before .r .given .1) (c .before .before .before .before .before .before .before .before .before .before .parameter-types .ensures .1 .1 .0) in
     (long, (scope-right bytes (a .t .rows + a .parameters) (a .t .registers) (a .next) (familyRows (a .t) (a .m) (a .parameters)) kinds sizes none none (c .before .before .before .before .before .before .before .before .before .before .parameter-types .ensures .1 .1 .1 .table) used long eight-rows eight-rows few (omega arith) (omega arith), scope-declares bytes (a .at) (familyRows (a .t) (a .m) (a .parameters)) (a .t) (now (a .families)) kinds sizes h (c .before .before .before .before .before .before .before .before .before .before .parameter-types .ensures .1 .1 .1 .table) (omega (arith, c .before .before .before .before .before .before .before .before .before .before .before .before .before .before .before .pre .0 .0, c .before .before .before .before .before .before .before .before .before .before .before .before .before .before .before .pre .0 .1)) refl))
 
--- src/lib.rt:66:1
 same-length-3 : tie.Need-same-length-3
 same-length-3 c =
     search needs
 
--- src/lib.rt:66:1
 same-length-4 : tie.Need-same-length-4
 same-length-4 c =
     search needs
 
--- src/lib.rt:66:1
 returns-2 : tie.Need-returns-2
 unfolding familyScope
 returns-2 c =

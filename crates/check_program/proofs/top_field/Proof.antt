@@ -1,12 +1,7 @@
+-- `check_program::top_field` meets its contract. Assumes nothing.
 use borrow.Author.Needs.{needs}
 use Rattle.check_program.proofs.top_field.Statement.{statement}
 use Rattle.check_program.proofs.top_field.Tie as tie
-use Rattle.check_program.proofs.top_field.Reads as reads
-use Rattle.check_program.proofs.top_field.Lts as lts
-use Rattle.check_program.proofs.top_action.Reads as top-action-reads
-use Rattle.check_program.proofs.classical_register.Reads as classical-register-reads
-use Rattle.check_program.proofs.family.Reads as family-reads
-use Rattle.check_program.proofs.quantum_register.Reads as quantum-register-reads
 use mathlib.Core.Path.{_∙_}
 use denote.Ref.{now}
 use Rattle.check_program.specs.Declarations.{declaredIn}

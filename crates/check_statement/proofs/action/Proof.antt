@@ -1,12 +1,7 @@
+-- `check_statement::action` meets its contract. Assumes nothing.
 use borrow.Author.Needs.{needs}
 use Rattle.check_statement.proofs.action.Statement.{statement}
 use Rattle.check_statement.proofs.action.Tie as tie
-use Rattle.check_statement.proofs.action.Reads as reads
-use Rattle.check_statement.proofs.action.Lts as lts
-use Rattle.check_statement.proofs.conditional.Reads as conditional-reads
-use Rattle.check_statement.proofs.one_statement.Reads as one-statement-reads
-use Rattle.check_operand.proofs.one_wire.Reads as one-wire-reads
-use Rattle.check_operand.proofs.two_operands.Reads as two-operands-reads
 use mathlib.Core.Path.{sym, ap, _∙_}
 use Prim.Native.Nat.{_+_}
 use denote.Ref.{now}

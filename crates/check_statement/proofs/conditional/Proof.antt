@@ -1,11 +1,7 @@
+-- `check_statement::conditional` meets its contract. Assumes nothing.
 use borrow.Author.Needs.{needs}
 use Rattle.check_statement.proofs.conditional.Statement.{statement}
 use Rattle.check_statement.proofs.conditional.Tie as tie
-use Rattle.check_statement.proofs.conditional.Reads as reads
-use Rattle.check_statement.proofs.conditional.Lts as lts
-use Rattle.check_statement.proofs.list.Reads as list-reads
-use Rattle.check_operand.proofs.operand.Reads as operand-reads
-use Rattle.fields.proofs.wide.Reads as wide-reads
 use mathlib.Core.Path.{sym, ap, _∙_}
 use mathlib.Core.List.{List, _∷_}
 use Prim.Native.Nat.{ℕ, _+_}

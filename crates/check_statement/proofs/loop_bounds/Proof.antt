@@ -1,9 +1,7 @@
+-- `check_statement::loop_bounds` meets its contract. Assumes nothing.
 use borrow.Author.Needs.{needs}
 use Rattle.check_statement.proofs.loop_bounds.Statement.{statement}
 use Rattle.check_statement.proofs.loop_bounds.Tie as tie
-use Rattle.check_statement.proofs.loop_bounds.Reads as reads
-use Rattle.check_statement.proofs.loop_bounds.Lts as lts
-use Rattle.check_index.proofs.index.Reads as index-reads
 use Prim.Native.Nat.{_+_}
 use denote.Ref.{now}
 use Rattle.check_index.specs.Indexes.{scopeOf}

@@ -1,60 +1,50 @@
+-- `check_statement::statement_tag` meets its contract. Assumes nothing.
 use Rattle.check_statement.proofs.statement_tag.Statement.{statement}
 use Rattle.check_statement.proofs.statement_tag.Tie as tie
-use Rattle.check_statement.proofs.statement_tag.Reads as reads
-use Rattle.check_statement.proofs.statement_tag.Lts as lts
 use borrow.Author.Tests.{ne-eqb}
 use Rattle.language.specs.Read.{choose, statementBy, gateOf, cxOf}
 use Rattle.language.specs.Check.{checkStatement}
 
--- src/lib.rt:75:1
 returns : tie.Need-returns
 unfolding statementBy choose checkStatement gateOf cxOf
 returns c =
     λ part p content s. simp (c .match .keys1)
 
--- src/lib.rt:75:1
 returns-2 : tie.Need-returns-2
 unfolding statementBy choose checkStatement gateOf cxOf
 returns-2 c =
     λ part p content s. simp (c .match .keys2)
 
--- src/lib.rt:75:1
 returns-3 : tie.Need-returns-3
 unfolding statementBy choose checkStatement gateOf cxOf
 returns-3 c =
     λ part p content s. simp (c .match .keys3)
 
--- src/lib.rt:75:1
 returns-4 : tie.Need-returns-4
 unfolding statementBy choose checkStatement gateOf cxOf
 returns-4 c =
     λ part p content s. simp (c .match .keys4)
 
--- src/lib.rt:75:1
 returns-5 : tie.Need-returns-5
 unfolding statementBy choose checkStatement gateOf cxOf
 returns-5 c =
     λ part p content s. simp (c .match .keys5)
 
--- src/lib.rt:75:1
 returns-6 : tie.Need-returns-6
 unfolding statementBy choose checkStatement gateOf cxOf
 returns-6 c =
     λ part p content s. simp (c .match .keys6)
 
--- src/lib.rt:75:1
 returns-7 : tie.Need-returns-7
 unfolding statementBy choose checkStatement gateOf cxOf
 returns-7 c =
     λ part p content s. simp (c .match .keys7)
 
--- src/lib.rt:75:1
 returns-8 : tie.Need-returns-8
 unfolding statementBy choose checkStatement gateOf cxOf
 returns-8 c =
     λ part p content s. simp (c .match .keys8)
 
--- src/lib.rt:75:1
 returns-9 : tie.Need-returns-9
 unfolding statementBy choose checkStatement gateOf cxOf
 returns-9 c =

@@ -1,7 +1,6 @@
+-- `check_statement::too_deep` meets its contract. Assumes nothing.
 use Rattle.check_statement.proofs.too_deep.Statement.{statement}
 use Rattle.check_statement.proofs.too_deep.Tie as tie
-use Rattle.check_statement.proofs.too_deep.Reads as reads
-use Rattle.check_statement.proofs.too_deep.Lts as lts
 use Rattle.check_statement.proofs.Statements.{deep-below, deep-above, deep-statement}
 
 returns : tie.Need-returns

@@ -1,16 +1,10 @@
+-- `field_walk::begin` meets its contract. Assumes nothing.
 use borrow.Author.Needs.{needs}
 use Rattle.field_walk.proofs.begin.Statement.{statement}
 use Rattle.field_walk.proofs.begin.Tie as tie
-use Rattle.field_walk.proofs.begin.Reads as reads
-use Rattle.field_walk.proofs.begin.Lts as lts
-use Rattle.field_walk.proofs.last.Reads as last-reads
-use Rattle.field_walk.proofs.tell.Reads as tell-reads
-use Prim.Native.Nat.{suc, _≤_, _<_, _-_, _+_}
+use Prim.Native.Nat.{_-_}
 use native.Mathlib.Omega.{arith}
 use denote.Ref.{now}
-use lib.ListN.{length, length-set, getD, set}
-use mathlib.Core.Path.{_≡_, refl, sym, ap, _∙_}
-use mathlib.Core.Bool.{Bool, true, false, not}
 use Rattle.field_walk.proofs.Positions.{kept-first, begin-forward, begin-empty, begin-broken, begin-found}
 
 returns : tie.Need-returns

@@ -1,10 +1,7 @@
+-- `field_walk::keep_last` meets its contract. Assumes nothing.
 use borrow.Author.Needs.{needs}
 use Rattle.field_walk.proofs.keep_last.Statement.{statement}
 use Rattle.field_walk.proofs.keep_last.Tie as tie
-use Rattle.field_walk.proofs.keep_last.Reads as reads
-use Rattle.field_walk.proofs.keep_last.Lts as lts
-use Rattle.field_walk.proofs.tell.Reads as tell-reads
-use Rattle.fields.proofs.long.Reads as long-reads
 use denote.Ref.{now}
 use mathlib.Core.Path.{sym, _∙_}
 use Rattle.field_walk.proofs.Search.{last-of-all, last-already, last-above, last-instead}

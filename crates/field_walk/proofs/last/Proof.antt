@@ -1,14 +1,6 @@
+-- `field_walk::last` meets its contract. Assumes nothing.
 use Rattle.field_walk.proofs.last.Statement.{statement}
 use Rattle.field_walk.proofs.last.Tie as tie
-use Rattle.field_walk.proofs.last.Reads as reads
-use Rattle.field_walk.proofs.last.Lts as lts
-use Rattle.field_walk.proofs.keep_last.Reads as keep-last-reads
-use Rattle.field_walk.proofs.later.Reads as later-reads
-use Rattle.field_walk.proofs.skipped.Reads as skipped-reads
-use Rattle.field_walk.proofs.spaced.Reads as spaced-reads
-use Rattle.field_walk.proofs.tell.Reads as tell-reads
-use Rattle.fields.proofs.header_at.Reads as header-at-reads
-use Rattle.fields.proofs.long.Reads as long-reads
 use Prim.Native.Nat.{_-_}
 use native.Mathlib.Omega.{arith}
 use borrow.Author.Needs.{needs}

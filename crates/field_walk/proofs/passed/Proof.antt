@@ -1,8 +1,6 @@
+-- `field_walk::passed` meets its contract. Assumes nothing.
 use Rattle.field_walk.proofs.passed.Statement.{statement}
 use Rattle.field_walk.proofs.passed.Tie as tie
-use Rattle.field_walk.proofs.passed.Reads as reads
-use Rattle.field_walk.proofs.passed.Lts as lts
-use mathlib.Core.Path.{_≡_, sym, ap, _∙_}
 use Rattle.field_walk.specs.Walks.{passedOf}
 
 returns : tie.Need-returns

@@ -1,18 +1,12 @@
+-- `field_walk::seek` meets its contract. Assumes nothing.
 use borrow.Author.Needs.{needs}
 use Rattle.field_walk.proofs.seek.Statement.{statement}
 use Rattle.field_walk.proofs.seek.Tie as tie
-use Rattle.field_walk.proofs.seek.Reads as reads
-use Rattle.field_walk.proofs.seek.Lts as lts
-use Rattle.field_walk.proofs.last.Reads as last-reads
-use Rattle.fields.proofs.long.Reads as long-reads
-use Rattle.field_walk.proofs.tell.Reads as tell-reads
-use Prim.Native.Nat.{suc, _≤_, _<_, _-_, _+_}
+use Prim.Native.Nat.{_≤_, _-_}
 use native.Mathlib.Omega.{arith}
 use denote.Ref.{now}
-use lib.ListN.{length, length-set, getD, set}
-use mathlib.Core.Path.{_≡_, refl, sym, ap, _∙_}
-use mathlib.Core.Bool.{Bool, true, false, not}
-use Rattle.field_walk.specs.Walks.{Walking, NextField, Sought, Backward, Forward, LastField, FirstField}
+use mathlib.Core.Path.{refl}
+use Rattle.field_walk.specs.Walks.{Walking, NextField, Backward, Forward}
 use Rattle.field_walk.proofs.Positions.{top-is, linked-top, lasts-found}
 
 tell-requires : tie.Need-tell-requires

@@ -1,9 +1,8 @@
+-- `field_walk::skipped` meets its contract. Assumes nothing.
 use borrow.Author.Needs.{needs}
 use Rattle.field_walk.proofs.skipped.Statement.{statement}
 use Rattle.field_walk.proofs.skipped.Tie as tie
-use Rattle.field_walk.proofs.skipped.Reads as reads
-use Rattle.field_walk.proofs.skipped.Lts as lts
-use mathlib.Core.Path.{_≡_, refl, sym, ap, _∙_}
+use mathlib.Core.Path.{sym}
 use Rattle.language.proofs.Integers.{clash}
 
 returns : tie.Need-returns

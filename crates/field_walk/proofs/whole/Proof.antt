@@ -1,8 +1,7 @@
+-- `field_walk::whole` meets its contract. Assumes nothing.
 use Rattle.field_walk.proofs.whole.Statement.{statement}
 use Rattle.field_walk.proofs.whole.Tie as tie
-use Rattle.field_walk.proofs.whole.Reads as reads
-use Rattle.field_walk.proofs.whole.Lts as lts
-use mathlib.Core.Path.{_≡_, refl}
+use mathlib.Core.Path.{refl}
 use Rattle.field_walk.specs.Walks.{wholeOf}
 
 returns : tie.Need-returns

@@ -1,84 +1,67 @@
+-- `forms::load` meets its contract. Assumes nothing.
 use borrow.Author.Needs.{needs}
 use Rattle.forms.proofs.load.Statement.{statement}
 use Rattle.forms.proofs.load.Tie as tie
-use Rattle.forms.proofs.load.Reads as reads
-use Rattle.forms.proofs.load.Lts as lts
 use native.Mathlib.Omega.{arith}
 use denote.Ref.{now}
 use Rattle.language.proofs.Integers.{range-back, range-fits, narrow-back}
 use Rattle.forms.proofs.Lists.{short-range, load-wide, load-kept}
 
--- src/lib.rt:260:12
 element-copy-out-f : tie.Need-element-copy-out-f
 element-copy-out-f c = search needs
 
--- src/lib.rt:260:12
 cast-f : tie.Need-cast-f
 cast-f c =
     let q = short-range (now (c .before .before .args .row)) 0 (omega arith) (c .before .before .pre) in
     rw (narrow-back q) (range-fits _ q)
 
--- src/lib.rt:260:5
 element-set-from-f : tie.Need-element-set-from-f
 element-set-from-f c = search needs
 
--- src/lib.rt:261:12
 element-copy-out-f-2 : tie.Need-element-copy-out-f-2
 element-copy-out-f-2 c = search needs
 
--- src/lib.rt:261:12
 cast-f-2 : tie.Need-cast-f-2
 cast-f-2 c =
     let q = short-range (now (c .before .before .before .args .row)) 1 (omega arith) (c .before .before .before .pre) in
     rw (narrow-back q) (range-fits _ q)
 
--- src/lib.rt:261:5
 element-set-from-f-2 : tie.Need-element-set-from-f-2
 element-set-from-f-2 c = search needs
 
--- src/lib.rt:262:12
 element-copy-out-f-3 : tie.Need-element-copy-out-f-3
 element-copy-out-f-3 c = search needs
 
--- src/lib.rt:262:12
 cast-f-3 : tie.Need-cast-f-3
 cast-f-3 c =
     let q = short-range (now (c .before .before .before .before .args .row)) 2 (omega arith) (c .before .before .before .before .pre) in
     rw (narrow-back q) (range-fits _ q)
 
--- src/lib.rt:262:5
 element-set-from-f-3 : tie.Need-element-set-from-f-3
 element-set-from-f-3 c = search needs
 
--- src/lib.rt:263:12
 element-copy-out-f-4 : tie.Need-element-copy-out-f-4
 element-copy-out-f-4 c = search needs
 
--- src/lib.rt:263:12
 cast-f-4 : tie.Need-cast-f-4
 cast-f-4 c =
     let q = short-range (now (c .before .before .before .before .before .args .row)) 3 (omega arith) (c .before .before .before .before .before .pre) in
     rw (narrow-back q) (range-fits _ q)
 
--- src/lib.rt:263:5
 element-set-from-f-4 : tie.Need-element-set-from-f-4
 element-set-from-f-4 c = search needs
 
--- src/lib.rt:264:12
 element-copy-out-f-5 : tie.Need-element-copy-out-f-5
 element-copy-out-f-5 c = search needs
 
--- src/lib.rt:264:12
 cast-f-5 : tie.Need-cast-f-5
 cast-f-5 c =
     let q = short-range (now (c .before .before .before .before .before .before .args .row)) 4 (omega arith) (c .before .before .before .before .before .before .pre) in
     rw (narrow-back q) (range-fits _ q)
 
--- src/lib.rt:264:5
 element-set-from-f-5 : tie.Need-element-set-from-f-5
 element-set-from-f-5 c = search needs
 
--- src/lib.rt:254:1
 returns : tie.Need-returns
 returns c =
     let l = now (c .before .before .before .before .before .before .args .row) in

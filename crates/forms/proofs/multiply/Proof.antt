@@ -1,11 +1,7 @@
+-- `forms::multiply` meets its contract. Assumes nothing.
 use borrow.Author.Needs.{needs}
 use Rattle.forms.proofs.multiply.Statement.{statement}
 use Rattle.forms.proofs.multiply.Tie as tie
-use Rattle.forms.proofs.multiply.Reads as reads
-use Rattle.forms.proofs.multiply.Lts as lts
-use Rattle.forms.proofs.is_constant.Reads as is-constant-reads
-use Rattle.forms.proofs.made.Reads as made-reads
-use Rattle.forms.proofs.set_multiple.Reads as set-multiple-reads
 use mathlib.Core.Path.{sym, ap, _∙_}
 use native.Mathlib.Omega.{arith}
 use lib.IntN.{ℤ}

@@ -1,9 +1,6 @@
+-- `forms::put_in` meets its contract. Assumes nothing.
 use Rattle.forms.proofs.put_in.Statement.{statement}
 use Rattle.forms.proofs.put_in.Tie as tie
-use Rattle.forms.proofs.put_in.Reads as reads
-use Rattle.forms.proofs.put_in.Lts as lts
-use Rattle.forms.proofs.add_scaled.Reads as add-scaled-reads
-use Rattle.forms.proofs.set_constant.Reads as set-constant-reads
 use mathlib.Core.Path.{_≡_, sym, ap, _∙_}
 use mathlib.Core.List.{[]}
 use mathlib.Core.Bool.{Bool}
@@ -27,24 +24,20 @@ abbrev μ-loop : tie.MeasureT-loop
 μ-loop f₀ size forms m z j₀ f j =
     m - j
 
--- src/lib.rt:290:13
 element-copy-out-z : tie.Need-element-copy-out-z Inv-loop μ-loop
 element-copy-out-z c =
     search needs
 
--- src/lib.rt:290:13
 cast-z : tie.Need-cast-z Inv-loop μ-loop
 cast-z c =
     let q = short-range (c .before .args .size .now) 0 (omega arith) (c .before .pre .0) in
     rw (narrow-back q) (range-fits _ q)
 
--- src/lib.rt:291:5
 set-constant-requires : tie.Need-set-constant-requires Inv-loop μ-loop
 set-constant-requires c κs =
     let q = short-range (c .before .before .args .size .now) 0 (omega arith) (c .before .before .pre .0) in
     rw (widen-back q) q
 
--- src/lib.rt:292:5
 loop-holds : tie.Need-loop-holds Inv-loop μ-loop
 unfolding putIn
 loop-holds c =
@@ -57,45 +50,37 @@ loop-holds c =
           (ap constantForm (head-flat (widened (a .size .now)) k ∙ short-at (a .size .now) 0 (omega arith) (c .before .before .before .pre .0) ∙ sym (widen-back q)) ∙ sym (c .set-constant .ensures .0)),
     )
 
--- src/lib.rt:293:22
 add-k : tie.Need-add-k Inv-loop μ-loop
 add-k c =
     search needs
 
--- src/lib.rt:293:17
 mul-k : tie.Need-mul-k Inv-loop μ-loop
 mul-k c =
     search needs
 
--- src/lib.rt:293:17
 element-copy-out-k : tie.Need-element-copy-out-k Inv-loop μ-loop
 element-copy-out-k c =
     search needs
 
--- src/lib.rt:293:17
 cast-k : tie.Need-cast-k Inv-loop μ-loop
 cast-k c =
     let q = short-range (c .before .before .before .before .before .before .args .size .now) (c .before .before .loop .j + 1) (omega arith) (c .before .before .before .before .before .before .pre .0) in
     rw (narrow-back q) (range-fits _ q)
 
--- src/lib.rt:294:29
 mul-add-scaled : tie.Need-mul-add-scaled Inv-loop μ-loop
 mul-add-scaled c =
     search needs
 
--- src/lib.rt:294:29
 shared-slice-element-add-scaled : tie.Need-shared-slice-element-add-scaled Inv-loop μ-loop
 shared-slice-element-add-scaled c =
     search needs
 
--- src/lib.rt:294:12
 add-scaled-requires : tie.Need-add-scaled-requires Inv-loop μ-loop
 add-scaled-requires c κs =
     let a = c .before .before .before .before .before .before .before .before .args in
     let q = short-range (a .size .now) (c .before .before .before .before .loop .j + 1) (omega arith) (c .before .before .before .before .before .before .before .before .pre .0) in
     (c .before .before .before .before .loop .inv .1, (rw (widen-back q) q, c .before .before .before .before .before .before .before .before .pre .1 .1 .each (c .before .before .before .before .loop .j) (c .before .before .before .loop-test .taken)))
 
--- src/lib.rt:295:13
 returns : tie.Need-returns Inv-loop μ-loop
 unfolding _thenBuild_
 returns c =
@@ -111,17 +96,14 @@ returns c =
     let r = c .before .add-scaled .ensures .0 ∙ ap (λ (v : ℤ). multipleOf v (asForm (getD (a .forms .now) (i .j) [])) thenBuild sumOf (asForm (i .f))) (widen-back q ∙ sym g) in
     (sym (i .inv .2 ∙ s ∙ ap (λ (b : Built). b thenBuild termsPutIn (drop (i .j + 1) (asForm (widened (a .size .now)) .coefficients)) (drop (i .j + 1) (formsOf (a .m) (a .forms .now)))) (sym r ∙ ap (λ (u : Bool). builtOf u (c .before .add-scaled .last .0)) (c .if1 .left))), (λ x. absurd (clash (sym x))))
 
--- src/lib.rt:292:9
 add-j : tie.Need-add-j Inv-loop μ-loop
 add-j c =
     search needs
 
--- src/lib.rt:292:5
 loop-less : tie.Need-loop-less Inv-loop μ-loop
 loop-less c =
     search needs
 
--- src/lib.rt:292:5
 loop-again : tie.Need-loop-again Inv-loop μ-loop
 unfolding _thenBuild_
 loop-again c =
@@ -140,7 +122,6 @@ loop-again c =
       i .inv .2 ∙ s ∙ ap (λ (b : Built). b thenBuild termsPutIn (drop (i .j + 1) (asForm (widened (a .size .now)) .coefficients)) (drop (i .j + 1) (formsOf (a .m) (a .forms .now)))) (sym r ∙ ap (λ (u : Bool). builtOf u (c .before .add-scaled .last .0)) (c .if1 .taken)),
     )
 
--- src/lib.rt:283:1
 returns-2 : tie.Need-returns-2 Inv-loop μ-loop
 returns-2 c =
     let a = c .before .before .before .before .before .args in

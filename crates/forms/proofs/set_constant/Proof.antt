@@ -1,8 +1,7 @@
+-- `forms::set_constant` meets its contract. Assumes nothing.
 use borrow.Author.Needs.{needs}
 use Rattle.forms.proofs.set_constant.Statement.{statement}
 use Rattle.forms.proofs.set_constant.Tie as tie
-use Rattle.forms.proofs.set_constant.Reads as reads
-use Rattle.forms.proofs.set_constant.Lts as lts
 use mathlib.Core.Path.{refl}
 use lib.IntN.{pos}
 use lib.ListN.{replicate}

@@ -1,10 +1,7 @@
+-- `forms::set_multiple` meets its contract. Assumes nothing.
 use borrow.Author.Needs.{needs}
 use Rattle.forms.proofs.set_multiple.Statement.{statement}
 use Rattle.forms.proofs.set_multiple.Tie as tie
-use Rattle.forms.proofs.set_multiple.Reads as reads
-use Rattle.forms.proofs.set_multiple.Lts as lts
-use Rattle.forms.proofs.add_scaled.Reads as add-scaled-reads
-use Rattle.forms.proofs.set_constant.Reads as set-constant-reads
 use mathlib.Core.Path.{refl, ap, _∙_}
 use lib.IntN.{ℤ}
 use Rattle.language.specs.Form.{inRange, multipleOf, sumOf, _thenBuild_}

@@ -1,8 +1,7 @@
+-- `forms::set_variable` meets its contract. Assumes nothing.
 use borrow.Author.Needs.{needs}
 use Rattle.forms.proofs.set_variable.Statement.{statement}
 use Rattle.forms.proofs.set_variable.Tie as tie
-use Rattle.forms.proofs.set_variable.Reads as reads
-use Rattle.forms.proofs.set_variable.Lts as lts
 use mathlib.Core.Path.{refl}
 use lib.IntN.{pos}
 use lib.ListN.{replicate}

@@ -1,84 +1,67 @@
+-- `forms::store` meets its contract. Assumes nothing.
 use borrow.Author.Needs.{needs}
 use Rattle.forms.proofs.store.Statement.{statement}
 use Rattle.forms.proofs.store.Tie as tie
-use Rattle.forms.proofs.store.Reads as reads
-use Rattle.forms.proofs.store.Lts as lts
 use native.Mathlib.Omega.{arith}
 use denote.Ref.{now}
 use Rattle.language.proofs.Integers.{range-back, narrow-back, narrow-fits}
 use Rattle.forms.proofs.Lists.{kept-at, store-wide, store-short}
 
--- src/lib.rt:275:14
 element-copy-out-row : tie.Need-element-copy-out-row
 element-copy-out-row c = search needs
 
--- src/lib.rt:275:14
 cast-row : tie.Need-cast-row
 cast-row c =
     let q = kept-at (now (c .before .before .args .f)) 0 (omega arith) (c .before .before .pre .0) in
     rw (range-back q) (narrow-fits _ q)
 
--- src/lib.rt:275:5
 element-set-from-row : tie.Need-element-set-from-row
 element-set-from-row c = search needs
 
--- src/lib.rt:276:14
 element-copy-out-row-2 : tie.Need-element-copy-out-row-2
 element-copy-out-row-2 c = search needs
 
--- src/lib.rt:276:14
 cast-row-2 : tie.Need-cast-row-2
 cast-row-2 c =
     let q = kept-at (now (c .before .before .before .args .f)) 1 (omega arith) (c .before .before .before .pre .0) in
     rw (range-back q) (narrow-fits _ q)
 
--- src/lib.rt:276:5
 element-set-from-row-2 : tie.Need-element-set-from-row-2
 element-set-from-row-2 c = search needs
 
--- src/lib.rt:277:14
 element-copy-out-row-3 : tie.Need-element-copy-out-row-3
 element-copy-out-row-3 c = search needs
 
--- src/lib.rt:277:14
 cast-row-3 : tie.Need-cast-row-3
 cast-row-3 c =
     let q = kept-at (now (c .before .before .before .before .args .f)) 2 (omega arith) (c .before .before .before .before .pre .0) in
     rw (range-back q) (narrow-fits _ q)
 
--- src/lib.rt:277:5
 element-set-from-row-3 : tie.Need-element-set-from-row-3
 element-set-from-row-3 c = search needs
 
--- src/lib.rt:278:14
 element-copy-out-row-4 : tie.Need-element-copy-out-row-4
 element-copy-out-row-4 c = search needs
 
--- src/lib.rt:278:14
 cast-row-4 : tie.Need-cast-row-4
 cast-row-4 c =
     let q = kept-at (now (c .before .before .before .before .before .args .f)) 3 (omega arith) (c .before .before .before .before .before .pre .0) in
     rw (range-back q) (narrow-fits _ q)
 
--- src/lib.rt:278:5
 element-set-from-row-4 : tie.Need-element-set-from-row-4
 element-set-from-row-4 c = search needs
 
--- src/lib.rt:279:14
 element-copy-out-row-5 : tie.Need-element-copy-out-row-5
 element-copy-out-row-5 c = search needs
 
--- src/lib.rt:279:14
 cast-row-5 : tie.Need-cast-row-5
 cast-row-5 c =
     let q = kept-at (now (c .before .before .before .before .before .before .args .f)) 4 (omega arith) (c .before .before .before .before .before .before .pre .0) in
     rw (range-back q) (narrow-fits _ q)
 
--- src/lib.rt:279:5
 element-set-from-row-5 : tie.Need-element-set-from-row-5
 element-set-from-row-5 c = search needs
 
--- src/lib.rt:268:1
 returns : tie.Need-returns
 returns c =
     let l = now (c .before .before .before .before .before .before .args .f) in

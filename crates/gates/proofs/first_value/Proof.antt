@@ -1,7 +1,6 @@
+-- `gates::first_value` meets its contract. Assumes nothing.
 use Rattle.gates.proofs.first_value.Statement.{statement}
 use Rattle.gates.proofs.first_value.Tie as tie
-use Rattle.gates.proofs.first_value.Reads as reads
-use Rattle.gates.proofs.first_value.Lts as lts
 use mir.ValLaws.{toZ-ofZ}
 use mir.Syntax.{w64}
 use Rattle.language.specs.Machine.{startOf}

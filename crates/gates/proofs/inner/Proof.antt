@@ -1,10 +1,7 @@
+-- `gates::inner` meets its contract. Assumes nothing.
 use borrow.Author.Needs.{needs}
 use Rattle.gates.proofs.inner.Statement.{statement}
 use Rattle.gates.proofs.inner.Tie as tie
-use Rattle.gates.proofs.inner.Reads as reads
-use Rattle.gates.proofs.inner.Lts as lts
-use Rattle.gates.proofs.deeper.Reads as deeper-reads
-use mathlib.Core.Path.{_≡_, _∙_, sym}
 use borrow.Author.Tests.{eq-eqb, ne-eqb}
 
 deeper-requires : tie.Need-deeper-requires

@@ -1,12 +1,8 @@
+-- `gates::repeats_of` meets its contract. Assumes nothing.
 use borrow.Author.Needs.{needs}
 use Rattle.gates.proofs.repeats_of.Statement.{statement}
 use Rattle.gates.proofs.repeats_of.Tie as tie
-use Rattle.gates.proofs.repeats_of.Reads as reads
-use Rattle.gates.proofs.repeats_of.Lts as lts
-use Rattle.gates.proofs.bounds_of.Reads as bounds-of-reads
-use Rattle.gates.proofs.first_value.Reads as first-value-reads
-use Rattle.gates.proofs.tally.Reads as tally-reads
-use mathlib.Core.Path.{_≡_, refl, _∙_, ap, sym}
+use mathlib.Core.Path.{_≡_, refl, _∙_, ap}
 use mathlib.Core.Bool.{true}
 use denote.Ref.{now}
 use lib.ListN.{take}

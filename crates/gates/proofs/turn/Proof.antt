@@ -1,14 +1,13 @@
+-- `gates::turn` meets its contract. Assumes nothing.
 use Rattle.gates.proofs.turn.Statement.{statement}
 use Rattle.gates.proofs.turn.Tie as tie
-use Rattle.gates.proofs.turn.Reads as reads
-use Rattle.gates.proofs.turn.Lts as lts
-use Prim.Native.Nat.{_+_, _≤_}
-use mathlib.Core.Path.{_≡_, refl, _∙_, ap, sym}
-use mathlib.Core.Bool.{true, false}
+use Prim.Native.Nat.{_+_}
+use mathlib.Core.Path.{_≡_, _∙_, ap, sym}
+use mathlib.Core.Bool.{true}
 use native.Mathlib.Omega.{arith}
 use lib.IntN.{pos, _+ℤ_, _-ℤ_}
 use mir.Syntax.{w32, w64}
-use mir.Val.{toZ, ofZ}
+use mir.Val.{toZ}
 use mir.ValLaws.{toZ-ofZ, toZ-pos}
 use Rattle.language.specs.Form.{inRange}
 use Rattle.language.proofs.Integers.{range-back, range-fits}

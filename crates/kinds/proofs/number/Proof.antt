@@ -2,8 +2,6 @@
 use borrow.Author.Needs.{needs}
 use Rattle.kinds.proofs.number.Statement.{statement}
 use Rattle.kinds.proofs.number.Tie as tie
-use Rattle.kinds.proofs.number.Reads as reads
-use Rattle.kinds.proofs.number.Lts as lts
 use mathlib.Core.Path.{refl}
 use Rattle.kinds.specs.Numbers.{numberOf}
 

@@ -1,8 +1,6 @@
 -- `kinds::with_number` meets its contract. Assumes nothing.
 use Rattle.kinds.proofs.with_number.Statement.{statement}
 use Rattle.kinds.proofs.with_number.Tie as tie
-use Rattle.kinds.proofs.with_number.Reads as reads
-use Rattle.kinds.proofs.with_number.Lts as lts
 use borrow.Author.Tests.{eq-eqb, ne-eqb}
 use Rattle.kinds.specs.Numbers.{kindWith}
 

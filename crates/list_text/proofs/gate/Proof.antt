@@ -4,7 +4,7 @@ use Rattle.list_text.proofs.gate.Statement.{statement}
 use Rattle.list_text.proofs.gate.Tie as tie
 use Prim.Native.Nat.{ℕ}
 use mathlib.Core.Path.{sym, ap, _∙_}
-use mathlib.Core.List.{_++_, _∷_, []}
+use mathlib.Core.List.{_++_}
 use native.Mathlib.Omega.{arith}
 use Rattle.text_bytes.specs.Decimal.{ascii}
 use Rattle.list_text.specs.Lines.{gateText, numberText}

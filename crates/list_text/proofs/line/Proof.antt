@@ -3,7 +3,7 @@ use borrow.Author.Needs.{needs}
 use Rattle.list_text.proofs.line.Statement.{statement}
 use Rattle.list_text.proofs.line.Tie as tie
 use mathlib.Core.Path.{refl}
-use mathlib.Core.List.{[], _∷_, _++_}
+use mathlib.Core.List.{_++_}
 use native.Mathlib.Omega.{arith}
 use lib.ListN.{getD}
 use denote.Ref.{now}

@@ -1,9 +1,7 @@
+-- `metaqasm::checked` meets its contract. Assumes nothing.
 use borrow.Author.Needs.{needs}
 use Rattle.metaqasm.proofs.checked.Statement.{statement}
 use Rattle.metaqasm.proofs.checked.Tie as tie
-use Rattle.metaqasm.proofs.checked.Reads as reads
-use Rattle.metaqasm.proofs.checked.Lts as lts
-use Rattle.check_program.proofs.check_program.Reads as check-program-reads
 use mathlib.Core.Path.{sym, ap, _∙_}
 use native.Mathlib.Omega.{arith}
 use denote.Ref.{now}

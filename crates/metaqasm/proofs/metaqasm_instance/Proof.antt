@@ -1,17 +1,10 @@
+-- `metaqasm::metaqasm_instance` meets its contract. Assumes nothing.
 use borrow.Author.Needs.{needs}
 use Rattle.metaqasm.proofs.metaqasm_instance.Statement.{statement}
 use Rattle.metaqasm.proofs.metaqasm_instance.Tie as tie
-use Rattle.metaqasm.proofs.metaqasm_instance.Reads as reads
-use Rattle.metaqasm.proofs.metaqasm_instance.Lts as lts
-use Rattle.metaqasm.proofs.checked.Reads as checked-reads
-use Rattle.metaqasm.proofs.result_of_answer.Reads as told-reads
-use Rattle.metaqasm.proofs.wide.Reads as wide-reads
-use Rattle.runs.proofs.instance.Reads as instance-reads
-use Prim.Native.Nat.{ℕ, _*_}
-use mathlib.Core.Path.{_≡_, refl, sym, ap, _∙_}
+use mathlib.Core.Path.{sym, ap, _∙_}
 use native.Mathlib.Omega.{arith}
 use denote.Ref.{now}
-use lib.ListN.{length}
 use Rattle.language.specs.Result.{Result}
 use Rattle.metaqasm.specs.Answers.{answered}
 use Rattle.metaqasm.proofs.AcceptedRuns.{acceptable, instance-told, instance-answers, refused-instance, refused-counts, refused-sound}

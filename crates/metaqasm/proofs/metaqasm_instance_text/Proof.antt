@@ -1,38 +1,23 @@
+-- `metaqasm::metaqasm_instance_text` meets its contract. Assumes nothing.
 use borrow.Author.Needs.{needs}
 use Rattle.metaqasm.proofs.metaqasm_instance_text.Statement.{statement}
 use Rattle.metaqasm.proofs.metaqasm_instance_text.Tie as tie
-use Rattle.metaqasm.proofs.metaqasm_instance_text.Reads as reads
-use Rattle.metaqasm.proofs.metaqasm_instance_text.Lts as lts
-use Rattle.laid_out.proofs.wires.Reads as wires-reads
-use Rattle.metaqasm.proofs.metaqasm_instance.Reads as metaqasm-instance-reads
-use Rattle.metaqasm.proofs.printed.Reads as printed-reads
-use Rattle.metaqasm.proofs.unprinted.Reads as unprinted-reads
-use Rattle.metaqasm.proofs.wide.Reads as wide-reads
-use mathlib.Core.Path.{sym, ap, _∙_}
-use native.Mathlib.Omega.{arith}
 use denote.Ref.{now}
-use Rattle.language.specs.Result.{Result, Answer as Reply}
-use Rattle.qasm_text.specs.Text.{textOf}
-use Rattle.qasm_text.specs.RecordsIn.{recordsIn}
-use Rattle.qasm_text.specs.TextResult.{TextAnswer}
+use Rattle.language.specs.Result.{Answer as Reply}
 use Rattle.metaqasm.specs.Answers.{answered}
 use Rattle.metaqasm.specs.TextAnswers.{textAnswered}
 use Rattle.metaqasm.proofs.AcceptedRuns.{acceptable}
 use Rattle.metaqasm.proofs.TextRuns.{by-other, by-done, instance-accepted, instance-suits, instance-text-promised}
 
--- src/lib.rt:223:9
 metaqasm-instance-requires : tie.Need-metaqasm-instance-requires
 metaqasm-instance-requires c κs = search needs
 
--- src/lib.rt:225:9
 unprinted-requires : tie.Need-unprinted-requires
 unprinted-requires c κs = search needs
 
--- src/lib.rt:225:9
 same-length : tie.Need-same-length
 same-length c = search needs
 
--- src/lib.rt:225:9
 returns : tie.Need-returns
 returns c =
     let a = c .before .before .before .before .before .before .before .before .before .before .before .args in
@@ -42,11 +27,9 @@ returns c =
     let t = instance-text-promised l (a .family) (now (a .sizes)) (a .limit) (now (a .output)) run (c .before .before .before .before .before .metaqasm-instance .ensures .0) (now (a .text)) _ (by-other run (textAnswered (c .unprinted .result)) (now (a .text)) _ (c .before .if1 .taken) (c .unprinted .ensures)) (c .before .before .before .before .before .metaqasm-instance .ensures .1 .1 .0) (c .before .before .before .before .before .metaqasm-instance .ensures .1 .1 .1) in
     (t .0, (t .1, (t .2 .records, (t .2 .steps, t .2 .fits))))
 
--- src/lib.rt:227:42
 wide-requires : tie.Need-wide-requires
 wide-requires c κs = search needs
 
--- src/lib.rt:227:9
 wires-requires : tie.Need-wires-requires
 wires-requires c κs =
     let a = c .before .before .before .before .before .before .before .before .before .before .before .args in
@@ -55,7 +38,6 @@ wires-requires c κs =
     let run : Reply = record { result = answered (c .before .before .before .before .before .metaqasm-instance .result); output = out } in
     acceptable l (instance-accepted l (a .family) (now (a .sizes)) (a .limit) (now (a .output)) run (c .before .before .before .before .before .metaqasm-instance .ensures .0) (c .before .if1 .left))
 
--- src/lib.rt:228:5
 printed-requires : tie.Need-printed-requires
 printed-requires c κs =
     let a = c .before .before .before .before .before .before .before .before .before .before .before .before .before .before .args in
@@ -66,15 +48,12 @@ printed-requires c κs =
     let w = (rw (c .before .before .before .wide .ensures) at (c .before .before .wires .ensures)) (instance-suits l (a .family) (now (a .sizes)) (a .limit) (now (a .output)) run (c .before .before .before .before .before .before .before .before .metaqasm-instance .ensures .0) (c .before .before .before .before .if1 .left)) in
     (c .before .before .before .before .before .before .before .before .metaqasm-instance .ensures .1 .1 .0, (rw w (few .0), few .1))
 
--- src/lib.rt:208:1
 same-length-2 : tie.Need-same-length-2
 same-length-2 c = search needs
 
--- src/lib.rt:208:1
 same-length-3 : tie.Need-same-length-3
 same-length-3 c = search needs
 
--- src/lib.rt:208:1
 returns-2 : tie.Need-returns-2
 returns-2 c =
     let a = c .before .before .before .before .before .before .before .before .before .before .before .before .before .before .before .before .before .args in

@@ -1,16 +1,10 @@
+-- `metaqasm::metaqasm_run` meets its contract. Assumes nothing.
 use borrow.Author.Needs.{needs}
 use Rattle.metaqasm.proofs.metaqasm_run.Statement.{statement}
 use Rattle.metaqasm.proofs.metaqasm_run.Tie as tie
-use Rattle.metaqasm.proofs.metaqasm_run.Reads as reads
-use Rattle.metaqasm.proofs.metaqasm_run.Lts as lts
-use Rattle.metaqasm.proofs.checked.Reads as checked-reads
-use Rattle.metaqasm.proofs.result_of_answer.Reads as told-reads
-use Rattle.runs.proofs.run.Reads as run-reads
-use Prim.Native.Nat.{ℕ, _*_}
-use mathlib.Core.Path.{_≡_, refl, sym, ap, _∙_}
+use mathlib.Core.Path.{sym, ap, _∙_}
 use native.Mathlib.Omega.{arith}
 use denote.Ref.{now}
-use lib.ListN.{length}
 use Rattle.language.specs.Result.{Result}
 use Rattle.metaqasm.specs.Answers.{answered}
 use Rattle.metaqasm.proofs.AcceptedRuns.{acceptable, run-told, run-answers, refused-run, refused-counts, refused-sound}

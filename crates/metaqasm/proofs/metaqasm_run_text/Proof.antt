@@ -1,38 +1,24 @@
+-- `metaqasm::metaqasm_run_text` meets its contract. Assumes nothing.
 use borrow.Author.Needs.{needs}
 use Rattle.metaqasm.proofs.metaqasm_run_text.Statement.{statement}
 use Rattle.metaqasm.proofs.metaqasm_run_text.Tie as tie
-use Rattle.metaqasm.proofs.metaqasm_run_text.Reads as reads
-use Rattle.metaqasm.proofs.metaqasm_run_text.Lts as lts
-use Rattle.laid_out.proofs.declared.Reads as declared-reads
-use Rattle.metaqasm.proofs.metaqasm_run.Reads as metaqasm-run-reads
-use Rattle.metaqasm.proofs.printed.Reads as printed-reads
-use Rattle.metaqasm.proofs.unprinted.Reads as unprinted-reads
-use mathlib.Core.Path.{sym, ap, _∙_}
 use native.Mathlib.Omega.{arith}
 use denote.Ref.{now}
-use Rattle.language.specs.Result.{Result, Answer as Reply}
-use Rattle.language.specs.Sound.{qubitsDeclared, bitsDeclared}
-use Rattle.qasm_text.specs.Text.{textOf}
-use Rattle.qasm_text.specs.RecordsIn.{recordsIn}
-use Rattle.qasm_text.specs.TextResult.{TextAnswer}
+use Rattle.language.specs.Result.{Answer as Reply}
 use Rattle.metaqasm.specs.Answers.{answered}
 use Rattle.metaqasm.specs.TextAnswers.{textAnswered}
 use Rattle.metaqasm.proofs.AcceptedRuns.{acceptable}
 use Rattle.metaqasm.proofs.TextRuns.{by-other, by-done, run-accepted, run-text-promised}
 
--- src/lib.rt:199:9
 metaqasm-run-requires : tie.Need-metaqasm-run-requires
 metaqasm-run-requires c κs = search needs
 
--- src/lib.rt:201:9
 unprinted-requires : tie.Need-unprinted-requires
 unprinted-requires c κs = search needs
 
--- src/lib.rt:201:9
 same-length : tie.Need-same-length
 same-length c = search needs
 
--- src/lib.rt:201:9
 returns : tie.Need-returns
 returns c =
     let a = c .before .before .before .before .before .before .before .before .before .before .args in
@@ -42,7 +28,6 @@ returns c =
     let t = run-text-promised l (a .limit) (now (a .output)) run (c .before .before .before .before .before .metaqasm-run .ensures .0) (now (a .text)) _ (by-other run (textAnswered (c .unprinted .result)) (now (a .text)) _ (c .before .if1 .taken) (c .unprinted .ensures)) (c .before .before .before .before .before .metaqasm-run .ensures .1 .1 .0) (c .before .before .before .before .before .metaqasm-run .ensures .1 .1 .1) in
     (t .0, (t .1, (t .2 .records, (t .2 .steps, t .2 .fits))))
 
--- src/lib.rt:203:9
 declared-requires : tie.Need-declared-requires
 declared-requires c κs =
     let a = c .before .before .before .before .before .before .before .before .before .args in
@@ -51,7 +36,6 @@ declared-requires c κs =
     let run : Reply = record { result = answered (c .before .before .before .before .metaqasm-run .result); output = out } in
     acceptable l (run-accepted l (a .limit) (now (a .output)) run (c .before .before .before .before .metaqasm-run .ensures .0) (c .if1 .left)) .short
 
--- src/lib.rt:204:5
 printed-requires : tie.Need-printed-requires
 printed-requires c κs =
     let a = c .before .before .before .before .before .before .before .before .before .before .before .before .args in
@@ -63,15 +47,12 @@ printed-requires c κs =
     let b = c .before .before .declared .ensures .bits in
     (c .before .before .before .before .before .before .before .metaqasm-run .ensures .1 .1 .0, (omega (arith, few .0, few .1), omega (arith, few .0, few .1)))
 
--- src/lib.rt:186:1
 same-length-2 : tie.Need-same-length-2
 same-length-2 c = search needs
 
--- src/lib.rt:186:1
 same-length-3 : tie.Need-same-length-3
 same-length-3 c = search needs
 
--- src/lib.rt:186:1
 returns-2 : tie.Need-returns-2
 returns-2 c =
     let a = c .before .before .before .before .before .before .before .before .before .before .before .before .before .before .before .args in

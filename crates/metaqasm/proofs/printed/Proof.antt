@@ -1,12 +1,8 @@
+-- `metaqasm::printed` meets its contract. Assumes nothing.
 use borrow.Author.Needs.{needs}
 use Rattle.metaqasm.proofs.printed.Statement.{statement}
 use Rattle.metaqasm.proofs.printed.Tie as tie
-use Rattle.metaqasm.proofs.printed.Reads as reads
-use Rattle.metaqasm.proofs.printed.Lts as lts
-use Rattle.metaqasm.proofs.unprinted.Reads as unprinted-reads
-use Rattle.qasm_print.proofs.print.Reads as print-reads
 use mathlib.Core.Path.{ap, _∙_}
-use native.Mathlib.Omega.{arith}
 use denote.Ref.{now}
 use Rattle.qasm_text.specs.Text.{textOf}
 use Rattle.qasm_text.specs.RecordsIn.{recordsIn}
@@ -14,35 +10,27 @@ use Rattle.qasm_text.specs.TextResult.{TextResult}
 use Rattle.metaqasm.specs.Answers.{answered}
 use Rattle.metaqasm.proofs.TextRuns.{printed-not, printed-fully}
 
--- src/lib.rt:171:46
 cast-print : tie.Need-cast-print
 cast-print c = search needs
 
--- src/lib.rt:171:60
 cast-print-2 : tie.Need-cast-print-2
 cast-print-2 c = search needs
 
--- src/lib.rt:171:11
 print-requires : tie.Need-print-requires
 print-requires c κs = search needs
 
--- src/lib.rt:172:32
 enum-told : tie.Need-enum-told
 enum-told c = search needs
 
--- src/lib.rt:172:32
 unprinted-requires : tie.Need-unprinted-requires
 unprinted-requires c κs = search needs
 
--- src/lib.rt:173:26
 enum-known-n : tie.Need-enum-known-n
 enum-known-n c = search needs
 
--- src/lib.rt:159:1
 same-length : tie.Need-same-length
 same-length c = search needs
 
--- src/lib.rt:159:1
 returns : tie.Need-returns
 returns c =
     let a = c .before .before .before .before .before .before .before .before .before .args in
@@ -51,11 +39,9 @@ returns c =
     ap (λ (x : TextResult). record { result = x; output = out; text = after }) (c .unprinted .ensures)
     ∙ printed-not (now (a .text)) (textOf (a .wires) (a .bits) (recordsIn (a .run .records) out)) after (record { result = answered (a .run); output = out }) (c .before .before .before .before .before .print .result) (c .before .before .before .before .before .print .ensures) (c .before .enum-told .given .1)
 
--- src/lib.rt:159:1
 same-length-2 : tie.Need-same-length-2
 same-length-2 c = search needs
 
--- src/lib.rt:159:1
 returns-2 : tie.Need-returns-2
 returns-2 c =
     let a = c .before .before .before .before .before .before .before .before .before .args in

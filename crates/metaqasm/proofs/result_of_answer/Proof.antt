@@ -1,9 +1,7 @@
+-- `metaqasm::result_of_answer` meets its contract. Assumes nothing.
 use borrow.Author.Needs.{needs}
 use Rattle.metaqasm.proofs.result_of_answer.Statement.{statement}
 use Rattle.metaqasm.proofs.result_of_answer.Tie as tie
-use Rattle.metaqasm.proofs.result_of_answer.Reads as reads
-use Rattle.metaqasm.proofs.result_of_answer.Lts as lts
-use Rattle.metaqasm.proofs.result.Reads as result-reads
 use mathlib.Core.Path.{sym, ap, _∙_, subst}
 use Rattle.language.specs.Result.{Result, finished}
 use Rattle.runs.specs.Conclusions.{concluded}

@@ -2,12 +2,10 @@
 use borrow.Author.Needs.{needs}
 use Rattle.operands.proofs.indexed.Statement.{statement}
 use Rattle.operands.proofs.indexed.Tie as tie
-use native.Mathlib.Omega.{arith}
-use mathlib.Core.Path.{_≡_, refl, _∙_, ap, sym}
+use mathlib.Core.Path.{_≡_, _∙_, ap}
 use mathlib.Core.Bool.{true, false}
 use lib.Signed.{ltZ}
 use lib.IntN.{pos, natAbs}
-use mir.ValLaws.{toZ-ofZ}
 use Rattle.language.proofs.Integers.{range-back}
 use Rattle.operands.proofs.Meanings.{indexed-negative, indexed-natural, natural-fits}
 

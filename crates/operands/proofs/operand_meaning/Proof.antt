@@ -2,7 +2,7 @@
 use borrow.Author.Needs.{needs}
 use Rattle.operands.proofs.operand_meaning.Statement.{statement}
 use Rattle.operands.proofs.operand_meaning.Tie as tie
-use mathlib.Core.Path.{_∙_, ap, sym}
+use mathlib.Core.Path.{_∙_}
 use Rattle.operands.specs.Meanings.{operandsOf}
 
 register-requires : tie.Need-register-requires

@@ -6,11 +6,11 @@ use Prim.Native.Nat.{_+_, _-_, _<_, _≤_}
 use borrow.Author.Tests.{ltb-true}
 use native.Mathlib.Omega.{arith}
 use denote.Ref.{now}
-use lib.ListN.{length, getD, take, drop}
+use lib.ListN.{length, getD, take}
 use lib.Seq.{slice}
-use mathlib.Core.Path.{_≡_, refl, _∙_, ap, sym}
+use mathlib.Core.Path.{_≡_, _∙_, sym}
 use Rattle.fields.proofs.Between.{in-whole, not-empty, first-byte}
-use Rattle.operands.specs.Meanings.{operandsOf, FieldMeans}
+use Rattle.operands.specs.Meanings.{operandsOf}
 use Rattle.operands.proofs.OperandFields.{wire-none, wire-some, whole-operand}
 
 header-at-requires : tie.Need-header-at-requires

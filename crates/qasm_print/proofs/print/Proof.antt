@@ -1,50 +1,39 @@
+-- `qasm_print::print` meets its contract. Assumes nothing.
 use borrow.Author.Needs.{needs}
 use Rattle.qasm_print.proofs.print.Statement.{statement}
 use Rattle.qasm_print.proofs.print.Tie as tie
-use Rattle.qasm_print.proofs.print.Reads as reads
-use Rattle.qasm_print.proofs.print.Lts as lts
-use Rattle.qasm_length.proofs.text_length.Reads as text-length-reads
-use Rattle.qasm_print.proofs.put_header.Reads as put-header-reads
-use Rattle.qasm_print.proofs.put_lines.Reads as put-lines-reads
 use denote.Ref.{now}
 use Rattle.qasm_text.specs.Text.{lines}
 use Rattle.qasm_text.specs.RecordsIn.{recordsIn}
 use Rattle.text_bytes.proofs.Pieces.{room-first, room-next, puts-both}
 use Rattle.qasm_print.proofs.Printing.{prints-nothing, room-whole, prints-whole}
 
--- src/lib.rt:250:9
 text-length-requires : tie.Need-text-length-requires
 text-length-requires c κs = search needs
 
 enum-told : tie.Need-enum-told
 enum-told c = search needs
 
--- src/lib.rt:252:9
 enum-told-2 : tie.Need-enum-told-2
 enum-told-2 c = search needs
 
--- src/lib.rt:252:9
 returns : tie.Need-returns
 returns c =
     prints-nothing (now (c .before .before .before .before .before .args .text)) (c .before .before .before .before .before .args .wires) (c .before .before .before .before .before .args .bits) (recordsIn (c .before .before .before .before .before .args .records) (now (c .before .before .before .before .before .args .output))) (c .before .before .text-length .result) (c .before .before .text-length .ensures) (c .enum-told2 .given .1)
 
--- src/lib.rt:254:9
 put-header-requires : tie.Need-put-header-requires
 put-header-requires c κs =
     let rs = recordsIn (c .before .before .before .before .before .before .args .records) (now (c .before .before .before .before .before .before .args .output)) in
     room-first (lines rs) (room-whole (now (c .before .before .before .before .before .before .args .text)) (c .before .before .before .before .before .before .args .wires) (c .before .before .before .before .before .before .args .bits) rs (c .before .before .before .text-length .result) (c .before .before .before .text-length .ensures) _ (c .before .enum-told .given .1))
 
--- src/lib.rt:255:5
 put-lines-requires : tie.Need-put-lines-requires
 put-lines-requires c κs =
     let rs = recordsIn (c .before .before .before .before .before .before .before .before .before .before .args .records) (now (c .before .before .before .before .before .before .before .before .before .before .args .output)) in
     (c .before .before .before .before .before .before .before .before .before .before .pre, room-next (room-whole (now (c .before .before .before .before .before .before .before .before .before .before .args .text)) (c .before .before .before .before .before .before .before .before .before .before .args .wires) (c .before .before .before .before .before .before .before .before .before .before .args .bits) rs (c .before .before .before .before .before .before .before .text-length .result) (c .before .before .before .before .before .before .before .text-length .ensures) _ (c .before .before .before .before .before .enum-told .given .1)) (c .before .before .before .put-header .ensures))
 
--- src/lib.rt:245:1
 same-length : tie.Need-same-length
 same-length c = search needs
 
--- src/lib.rt:245:1
 returns-2 : tie.Need-returns-2
 returns-2 c =
     let rs = recordsIn (c .before .before .before .before .before .before .before .before .before .before .before .before .before .args .records) (now (c .before .before .before .before .before .before .before .before .before .before .before .before .before .args .output)) in

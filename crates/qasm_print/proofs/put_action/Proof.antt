@@ -1,125 +1,99 @@
+-- `qasm_print::put_action` meets its contract. Assumes nothing.
 use borrow.Author.Needs.{needs}
 use Rattle.qasm_print.proofs.put_action.Statement.{statement}
 use Rattle.qasm_print.proofs.put_action.Tie as tie
-use Rattle.qasm_print.proofs.put_action.Reads as reads
-use Rattle.qasm_print.proofs.put_action.Lts as lts
-use Rattle.qasm_print.proofs.put_cx.Reads as put-cx-reads
-use Rattle.qasm_print.proofs.put_measure.Reads as put-measure-reads
-use Rattle.qasm_print.proofs.put_on_wire.Reads as put-on-wire-reads
 use Rattle.language.specs.Read.{choose}
 use Rattle.text_bytes.specs.Decimal.{ascii}
 use Rattle.qasm_text.specs.Text.{actionText}
 use Rattle.qasm_text.specs.RecordsIn.{actionOf}
 use Rattle.qasm_text.proofs.RecordsBack.{action-other}
 
--- src/lib.rt:139:26
 slice-aggregate-put-on-wire : tie.Need-slice-aggregate-put-on-wire
 slice-aggregate-put-on-wire c = search needs
 
--- src/lib.rt:139:14
 put-on-wire-requires : tie.Need-put-on-wire-requires
 unfolding actionOf choose actionText ascii
 put-on-wire-requires c κs =
     rw (c .before .before .match .keys1) at (c .before .before .before .before .pre)
 
--- src/lib.rt:140:26
 slice-aggregate-put-on-wire-2 : tie.Need-slice-aggregate-put-on-wire-2
 slice-aggregate-put-on-wire-2 c = search needs
 
--- src/lib.rt:140:14
 put-on-wire-requires-2 : tie.Need-put-on-wire-requires-2
 unfolding actionOf choose actionText ascii
 put-on-wire-requires-2 c κs =
     rw (c .before .before .match .keys2) at (c .before .before .before .before .pre)
 
--- src/lib.rt:141:26
 slice-aggregate-put-on-wire-3 : tie.Need-slice-aggregate-put-on-wire-3
 slice-aggregate-put-on-wire-3 c = search needs
 
--- src/lib.rt:141:14
 put-on-wire-requires-3 : tie.Need-put-on-wire-requires-3
 unfolding actionOf choose actionText ascii
 put-on-wire-requires-3 c κs =
     rw (c .before .before .match .keys3) at (c .before .before .before .before .pre)
 
--- src/lib.rt:142:14
 put-cx-requires : tie.Need-put-cx-requires
 unfolding actionOf choose
 put-cx-requires c κs =
     rw (c .before .match .keys4) at (c .before .before .before .pre)
 
--- src/lib.rt:143:14
 put-measure-requires : tie.Need-put-measure-requires
 unfolding actionOf choose
 put-measure-requires c κs =
     rw (c .before .match .keys5) at (c .before .before .before .pre)
 
--- src/lib.rt:144:26
 slice-aggregate-put-on-wire-4 : tie.Need-slice-aggregate-put-on-wire-4
 slice-aggregate-put-on-wire-4 c = search needs
 
--- src/lib.rt:144:14
 put-on-wire-requires-4 : tie.Need-put-on-wire-requires-4
 unfolding actionText ascii
 put-on-wire-requires-4 c κs =
     let r = c .before .before .match .rest in
     rw (action-other (c .before .before .before .before .args .op) (c .before .before .before .before .args .first) (c .before .before .before .before .args .second) (r .0 .0 .0 .0 .1) (r .0 .0 .0 .1) (r .0 .0 .1) (r .0 .1) (r .1)) at (c .before .before .before .before .pre)
 
--- src/lib.rt:134:1
 same-length : tie.Need-same-length
 same-length c = search needs
 
--- src/lib.rt:134:1
 returns : tie.Need-returns
 unfolding actionOf choose actionText ascii
 returns c =
     rw (c .before .before .before .before .before .match .keys1) (c .before .before .put-on-wire .ensures)
 
--- src/lib.rt:134:1
 same-length-2 : tie.Need-same-length-2
 same-length-2 c = search needs
 
--- src/lib.rt:134:1
 returns-2 : tie.Need-returns-2
 unfolding actionOf choose actionText ascii
 returns-2 c =
     rw (c .before .before .before .before .before .match .keys2) (c .before .before .put-on-wire2 .ensures)
 
--- src/lib.rt:134:1
 same-length-3 : tie.Need-same-length-3
 same-length-3 c = search needs
 
--- src/lib.rt:134:1
 returns-3 : tie.Need-returns-3
 unfolding actionOf choose actionText ascii
 returns-3 c =
     rw (c .before .before .before .before .before .match .keys3) (c .before .before .put-on-wire3 .ensures)
 
--- src/lib.rt:134:1
 same-length-4 : tie.Need-same-length-4
 same-length-4 c = search needs
 
--- src/lib.rt:134:1
 returns-4 : tie.Need-returns-4
 unfolding actionOf choose
 returns-4 c =
     rw (c .before .before .before .before .match .keys4) (c .before .before .put-cx .ensures)
 
--- src/lib.rt:134:1
 same-length-5 : tie.Need-same-length-5
 same-length-5 c = search needs
 
--- src/lib.rt:134:1
 returns-5 : tie.Need-returns-5
 unfolding actionOf choose
 returns-5 c =
     rw (c .before .before .before .before .match .keys5) (c .before .before .put-measure .ensures)
 
--- src/lib.rt:134:1
 same-length-6 : tie.Need-same-length-6
 same-length-6 c = search needs
 
--- src/lib.rt:134:1
 returns-6 : tie.Need-returns-6
 unfolding actionText ascii
 returns-6 c =

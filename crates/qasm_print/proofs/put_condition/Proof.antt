@@ -1,13 +1,8 @@
+-- `qasm_print::put_condition` meets its contract. Assumes nothing.
 use borrow.Author.Needs.{needs}
 use Rattle.qasm_print.proofs.put_condition.Statement.{statement}
 use Rattle.qasm_print.proofs.put_condition.Tie as tie
-use Rattle.qasm_print.proofs.put_condition.Reads as reads
-use Rattle.qasm_print.proofs.put_condition.Lts as lts
-use Rattle.fields.proofs.wider.Reads as wider-reads
-use Rattle.qasm_print.proofs.put_bit.Reads as put-bit-reads
-use Rattle.qasm_print.proofs.put_number.Reads as put-number-reads
 use Prim.Native.Nat.{_-_}
-use native.Mathlib.Omega.{arith}
 use denote.Ref.{now}
 use Rattle.text_bytes.specs.Decimal.{ascii, decimal}
 use Rattle.qasm_text.specs.Text.{bitText, conditionText}
@@ -15,72 +10,59 @@ use Rattle.qasm_text.specs.RecordsIn.{conditionOf}
 use Rattle.text_bytes.proofs.Pieces.{room-first, room-next, puts-none, puts-both}
 use Rattle.qasm_text.proofs.RecordsBack.{condition-some}
 
--- src/lib.rt:154:9
 returns : tie.Need-returns
 unfolding conditionText conditionOf
 returns c =
     rw (c .if1 .taken) (puts-none (now (c .before .before .args .text)) (c .before .before .args .from))
 
--- src/lib.rt:156:17
 wider-requires : tie.Need-wider-requires
 wider-requires c κs = search needs
 
--- src/lib.rt:156:17
 sub-value : tie.Need-sub-value
 sub-value c = search needs
 
--- src/lib.rt:157:20
 slice-aggregate-put : tie.Need-slice-aggregate-put
 slice-aggregate-put c = search needs
 
--- src/lib.rt:157:9
 put-requires : tie.Need-put-requires
 unfolding conditionText ascii
 put-requires c κs =
     let r = rw (condition-some (c .before .before .before .before .before .args .kind) (c .before .before .before .before .before .args .bit) (c .before .before .before .if1 .left)) at (c .before .before .before .before .before .pre) in
     room-first (bitText (record { number = c .before .before .before .before .before .args .bit })) (room-first (ascii "==") (room-first (decimal (c .before .before .before .before .before .args .kind - 1)) (room-first (ascii ") ") r)))
 
--- src/lib.rt:158:9
 put-bit-requires : tie.Need-put-bit-requires
 unfolding conditionText ascii
 put-bit-requires c κs =
     let r = rw (condition-some (c .before .before .before .before .before .before .before .before .before .args .kind) (c .before .before .before .before .before .before .before .before .before .args .bit) (c .before .before .before .before .before .before .before .if1 .left)) at (c .before .before .before .before .before .before .before .before .before .pre) in
     room-next (room-first (ascii "==") (room-first (decimal (c .before .before .before .before .before .before .before .before .before .args .kind - 1)) (room-first (ascii ") ") r))) (c .before .before .before .put .ensures)
 
--- src/lib.rt:159:22
 slice-aggregate-put-2 : tie.Need-slice-aggregate-put-2
 slice-aggregate-put-2 c = search needs
 
--- src/lib.rt:159:9
 put-requires-2 : tie.Need-put-requires-2
 unfolding conditionText ascii
 put-requires-2 c κs =
     let r = rw (condition-some (c .before .before .before .before .before .before .before .before .before .before .before .before .before .before .args .kind) (c .before .before .before .before .before .before .before .before .before .before .before .before .before .before .args .bit) (c .before .before .before .before .before .before .before .before .before .before .before .before .if1 .left)) at (c .before .before .before .before .before .before .before .before .before .before .before .before .before .before .pre) in
     room-next (room-first (decimal (c .before .before .before .before .before .before .before .before .before .before .before .before .before .before .args .kind - 1)) (room-first (ascii ") ") r)) (puts-both (c .before .before .before .before .before .before .before .before .put .ensures) (c .before .before .before .before .put-bit .ensures))
 
--- src/lib.rt:160:9
 put-number-requires : tie.Need-put-number-requires
 unfolding conditionText ascii
 put-number-requires c κs =
     let r = rw (condition-some (c .before .before .before .before .before .before .before .before .before .before .before .before .before .before .before .before .before .before .args .kind) (c .before .before .before .before .before .before .before .before .before .before .before .before .before .before .before .before .before .before .args .bit) (c .before .before .before .before .before .before .before .before .before .before .before .before .before .before .before .before .if1 .left)) at (c .before .before .before .before .before .before .before .before .before .before .before .before .before .before .before .before .before .before .pre) in
     rw (c .before .before .before .before .before .before .before .before .before .before .before .before .before .before .before .wider .ensures) (room-next (room-first (ascii ") ") r) (puts-both (puts-both (c .before .before .before .before .before .before .before .before .before .before .before .before .put .ensures) (c .before .before .before .before .before .before .before .before .put-bit .ensures)) (c .before .before .before .put2 .ensures)))
 
--- src/lib.rt:161:9
 slice-aggregate-put-3 : tie.Need-slice-aggregate-put-3
 slice-aggregate-put-3 c = search needs
 
--- src/lib.rt:161:5
 put-requires-3 : tie.Need-put-requires-3
 unfolding conditionText ascii
 put-requires-3 c κs =
     let r = rw (condition-some (c .before .before .before .before .before .before .before .before .before .before .before .before .before .before .before .before .before .before .before .before .before .before .before .args .kind) (c .before .before .before .before .before .before .before .before .before .before .before .before .before .before .before .before .before .before .before .before .before .before .before .args .bit) (c .before .before .before .before .before .before .before .before .before .before .before .before .before .before .before .before .before .before .before .before .before .if1 .left)) at (c .before .before .before .before .before .before .before .before .before .before .before .before .before .before .before .before .before .before .before .before .before .before .before .pre) in
     room-next r (puts-both (puts-both (puts-both (c .before .before .before .before .before .before .before .before .before .before .before .before .before .before .before .before .before .put .ensures) (c .before .before .before .before .before .before .before .before .before .before .before .before .before .put-bit .ensures)) (c .before .before .before .before .before .before .before .before .put2 .ensures)) (rw (c .before .before .before .before .before .before .before .before .before .before .before .before .before .before .before .before .before .before .before .before .wider .ensures) at (c .before .before .before .before .put-number .ensures)))
 
--- src/lib.rt:149:1
 same-length : tie.Need-same-length
 same-length c = search needs
 
--- src/lib.rt:149:1
 returns-2 : tie.Need-returns-2
 unfolding conditionText ascii
 returns-2 c =

@@ -1,13 +1,10 @@
+-- `qasm_print::put_cregs` meets its contract. Assumes nothing.
 use Rattle.qasm_print.proofs.put_cregs.Statement.{statement}
 use Rattle.qasm_print.proofs.put_cregs.Tie as tie
-use Rattle.qasm_print.proofs.put_cregs.Reads as reads
-use Rattle.qasm_print.proofs.put_cregs.Lts as lts
-use Rattle.qasm_print.proofs.put_creg.Reads as put-creg-reads
 use Prim.Native.Nat.{_-_, _≤_}
-use mathlib.Core.Path.{_≡_, ap}
+use mathlib.Core.Path.{_≡_}
 use native.Mathlib.Omega.{arith}
 use denote.Ref.{now}
-use lib.ListN.{length}
 use Rattle.qasm_text.specs.Text.{cregLine, cregLines}
 use Rattle.text_bytes.specs.Buffers.{Puts}
 use Rattle.text_bytes.proofs.Pieces.{puts-none, puts-size}
@@ -21,38 +18,31 @@ abbrev μ-loop : tie.MeasureT-loop
 μ-loop bits text₀ from at₀ bit₀ text at bit =
     bits - bit
 
--- src/lib.rt:194:5
 loop-holds : tie.Need-loop-holds Inv-loop μ-loop
 unfolding cregLines
 loop-holds c =
     (omega arith, puts-none (now (c .before .args .text)) (c .before .args .from))
 
--- src/lib.rt:195:9
 put-creg-requires : tie.Need-put-creg-requires Inv-loop μ-loop
 put-creg-requires c κs =
     line-room cregLines cregLine cregs-next (c .before .before .before .before .args .bits) (c .before .before .loop .bit) (c .before .loop-test .taken) (c .before .before .before .before .pre) (c .before .before .loop .inv .1)
 
--- src/lib.rt:196:9
 add-bit : tie.Need-add-bit Inv-loop μ-loop
 add-bit c =
     omega arith
 
--- src/lib.rt:194:5
 loop-less : tie.Need-loop-less Inv-loop μ-loop
 loop-less c =
     omega arith
 
--- src/lib.rt:194:5
 loop-again : tie.Need-loop-again Inv-loop μ-loop
 loop-again c =
     (omega arith, line-put cregLines cregLine cregs-next (c .before .before .before .before .before .loop .bit) (c .before .before .before .before .before .loop .inv .1) (c .before .before .put-creg .ensures))
 
--- src/lib.rt:188:1
 same-length : tie.Need-same-length Inv-loop μ-loop
 same-length c =
     puts-size (c .before .loop .inv .1)
 
--- src/lib.rt:188:1
 returns : tie.Need-returns Inv-loop μ-loop
 returns c =
     let e : c .before .loop .bit ≡ c .before .before .before .args .bits = omega arith in

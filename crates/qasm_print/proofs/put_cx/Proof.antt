@@ -1,45 +1,35 @@
+-- `qasm_print::put_cx` meets its contract. Assumes nothing.
 use borrow.Author.Needs.{needs}
 use Rattle.qasm_print.proofs.put_cx.Statement.{statement}
 use Rattle.qasm_print.proofs.put_cx.Tie as tie
-use Rattle.qasm_print.proofs.put_cx.Reads as reads
-use Rattle.qasm_print.proofs.put_cx.Lts as lts
-use Rattle.qasm_print.proofs.put_on_wire.Reads as put-on-wire-reads
-use Rattle.qasm_print.proofs.put_wire.Reads as put-wire-reads
 use Rattle.text_bytes.specs.Decimal.{ascii}
 use Rattle.qasm_text.specs.Text.{wireText, actionText}
-use Rattle.text_bytes.proofs.Pieces.{room-first, room-next, puts-none, puts-both}
+use Rattle.text_bytes.proofs.Pieces.{room-first, room-next, puts-both}
 
--- src/lib.rt:117:28
 slice-aggregate-put-on-wire : tie.Need-slice-aggregate-put-on-wire
 slice-aggregate-put-on-wire c = search needs
 
--- src/lib.rt:117:9
 put-on-wire-requires : tie.Need-put-on-wire-requires
 unfolding actionText ascii
 put-on-wire-requires c κs =
     room-first (ascii ",") (room-first (wireText (record { number = c .before .before .before .args .target })) (c .before .before .before .pre))
 
--- src/lib.rt:118:21
 slice-aggregate-put : tie.Need-slice-aggregate-put
 slice-aggregate-put c = search needs
 
--- src/lib.rt:118:9
 put-requires : tie.Need-put-requires
 unfolding actionText ascii
 put-requires c κs =
     room-next (room-first (wireText (record { number = c .before .before .before .before .before .before .before .before .args .target })) (c .before .before .before .before .before .before .before .before .pre)) (c .before .before .before .before .put-on-wire .ensures)
 
--- src/lib.rt:119:5
 put-wire-requires : tie.Need-put-wire-requires
 unfolding actionText ascii
 put-wire-requires c κs =
     room-next (c .before .before .before .before .before .before .before .before .before .before .before .before .pre) (puts-both (c .before .before .before .before .before .before .before .before .put-on-wire .ensures) (c .before .before .before .put .ensures))
 
--- src/lib.rt:113:1
 same-length : tie.Need-same-length
 same-length c = search needs
 
--- src/lib.rt:113:1
 returns : tie.Need-returns
 unfolding actionText ascii
 returns c =

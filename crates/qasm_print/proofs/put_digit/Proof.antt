@@ -1,33 +1,26 @@
+-- `qasm_print::put_digit` meets its contract. Assumes nothing.
 use borrow.Author.Needs.{needs}
 use Rattle.qasm_print.proofs.put_digit.Statement.{statement}
 use Rattle.qasm_print.proofs.put_digit.Tie as tie
-use Rattle.qasm_print.proofs.put_digit.Reads as reads
-use Rattle.qasm_print.proofs.put_digit.Lts as lts
-use Rattle.qasm_print.proofs.digit_byte.Reads as digit-byte-reads
-use mathlib.Core.Path.{refl, ap, sym}
+use mathlib.Core.Path.{refl, ap}
 use native.Mathlib.Omega.{arith}
 use lib.ListN.{length}
 use Rattle.text_bytes.proofs.DecimalLaws.{decimal-digit}
 
--- src/lib.rt:54:18
 digit-byte-requires : tie.Need-digit-byte-requires
 digit-byte-requires c κs = search needs
 
--- src/lib.rt:54:5
 slice-write-text : tie.Need-slice-write-text
 slice-write-text c =
     omega (arith, ap length (decimal-digit (c .before .before .args .n) (c .before .before .pre .0)), c .before .before .pre .1 .fits)
 
--- src/lib.rt:55:5
 add-result : tie.Need-add-result
 add-result c =
     omega (arith, ap length (decimal-digit (c .before .before .args .n) (c .before .before .pre .0)), c .before .before .pre .1 .fits)
 
--- src/lib.rt:49:1
 same-length : tie.Need-same-length
 same-length c = search needs
 
--- src/lib.rt:49:1
 returns : tie.Need-returns
 returns c =
     rw (decimal-digit (c .before .before .args .n) (c .before .before .pre .0), c .digit-byte .ensures) (record { stored = refl; past = refl })

@@ -1,51 +1,40 @@
+-- `qasm_print::put_header` meets its contract. Assumes nothing.
 use borrow.Author.Needs.{needs}
 use Rattle.qasm_print.proofs.put_header.Statement.{statement}
 use Rattle.qasm_print.proofs.put_header.Tie as tie
-use Rattle.qasm_print.proofs.put_header.Reads as reads
-use Rattle.qasm_print.proofs.put_header.Lts as lts
-use Rattle.qasm_print.proofs.put_cregs.Reads as put-cregs-reads
-use Rattle.qasm_print.proofs.put_qreg.Reads as put-qreg-reads
 use Rattle.text_bytes.specs.Decimal.{ascii}
 use Rattle.qasm_text.specs.Text.{qregLine, cregLines, header}
 use Rattle.text_bytes.proofs.Pieces.{room-first, room-next, puts-both}
 
--- src/lib.rt:206:23
 slice-aggregate-put : tie.Need-slice-aggregate-put
 slice-aggregate-put c = search needs
 
--- src/lib.rt:206:9
 put-requires : tie.Need-put-requires
 unfolding header ascii
 put-requires c κs =
     room-first (ascii "include \"qelib1.inc\";\n") (room-first (qregLine (c .before .before .before .args .wires)) (room-first (cregLines (c .before .before .before .args .bits)) (c .before .before .before .pre)))
 
--- src/lib.rt:207:23
 slice-aggregate-put-2 : tie.Need-slice-aggregate-put-2
 slice-aggregate-put-2 c = search needs
 
--- src/lib.rt:207:9
 put-requires-2 : tie.Need-put-requires-2
 unfolding header ascii
 put-requires-2 c κs =
     room-next (room-first (qregLine (c .before .before .before .before .before .before .before .before .args .wires)) (room-first (cregLines (c .before .before .before .before .before .before .before .before .args .bits)) (c .before .before .before .before .before .before .before .before .pre))) (c .before .before .before .before .put .ensures)
 
--- src/lib.rt:208:9
 put-qreg-requires : tie.Need-put-qreg-requires
 unfolding header ascii
 put-qreg-requires c κs =
     room-next (room-first (cregLines (c .before .before .before .before .before .before .before .before .before .before .before .before .args .bits)) (c .before .before .before .before .before .before .before .before .before .before .before .before .pre)) (puts-both (c .before .before .before .before .before .before .before .before .put .ensures) (c .before .before .before .put2 .ensures))
 
--- src/lib.rt:209:5
 put-cregs-requires : tie.Need-put-cregs-requires
 unfolding header ascii
 put-cregs-requires c κs =
     room-next (c .before .before .before .before .before .before .before .before .before .before .before .before .before .before .before .before .pre) (puts-both (puts-both (c .before .before .before .before .before .before .before .before .before .before .before .before .put .ensures) (c .before .before .before .before .before .before .before .put2 .ensures)) (c .before .before .before .put-qreg .ensures))
 
--- src/lib.rt:202:1
 same-length : tie.Need-same-length
 same-length c = search needs
 
--- src/lib.rt:202:1
 returns : tie.Need-returns
 unfolding header ascii
 returns c =

@@ -1,11 +1,7 @@
+-- `qasm_print::put_line` meets its contract. Assumes nothing.
 use borrow.Author.Needs.{needs}
 use Rattle.qasm_print.proofs.put_line.Statement.{statement}
 use Rattle.qasm_print.proofs.put_line.Tie as tie
-use Rattle.qasm_print.proofs.put_line.Reads as reads
-use Rattle.qasm_print.proofs.put_line.Lts as lts
-use Rattle.qasm_length.proofs.number_at.Reads as number-at-reads
-use Rattle.qasm_print.proofs.put_action.Reads as put-action-reads
-use Rattle.qasm_print.proofs.put_condition.Reads as put-condition-reads
 use Prim.Native.Nat.{_+_}
 use denote.Ref.{now}
 use lib.ListN.{getD}
@@ -14,23 +10,18 @@ use Rattle.qasm_text.specs.Text.{actionText, line}
 use Rattle.qasm_text.specs.RecordsIn.{actionOf, numberAt, recordAt}
 use Rattle.text_bytes.proofs.Pieces.{room-first, room-next, puts-both}
 
--- src/lib.rt:172:46
 add-number-at : tie.Need-add-number-at
 add-number-at c = search needs
 
--- src/lib.rt:172:9
 number-at-requires : tie.Need-number-at-requires
 number-at-requires c κs = search needs
 
--- src/lib.rt:173:42
 add-put-condition : tie.Need-add-put-condition
 add-put-condition c = search needs
 
--- src/lib.rt:173:35
 shared-slice-read-put-condition : tie.Need-shared-slice-read-put-condition
 shared-slice-read-put-condition c = search needs
 
--- src/lib.rt:173:9
 put-condition-requires : tie.Need-put-condition-requires
 unfolding line recordAt ascii
 put-condition-requires c κs =
@@ -38,47 +29,37 @@ put-condition-requires c κs =
     let at = c .before .before .before .before .before .args .at in
     rw (c .before .before .number-at .ensures) (room-first (actionText (actionOf (getD out at 0) (numberAt out (at + 2)) (numberAt out (at + 4)))) (room-first (ascii ";\n") (c .before .before .before .before .before .pre .1)))
 
--- src/lib.rt:174:48
 add-number-at-2 : tie.Need-add-number-at-2
 add-number-at-2 c = search needs
 
--- src/lib.rt:174:9
 number-at-requires-2 : tie.Need-number-at-requires-2
 number-at-requires-2 c κs = search needs
 
--- src/lib.rt:175:49
 add-number-at-3 : tie.Need-add-number-at-3
 add-number-at-3 c = search needs
 
--- src/lib.rt:175:9
 number-at-requires-3 : tie.Need-number-at-requires-3
 number-at-requires-3 c κs = search needs
 
--- src/lib.rt:176:29
 shared-slice-read-put-action : tie.Need-shared-slice-read-put-action
 shared-slice-read-put-action c = search needs
 
--- src/lib.rt:176:9
 put-action-requires : tie.Need-put-action-requires
 unfolding line recordAt ascii
 put-action-requires c κs =
     rw (c .before .before .before .number-at2 .ensures, c .before .before .number-at3 .ensures) (room-next (room-first (ascii ";\n") (c .before .before .before .before .before .before .before .before .before .before .before .before .pre .1)) (rw (c .before .before .before .before .before .before .before .before .before .number-at .ensures) at (c .before .before .before .before .before .before .put-condition .ensures)))
 
--- src/lib.rt:177:9
 slice-aggregate-put : tie.Need-slice-aggregate-put
 slice-aggregate-put c = search needs
 
--- src/lib.rt:177:5
 put-requires : tie.Need-put-requires
 unfolding line recordAt ascii
 put-requires c κs =
     room-next (c .before .before .before .before .before .before .before .before .before .before .before .before .before .before .before .before .before .pre .1) (puts-both (rw (c .before .before .before .before .before .before .before .before .before .before .before .before .before .before .number-at .ensures) at (c .before .before .before .before .before .before .before .before .before .before .before .put-condition .ensures)) (rw (c .before .before .before .before .before .before .before .before .number-at2 .ensures, c .before .before .before .before .before .before .before .number-at3 .ensures) at (c .before .before .before .before .put-action .ensures)))
 
--- src/lib.rt:167:1
 same-length : tie.Need-same-length
 same-length c = search needs
 
--- src/lib.rt:167:1
 returns : tie.Need-returns
 unfolding line recordAt ascii
 returns c =

@@ -1,13 +1,10 @@
+-- `qasm_print::put_lines` meets its contract. Assumes nothing.
 use Rattle.qasm_print.proofs.put_lines.Statement.{statement}
 use Rattle.qasm_print.proofs.put_lines.Tie as tie
-use Rattle.qasm_print.proofs.put_lines.Reads as reads
-use Rattle.qasm_print.proofs.put_lines.Lts as lts
-use Rattle.qasm_print.proofs.put_line.Reads as put-line-reads
-use Prim.Native.Nat.{ℕ, _*_, _-_, _≤_}
+use Prim.Native.Nat.{_*_, _-_, _≤_}
 use mathlib.Core.Path.{_≡_}
 use native.Mathlib.Omega.{arith}
 use denote.Ref.{now}
-use lib.ListN.{length}
 use Rattle.language.specs.Limits.{recordSize}
 use Rattle.qasm_text.specs.Text.{line, lines}
 use Rattle.qasm_text.specs.RecordsIn.{recordAt, recordsIn}
@@ -24,45 +21,37 @@ abbrev μ-loop : tie.MeasureT-loop
 μ-loop output records text₀ from at₀ i₀ text at i =
     records - i
 
--- src/lib.rt:188:5
 loop-holds : tie.Need-loop-holds Inv-loop μ-loop
 unfolding lines recordsIn
 loop-holds c =
     (omega arith, puts-none (now (c .before .before .args .text)) (c .before .before .args .from))
 
--- src/lib.rt:189:31
 mul-put-line : tie.Need-mul-put-line Inv-loop μ-loop
 mul-put-line c =
     omega (arith, c .before .before .before .before .pre .0)
 
--- src/lib.rt:189:9
 put-line-requires : tie.Need-put-line-requires Inv-loop μ-loop
 put-line-requires c κs =
     let out = now (c .before .before .before .before .before .args .output) in
     (omega (arith, c .before .before .before .before .before .pre .0), line-room (λ k. lines (recordsIn k out)) (λ k. line (recordAt out (recordSize * k))) (λ k. lines-next k out) (c .before .before .before .before .before .args .records) (c .before .before .loop .i) (c .before .loop-test .taken) (c .before .before .before .before .before .pre .1) (c .before .before .loop .inv .1))
 
--- src/lib.rt:190:9
 add-i : tie.Need-add-i Inv-loop μ-loop
 add-i c =
     omega (arith, c .before .before .before .before .before .before .before .before .pre .0)
 
--- src/lib.rt:188:5
 loop-less : tie.Need-loop-less Inv-loop μ-loop
 loop-less c =
     omega (arith, c .before .before .before .before .before .before .before .before .pre .0)
 
--- src/lib.rt:188:5
 loop-again : tie.Need-loop-again Inv-loop μ-loop
 loop-again c =
     let out = now (c .before .before .before .before .before .before .before .before .args .output) in
     (omega arith, line-put (λ k. lines (recordsIn k out)) (λ k. line (recordAt out (recordSize * k))) (λ k. lines-next k out) (c .before .before .before .before .before .loop .i) (c .before .before .before .before .before .loop .inv .1) (c .before .before .put-line .ensures))
 
--- src/lib.rt:181:1
 same-length : tie.Need-same-length Inv-loop μ-loop
 same-length c =
     puts-size (c .before .loop .inv .1)
 
--- src/lib.rt:181:1
 returns : tie.Need-returns Inv-loop μ-loop
 returns c =
     let e : c .before .loop .i ≡ c .before .before .before .before .args .records = omega arith in

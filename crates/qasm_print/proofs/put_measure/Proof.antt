@@ -1,55 +1,43 @@
+-- `qasm_print::put_measure` meets its contract. Assumes nothing.
 use borrow.Author.Needs.{needs}
 use Rattle.qasm_print.proofs.put_measure.Statement.{statement}
 use Rattle.qasm_print.proofs.put_measure.Tie as tie
-use Rattle.qasm_print.proofs.put_measure.Reads as reads
-use Rattle.qasm_print.proofs.put_measure.Lts as lts
-use Rattle.qasm_print.proofs.put_bit.Reads as put-bit-reads
-use Rattle.qasm_print.proofs.put_on_wire.Reads as put-on-wire-reads
 use Rattle.text_bytes.specs.Decimal.{ascii}
 use Rattle.qasm_text.specs.Text.{bitText, actionText}
-use Rattle.text_bytes.proofs.Pieces.{room-first, room-next, puts-none, puts-both}
+use Rattle.text_bytes.proofs.Pieces.{room-first, room-next, puts-both}
 
--- src/lib.rt:127:32
 slice-aggregate-put-on-wire : tie.Need-slice-aggregate-put-on-wire
 slice-aggregate-put-on-wire c = search needs
 
--- src/lib.rt:127:9
 put-on-wire-requires : tie.Need-put-on-wire-requires
 unfolding actionText ascii
 put-on-wire-requires c κs =
     room-first (ascii " -> ") (room-first (bitText (record { number = c .before .before .before .args .bit })) (room-first (ascii "[0]") (c .before .before .before .pre)))
 
--- src/lib.rt:128:21
 slice-aggregate-put : tie.Need-slice-aggregate-put
 slice-aggregate-put c = search needs
 
--- src/lib.rt:128:9
 put-requires : tie.Need-put-requires
 unfolding actionText ascii
 put-requires c κs =
     room-next (room-first (bitText (record { number = c .before .before .before .before .before .before .before .before .args .bit })) (room-first (ascii "[0]") (c .before .before .before .before .before .before .before .before .pre))) (c .before .before .before .before .put-on-wire .ensures)
 
--- src/lib.rt:129:9
 put-bit-requires : tie.Need-put-bit-requires
 unfolding actionText ascii
 put-bit-requires c κs =
     room-next (room-first (ascii "[0]") (c .before .before .before .before .before .before .before .before .before .before .before .before .pre)) (puts-both (c .before .before .before .before .before .before .before .before .put-on-wire .ensures) (c .before .before .before .put .ensures))
 
--- src/lib.rt:130:9
 slice-aggregate-put-2 : tie.Need-slice-aggregate-put-2
 slice-aggregate-put-2 c = search needs
 
--- src/lib.rt:130:5
 put-requires-2 : tie.Need-put-requires-2
 unfolding actionText ascii
 put-requires-2 c κs =
     room-next (c .before .before .before .before .before .before .before .before .before .before .before .before .before .before .before .before .before .pre) (puts-both (puts-both (c .before .before .before .before .before .before .before .before .before .before .before .before .before .put-on-wire .ensures) (c .before .before .before .before .before .before .before .before .put .ensures)) (c .before .before .before .before .put-bit .ensures))
 
--- src/lib.rt:123:1
 same-length : tie.Need-same-length
 same-length c = search needs
 
--- src/lib.rt:123:1
 returns : tie.Need-returns
 unfolding actionText ascii
 returns c =

@@ -1,27 +1,21 @@
+-- `qasm_print::put_on_wire` meets its contract. Assumes nothing.
 use borrow.Author.Needs.{needs}
 use Rattle.qasm_print.proofs.put_on_wire.Statement.{statement}
 use Rattle.qasm_print.proofs.put_on_wire.Tie as tie
-use Rattle.qasm_print.proofs.put_on_wire.Reads as reads
-use Rattle.qasm_print.proofs.put_on_wire.Lts as lts
-use Rattle.qasm_print.proofs.put_wire.Reads as put-wire-reads
 use Rattle.qasm_text.specs.Text.{wireText}
 use Rattle.text_bytes.proofs.Pieces.{room-first, room-next, puts-both}
 
--- src/lib.rt:108:9
 put-requires : tie.Need-put-requires
 put-requires c κs =
     room-first (wireText (record { number = c .before .before .before .args .n })) (c .before .before .before .pre)
 
--- src/lib.rt:109:5
 put-wire-requires : tie.Need-put-wire-requires
 put-wire-requires c κs =
     room-next (c .before .before .before .before .before .before .before .pre) (c .before .before .before .put .ensures)
 
--- src/lib.rt:104:1
 same-length : tie.Need-same-length
 same-length c = search needs
 
--- src/lib.rt:104:1
 returns : tie.Need-returns
 returns c =
     puts-both (c .before .before .before .before .before .before .put .ensures) (c .before .before .put-wire .ensures)

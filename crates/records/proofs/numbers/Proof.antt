@@ -1,9 +1,8 @@
+-- `records::numbers` meets its contract. Assumes nothing.
 use borrow.Author.Needs.{needs}
 use Rattle.records.proofs.numbers.Statement.{statement}
 use Rattle.records.proofs.numbers.Tie as tie
-use Rattle.records.proofs.numbers.Reads as reads
-use Rattle.records.proofs.numbers.Lts as lts
-use mathlib.Core.Path.{refl, sym, ap, _∙_}
+use mathlib.Core.Path.{refl}
 use Rattle.language.specs.Result.{conditionByte, conditionBit}
 use Rattle.records.specs.Outcomes.{conditionOf}
 

@@ -1,10 +1,7 @@
+-- `records::put` meets its contract. Assumes nothing.
 use borrow.Author.Needs.{needs}
 use Rattle.records.proofs.put.Statement.{statement}
 use Rattle.records.proofs.put.Tie as tie
-use Rattle.records.proofs.put.Reads as reads
-use Rattle.records.proofs.put.Lts as lts
-use Rattle.records.proofs.high.Reads as high-reads
-use Rattle.records.proofs.low.Reads as low-reads
 use mathlib.Core.List.{_∷_, []}
 use mathlib.Core.Path.{_∙_}
 use native.Mathlib.Omega.{arith}

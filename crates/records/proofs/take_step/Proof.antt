@@ -2,8 +2,6 @@
 use borrow.Author.Needs.{needs}
 use Rattle.records.proofs.take_step.Statement.{statement}
 use Rattle.records.proofs.take_step.Tie as tie
-use Rattle.records.proofs.take_step.Reads as reads
-use Rattle.records.proofs.take_step.Lts as lts
 use mathlib.Core.Path.{refl}
 use native.Mathlib.Omega.{arith}
 use Rattle.records.specs.Outcomes.{Stepped}

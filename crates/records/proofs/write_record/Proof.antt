@@ -1,15 +1,12 @@
+-- `records::write_record` meets its contract. Assumes nothing.
 use borrow.Author.Needs.{needs}
 use Rattle.records.proofs.write_record.Statement.{statement}
 use Rattle.records.proofs.write_record.Tie as tie
-use Rattle.records.proofs.write_record.Reads as reads
-use Rattle.records.proofs.write_record.Lts as lts
-use Rattle.records.proofs.numbers.Reads as numbers-reads
-use Rattle.records.proofs.put.Reads as put-reads
-use mathlib.Core.Path.{_≡_, _∙_, ap, sym}
+use mathlib.Core.Path.{_∙_}
 use native.Mathlib.Omega.{arith}
 use denote.Ref.{now}
 use lib.Seq.{sets}
-use Rattle.records.specs.Outcomes.{bytes8, conditionOf}
+use Rattle.records.specs.Outcomes.{bytes8}
 use Rattle.records.proofs.RecordBytes.{write-full, write-room}
 
 cast-t13 : tie.Need-cast-t13

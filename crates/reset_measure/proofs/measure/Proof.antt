@@ -1,23 +1,16 @@
+-- `reset_measure::measure` meets its contract. Assumes nothing.
 use borrow.Author.Needs.{needs}
 use Rattle.reset_measure.proofs.measure.Statement.{statement}
 use Rattle.reset_measure.proofs.measure.Tie as tie
-use Rattle.reset_measure.proofs.measure.Reads as reads
-use Rattle.reset_measure.proofs.measure.Lts as lts
-use Rattle.records.proofs.write_record.Reads as write-record-reads
-use Rattle.fields.proofs.header_at.Reads as header-at-reads
-use Rattle.fields.proofs.wide.Reads as wide-reads
-use Rattle.operands.proofs.bit_at.Reads as bit-at-reads
-use Rattle.operands.proofs.wire_at.Reads as wire-at-reads
-use Prim.Native.Nat.{ℕ, _+_}
-use mathlib.Core.Path.{_≡_, refl, _∙_, ap, sym, subst}
-use native.Mathlib.Omega.{arith}
+use Prim.Native.Nat.{ℕ}
+use mathlib.Core.Path.{refl, _∙_, sym, subst}
 use denote.Ref.{now}
 use lib.ListN.{length, take}
 use lib.Seq.{slice}
 use Rattle.operands.specs.Meanings.{operandsOf, theWire, theBit, WireAt, BitAt}
-use Rattle.records.specs.Outcomes.{Does, ActionNumbers}
+use Rattle.records.specs.Outcomes.{ActionNumbers}
 use Rattle.records.proofs.Sequences.{does-end, does-stuck}
-use Rattle.language.specs.Machine.{write, doReset, doMeasure}
+use Rattle.language.specs.Machine.{doMeasure}
 use Rattle.language.specs.Result.{op, firstNumber, secondNumber}
 use Rattle.gates.specs.Gates.{frameIn}
 use Rattle.gates.proofs.GateRuns.{does-as}

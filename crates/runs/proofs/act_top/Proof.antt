@@ -1,18 +1,10 @@
+-- `runs::act_top` meets its contract. Assumes nothing.
 use borrow.Author.Needs.{needs}
 use Rattle.runs.proofs.act_top.Statement.{statement}
 use Rattle.runs.proofs.act_top.Tie as tie
-use Rattle.runs.proofs.act_top.Reads as reads
-use Rattle.runs.proofs.act_top.Lts as lts
-use Rattle.records.proofs.take_step.Reads as take-step-reads
-use Rattle.reset_measure.proofs.measure.Reads as measure-reads
-use Rattle.reset_measure.proofs.reset.Reads as reset-reads
-use Rattle.runs.proofs.conditional.Reads as conditional-reads
-use Rattle.runs.proofs.once.Reads as once-reads
-use Rattle.runs.proofs.top_mode.Reads as top-mode-reads
-use Rattle.runs.proofs.top_scope.Reads as top-scope-reads
 use borrow.Author.Tests.{ltb-true, ltb-false}
 use Prim.Native.Nat.{ℕ, _+_, _*_, _-_}
-use mathlib.Core.Path.{_≡_, refl, ap, _∙_}
+use mathlib.Core.Path.{_≡_, ap, _∙_}
 use mathlib.Core.Logic.{⊎-map}
 use native.Mathlib.Omega.{arith}
 use denote.Ref.{now}

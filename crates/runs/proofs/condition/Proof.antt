@@ -1,7 +1,6 @@
+-- `runs::condition` meets its contract. Assumes nothing.
 use Rattle.runs.proofs.condition.Statement.{statement}
 use Rattle.runs.proofs.condition.Tie as tie
-use Rattle.runs.proofs.condition.Reads as reads
-use Rattle.runs.proofs.condition.Lts as lts
 use Prim.Native.Nat.{ℕ}
 use mathlib.Core.Path.{_≡_, sym, ap}
 use native.Mathlib.Omega.{arith}

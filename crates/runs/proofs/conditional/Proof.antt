@@ -1,13 +1,7 @@
+-- `runs::conditional` meets its contract. Assumes nothing.
 use borrow.Author.Needs.{needs}
 use Rattle.runs.proofs.conditional.Statement.{statement}
 use Rattle.runs.proofs.conditional.Tie as tie
-use Rattle.runs.proofs.conditional.Reads as reads
-use Rattle.runs.proofs.conditional.Lts as lts
-use Rattle.fields.proofs.header_at.Reads as header-at-reads
-use Rattle.operands.proofs.bit_at.Reads as bit-at-reads
-use Rattle.runs.proofs.condition.Reads as condition-reads
-use Rattle.runs.proofs.once.Reads as once-reads
-use Rattle.runs.proofs.under_mode.Reads as under-mode-reads
 use Prim.Native.Nat.{_+_, _-_, _<_}
 use mathlib.Core.Path.{refl, sym, _∙_}
 use mathlib.Core.List.{[]}

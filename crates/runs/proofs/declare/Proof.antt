@@ -1,9 +1,6 @@
+-- `runs::declare` meets its contract. Assumes nothing.
 use Rattle.runs.proofs.declare.Statement.{statement}
 use Rattle.runs.proofs.declare.Tie as tie
-use Rattle.runs.proofs.declare.Reads as reads
-use Rattle.runs.proofs.declare.Lts as lts
-use Rattle.runs.proofs.more_families.Reads as more-families-reads
-use Rattle.runs.proofs.register.Reads as register-reads
 use Prim.Native.Nat.{ℕ}
 use mathlib.Core.Path.{_≡_, refl}
 use native.Mathlib.Omega.{arith}

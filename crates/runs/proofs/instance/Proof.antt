@@ -1,12 +1,7 @@
+-- `runs::instance` meets its contract. Assumes nothing.
 use borrow.Author.Needs.{needs}
 use Rattle.runs.proofs.instance.Statement.{statement}
 use Rattle.runs.proofs.instance.Tie as tie
-use Rattle.runs.proofs.instance.Reads as reads
-use Rattle.runs.proofs.instance.Lts as lts
-use Rattle.fields.proofs.families.Reads as families-reads
-use Rattle.fields.proofs.long.Reads as long-reads
-use Rattle.runs.proofs.narrow.Reads as narrow-reads
-use Rattle.runs.proofs.sized.Reads as sized-reads
 use Prim.Native.Nat.{_-_}
 use mathlib.Core.Path.{sym, ap, _∙_}
 use native.Mathlib.Omega.{arith}

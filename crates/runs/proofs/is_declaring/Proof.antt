@@ -1,7 +1,6 @@
+-- `runs::is_declaring` meets its contract. Assumes nothing.
 use Rattle.runs.proofs.is_declaring.Statement.{statement}
 use Rattle.runs.proofs.is_declaring.Tie as tie
-use Rattle.runs.proofs.is_declaring.Reads as reads
-use Rattle.runs.proofs.is_declaring.Lts as lts
 use mathlib.Core.Path.{sym}
 use native.Mathlib.Omega.{arith}
 use borrow.Author.Tests.{ltb-true, ltb-false}

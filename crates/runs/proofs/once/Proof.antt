@@ -1,9 +1,7 @@
+-- `runs::once` meets its contract. Assumes nothing.
 use borrow.Author.Needs.{needs}
 use Rattle.runs.proofs.once.Statement.{statement}
 use Rattle.runs.proofs.once.Tie as tie
-use Rattle.runs.proofs.once.Reads as reads
-use Rattle.runs.proofs.once.Lts as lts
-use Rattle.unroller.proofs.run_list.Reads as run-list-reads
 use mathlib.Core.Path.{refl}
 use native.Mathlib.Omega.{arith}
 use native.Mathlib.Nat.{zero-add}

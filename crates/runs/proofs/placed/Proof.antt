@@ -1,14 +1,7 @@
+-- `runs::placed` meets its contract. Assumes nothing.
 use borrow.Author.Needs.{needs}
 use Rattle.runs.proofs.placed.Statement.{statement}
 use Rattle.runs.proofs.placed.Tie as tie
-use Rattle.runs.proofs.placed.Reads as reads
-use Rattle.runs.proofs.placed.Lts as lts
-use Rattle.calls.proofs.body_start.Reads as body-start-reads
-use Rattle.calls.proofs.past.Reads as past-reads
-use Rattle.fields.proofs.wide.Reads as wide-reads
-use Rattle.layout.proofs.lay_out.Reads as lay-out-reads
-use Rattle.runs.proofs.once.Reads as once-reads
-use Rattle.runs.proofs.top_mode.Reads as top-mode-reads
 use Prim.Native.Nat.{_+_, _-_}
 use native.Mathlib.Omega.{arith}
 use denote.Ref.{now}

@@ -1,10 +1,7 @@
+-- `runs::register` meets its contract. Assumes nothing.
 use borrow.Author.Needs.{needs}
 use Rattle.runs.proofs.register.Statement.{statement}
 use Rattle.runs.proofs.register.Tie as tie
-use Rattle.runs.proofs.register.Reads as reads
-use Rattle.runs.proofs.register.Lts as lts
-use Rattle.fields.proofs.two_bytes.Reads as two-bytes-reads
-use Rattle.operands.proofs.declare.Reads as declare-reads
 use Prim.Native.Nat.{_*_, _+_}
 use mathlib.Core.Path.{ap, _∙_}
 use mathlib.Core.List.{[], _∷_, _++_}

@@ -1,10 +1,7 @@
+-- `runs::run` meets its contract. Assumes nothing.
 use borrow.Author.Needs.{needs}
 use Rattle.runs.proofs.run.Statement.{statement}
 use Rattle.runs.proofs.run.Tie as tie
-use Rattle.runs.proofs.run.Reads as reads
-use Rattle.runs.proofs.run.Lts as lts
-use Rattle.fields.proofs.families.Reads as families-reads
-use Rattle.runs.proofs.top_fields.Reads as top-fields-reads
 use denote.Ref.{now}
 use lib.ListN.{length}
 use Rattle.language.specs.Read.{read}

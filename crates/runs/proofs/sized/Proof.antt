@@ -1,11 +1,7 @@
+-- `runs::sized` meets its contract. Assumes nothing.
 use borrow.Author.Needs.{needs}
 use Rattle.runs.proofs.sized.Statement.{statement}
 use Rattle.runs.proofs.sized.Tie as tie
-use Rattle.runs.proofs.sized.Reads as reads
-use Rattle.runs.proofs.sized.Lts as lts
-use Rattle.fields.proofs.wide.Reads as wide-reads
-use Rattle.layout.proofs.read_sizes.Reads as read-sizes-reads
-use Rattle.runs.proofs.placed.Reads as placed-reads
 use Prim.Native.Nat.{_+_, _-_}
 use mathlib.Core.Path.{refl, sym, _∙_}
 use denote.Ref.{now}

@@ -1,11 +1,6 @@
+-- `runs::top_fields` meets its contract. Assumes nothing.
 use Rattle.runs.proofs.top_fields.Statement.{statement}
 use Rattle.runs.proofs.top_fields.Tie as tie
-use Rattle.runs.proofs.top_fields.Reads as reads
-use Rattle.runs.proofs.top_fields.Lts as lts
-use Rattle.fields.proofs.header_at.Reads as header-at-reads
-use Rattle.runs.proofs.act_top.Reads as act-top-reads
-use Rattle.runs.proofs.declare.Reads as declare-reads
-use Rattle.runs.proofs.is_declaring.Reads as is-declaring-reads
 use Prim.Native.Nat.{ℕ, _+_, _-_}
 use mathlib.Core.Path.{sym, _∙_, subst}
 use mathlib.Core.List.{List}

@@ -1,13 +1,8 @@
+-- `unroller::begin_round` meets its contract. Assumes nothing.
 use borrow.Author.Needs.{needs}
 use Rattle.unroller.proofs.begin_round.Statement.{statement}
 use Rattle.unroller.proofs.begin_round.Tie as tie
-use Rattle.unroller.proofs.begin_round.Reads as reads
-use Rattle.unroller.proofs.begin_round.Lts as lts
-use Rattle.fields.proofs.wide.Reads as wide-reads
-use Rattle.gates.proofs.turn.Reads as turn-reads
-use Rattle.indexes.proofs.tell_values.Reads as tell-values-reads
-use Rattle.records.proofs.take_step.Reads as take-step-reads
-use mathlib.Core.Path.{_≡_, refl, _∙_}
+use mathlib.Core.Path.{_≡_, _∙_}
 use native.Mathlib.Omega.{arith}
 use denote.Ref.{now}
 use mir.Syntax.{w32}
