@@ -2,7 +2,7 @@
 // array: all of them where there is room, else some, closer to each other toward the end.
 ghost use mathlib.Core.Path.{_≡_};
 ghost use mathlib.Core.Bool.{true, false};
-ghost use Prim.Native.Nat.{ℕ, _<_, _≤_};
+ghost use Prim.Native.Nat.{_<_, _≤_};
 ghost use lib.ListN.{length};
 ghost use Rattle.language.specs.Limits.{longestProgram};
 ghost use Rattle.field_walk.specs.Walks.{mostKept, PositionsKept, Lasts, KeepsLast, Walking, Sought, Starting, passedOf, wholeOf};

@@ -1,10 +1,10 @@
 // What the statements that hold no statements do, and the numbers of a loop.
 ghost use mathlib.Core.Path.{_≡_};
 ghost use mathlib.Core.Bool.{true, false};
-ghost use Prim.Native.Nat.{ℕ, _+_, _-_, _<_, _≤_};
+ghost use Prim.Native.Nat.{_+_, _-_, _<_, _≤_};
 ghost use lib.ListN.{length, take};
 ghost use lib.Seq.{slice};
-ghost use lib.IntN.{ℤ, _-ℤ_};
+ghost use lib.IntN.{_-ℤ_};
 ghost use Rattle.language.specs.Limits.{longestProgram};
 ghost use Rattle.language.specs.Machine.{roundsOf, startOf};
 ghost use Rattle.language.specs.Form.{inRange};

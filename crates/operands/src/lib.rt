@@ -1,14 +1,12 @@
 // What operands stand for.
 ghost use mathlib.Core.Path.{_≡_};
-ghost use mathlib.Core.Bool.{true, false};
-ghost use Prim.Native.Nat.{ℕ, _+_, _*_, _<_, _≤_};
-ghost use lib.ListN.{length, getD};
+ghost use mathlib.Core.Bool.{true};
+ghost use Prim.Native.Nat.{_+_, _*_, _<_, _≤_};
+ghost use lib.ListN.{length, take};
 ghost use lib.Seq.{slice};
 ghost use Rattle.language.specs.Form.{inRange};
 ghost use Rattle.language.specs.Limits.{mostRegisters, mostParameters};
 ghost use Rattle.indexes.specs.Values.{mostValues};
-ghost use lib.IntN.{ℤ};
-ghost use lib.ListN.{getElem?, take};
 ghost use mathlib.Core.List.{[], _∷_, _++_, map};
 ghost use Rattle.operands.specs.Meanings.{registerNumbers, ofParameter, registerOf, registersOf, operandsOf, OperandIs, locationIn, locationOf, ElementIs, FieldMeans, AsWire, WireAt, AsBit, BitAt};
 use fields::Header;

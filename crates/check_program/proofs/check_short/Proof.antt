@@ -4,7 +4,11 @@ use Rattle.check_program.proofs.check_short.Statement.{statement}
 use Rattle.check_program.proofs.check_short.Tie as tie
 use native.Mathlib.Omega.{arith}
 use denote.Ref.{now}
+use Prim.Native.Nat.{_+_, _/_}
 use lib.ListN.{length}
+use Rattle.language.specs.Limits.{mostRegisters}
+use Rattle.check_program.specs.Declarations.{shortProgram}
+use Rattle.check_declaration.specs.Types.{sizeRow}
 use Rattle.check_program.proofs.TopFields.{zeros-hold}
 
 slice-aggregate-top-fields : tie.Need-slice-aggregate-top-fields
@@ -18,7 +22,7 @@ slice-aggregate-top-fields-3 c = search needs
 
 top-fields-requires : tie.Need-top-fields-requires
 top-fields-requires c κs =
-    zeros-hold (length (now (c .before .before .before .before .args .program))) 1621 660 (omega (arith, c .before .before .before .before .pre)) (omega (arith, c .before .before .before .before .pre)) (omega (arith, c .before .before .before .before .pre))
+    zeros-hold (length (now (c .before .before .before .before .args .program))) (mostRegisters + shortProgram / 3 + 1) (sizeRow shortProgram mostRegisters + 1) (omega (arith, c .before .before .before .before .pre)) (omega (arith, c .before .before .before .before .pre)) (omega (arith, c .before .before .before .before .pre))
 
 returns : tie.Need-returns
 returns c = search needs
