@@ -4,16 +4,17 @@ use mathlib.Core.List.{List, [], _∷_}
 use mathlib.Core.Bool.{Bool, true, false, cond, _||_}
 use Prim.Native.Nat.{ℕ, _+_, _-_, _≤_, _<_}
 use native.Mathlib.Omega.{arith}
-use lib.Dec.{eqb, ltb}
+use lib.Dec.{eqb}
 use borrow.Author.Tests.{eqb-true, eq-eqb, ne-eqb, lt-ltb, le-ltb}
 use lib.ListN.{length, getD, take, drop}
 use lib.Seq.{slice, drop-drop, length-slice}
 use Rattle.language.specs.Limits.{byteFamilies}
 use Rattle.language.specs.Tree.{Place, Statement, badStatement}
-use Rattle.language.specs.Read.{Field, field, fields, twoBytes, choose, callOf, readCall, readLongCall, statementBy}
+use Rattle.language.specs.Read.{Field, field, fields, twoBytes, choose, FamilyNumber, names, unnamed, oneByteNumber, wideNumber, twoByteNumber, callOf, callBy, statementBy}
+use Rattle.language.proofs.ReadLaws.{Begins, one-byte-begins, two-bytes-begin}
 use Rattle.language.proofs.Integers.{clash}
 use Rattle.fields.proofs.Headers.{slice-none, one-byte}
-use Rattle.fields.specs.CallNumber.{callReader, isCallTag, byOneByte, byTwoBytes, namedIn}
+use Rattle.fields.specs.CallNumber.{isCallTag, numberIn, callReader, namedAt, namedIn}
 use Rattle.fields.specs.declared.Named.{Named}
 use Rattle.fields.specs.declared.Named.the-variants.{Family, Bad}
 
@@ -27,46 +28,38 @@ call-read part p tag l h = go (eqb tag 36) refl (eqb tag 39) refl h
     go false e true g h = let t : tag ≡ 39 = eqb-true tag 39 g in rw t
     go false e false g h = absurd (clash (sym h))
 
--- a call that names the family n, by a number that ends at `after`
-pub record Names (tag from : ℕ) (l : List ℕ) (n after : ℕ) : Type 0 where
+-- a call whose content begins with a number of the family n, which ends at `after`
+pub record Names (number : FamilyNumber) (from : ℕ) (l : List ℕ) (n after : ℕ) : Type 0 where
   pub low : from < after
   pub high : after ≤ from + length l
-  pub reads : (p : Place) → callReader tag p l ≡ callOf p n (fields (p + 3 + (after - from)) (drop (after - from) l))
+  pub reads : (p : Place) → callBy p number ≡ callOf p n (fields (p + 3 + (after - from)) (drop (after - from) l))
 
 -- what each answer means
-unfoldable pub Meant : (tag from : ℕ) → List ℕ → Named → Type 0
-Meant tag from l (Family n after) = Names tag from l n after
-Meant tag from l (Bad k) = (p : Place) → callReader tag p l ≡ badStatement k p
+unfoldable Meant : (number : FamilyNumber) (from : ℕ) → List ℕ → Named → Type 0
+Meant number from l (Family n after) = Names number from l n after
+Meant number from l (Bad k) = (p : Place) → callBy p number ≡ badStatement k p
 
-module _ (from : ℕ) where
-  by-one : (p x : ℕ) (rest : List ℕ) → callOf p x (fields (p + 4) rest) ≡ callOf p x (fields (p + 3 + (from + 1 - from)) (drop (from + 1 - from) (x ∷ rest)))
-  by-one p x rest = let d : from + 1 - from ≡ 1 = omega arith in let e : p + 3 + 1 ≡ p + 4 = omega arith in rw (d, e)
+-- the answer on a number means what is read
+by-number : (from : ℕ) (l : List ℕ) (number : FamilyNumber) → Begins l number → Meant number from l (namedAt from number)
+unfolding namedAt Meant Begins callBy
+by-number from l (names n width rest) w =
+    let d : from + width - from ≡ width = omega arith in
+    record { low = omega (arith, w .some); high = omega (arith, w .long); reads = λ p. rw d (ap (λ (bytes : List ℕ). callOf p n (fields (p + 3 + width) bytes)) (w .after)) }
+by-number from l (unnamed k) w = λ p. refl
 
-  by-two : (p n x y : ℕ) (rest : List ℕ) → callOf p n (fields (p + 5) rest) ≡ callOf p n (fields (p + 3 + (from + 2 - from)) (drop (from + 2 - from) (x ∷ y ∷ rest)))
-  by-two p n x y rest = let d : from + 2 - from ≡ 2 = omega arith in let e : p + 3 + 2 ≡ p + 5 = omega arith in rw (d, e)
-
--- the answer means what is read
-pub meant : (tag from : ℕ) (l : List ℕ) → Meant tag from l (namedIn tag from l)
-unfolding namedIn byOneByte byTwoBytes Meant readCall readLongCall
-meant tag from l = go (eqb tag 39) refl l
+meant : (tag from : ℕ) (l : List ℕ) → Meant (numberIn tag l) from l (namedIn tag from l)
+meant tag from l = by-number from l (numberIn tag l) (go (eqb tag 39))
   where
-    two : (tag : ℕ) → eqb tag 39 ≡ true → (x y : ℕ) (rest : List ℕ) (b : Bool) → ltb (twoBytes x y) byteFamilies ≡ b → Meant tag from (x ∷ y ∷ rest) (cond b (Bad 31) (Family (twoBytes x y) (from + 2)))
-    two tag e x y rest true f = λ p. rw (e, f)
-    two tag e x y rest false f = record { low = omega arith; high = omega arith; reads = λ p. rw (e, f) (by-two from p (twoBytes x y) x y rest) }
-
-    go : (b : Bool) → eqb tag 39 ≡ b → (l : List ℕ) → Meant tag from l (cond b (byTwoBytes from l) (byOneByte from l))
-    go true e [] = λ p. rw e
-    go true e (x ∷ []) = λ p. rw e
-    go true e (x ∷ y ∷ rest) = two tag e x y rest (ltb (twoBytes x y) byteFamilies) refl
-    go false e [] = λ p. rw e
-    go false e (x ∷ rest) = record { low = omega arith; high = omega arith; reads = λ p. rw e (by-one from p x rest) }
+    go : (b : Bool) → Begins l (cond b (twoByteNumber l) (oneByteNumber l))
+    go true = two-bytes-begin l
+    go false = one-byte-begins l
 
 module _ (tag from : ℕ) (l : List ℕ) where
   pub named-bad : (k : ℕ) → namedIn tag from l ≡ Bad k → (p : Place) → callReader tag p l ≡ badStatement k p
   unfolding Meant
   named-bad k e = rw e at (meant tag from l)
 
-  pub named-family : (n after : ℕ) → namedIn tag from l ≡ Family n after → Names tag from l n after
+  pub named-family : (n after : ℕ) → namedIn tag from l ≡ Family n after → Names (numberIn tag l) from l n after
   unfolding Meant
   named-family n after e = rw e at (meant tag from l)
 
@@ -92,10 +85,10 @@ named-in tag from to bytes h k n after e =
 module _ (tag from to : ℕ) (bytes : List ℕ) (h : from ≤ to) (k : to ≤ length bytes) where
   module _ (t : tag ≡ 39) where
     pub long-cut : to - from < 2 → namedIn tag from (slice from to bytes) ≡ Bad 4
-    unfolding namedIn byTwoBytes
+    unfolding twoByteNumber namedAt
     long-cut s = rw (eq-eqb tag 39 t) (go (slice from to bytes) (omega (arith, length-slice from to bytes k)))
       where
-        go : (l : List ℕ) → length l < 2 → byTwoBytes from l ≡ Bad 4
+        go : (l : List ℕ) → length l < 2 → namedAt from (twoByteNumber l) ≡ Bad 4
         go [] z = refl
         go (x ∷ []) z = refl
         go (x ∷ y ∷ l) z = absurd (omega arith)
@@ -104,21 +97,23 @@ module _ (tag from to : ℕ) (bytes : List ℕ) (h : from ≤ to) (k : to ≤ le
       abbrev number : ℕ
       number = twoBytes (getD bytes from 0) (getD bytes (from + 1) 0)
 
-      long-is : namedIn tag from (slice from to bytes) ≡ cond (ltb number byteFamilies) (Bad 31) (Family number (from + 2))
-      unfolding namedIn byTwoBytes
-      long-is = rw (eq-eqb tag 39 t) (ap (byTwoBytes from) (one-byte from to bytes (omega arith) k ∙ ap (λ (l : List ℕ). getD bytes from 0 ∷ l) (one-byte (from + 1) to bytes (omega arith) k)))
+      long-is : namedIn tag from (slice from to bytes) ≡ namedAt from (wideNumber number (slice (from + 1 + 1) to bytes))
+      unfolding twoByteNumber
+      long-is = rw (eq-eqb tag 39 t) (ap (λ (l : List ℕ). namedAt from (twoByteNumber l)) (one-byte from to bytes (omega arith) k ∙ ap (λ (l : List ℕ). getD bytes from 0 ∷ l) (one-byte (from + 1) to bytes (omega arith) k)))
 
       pub long-small : number < byteFamilies → namedIn tag from (slice from to bytes) ≡ Bad 31
+      unfolding wideNumber namedAt
       long-small m = long-is ∙ rw (lt-ltb number byteFamilies m)
 
       pub long-names : byteFamilies ≤ number → namedIn tag from (slice from to bytes) ≡ Family number (from + 2)
+      unfolding wideNumber namedAt
       long-names m = long-is ∙ rw (le-ltb number byteFamilies m)
 
   module _ (t : tag ≡ 39 → ⊥) where
     pub short-cut : to - from ≡ 0 → namedIn tag from (slice from to bytes) ≡ Bad 4
-    unfolding namedIn byOneByte
-    short-cut s = rw (ne-eqb tag 39 t) (ap (byOneByte from) (slice-none from to bytes (omega arith)))
+    unfolding oneByteNumber namedAt
+    short-cut s = rw (ne-eqb tag 39 t) (ap (λ (l : List ℕ). namedAt from (oneByteNumber l)) (slice-none from to bytes (omega arith)))
 
     pub short-names : from < to → namedIn tag from (slice from to bytes) ≡ Family (getD bytes from 0) (from + 1)
-    unfolding namedIn byOneByte
-    short-names s = rw (ne-eqb tag 39 t) (ap (byOneByte from) (one-byte from to bytes s k))
+    unfolding oneByteNumber namedAt
+    short-names s = rw (ne-eqb tag 39 t) (ap (λ (l : List ℕ). namedAt from (oneByteNumber l)) (one-byte from to bytes s k))

@@ -1,32 +1,20 @@
 -- Whether a call names a family, wherever its content stands. Assumes nothing.
 use mathlib.Core.Path.{_≡_, refl, sym, _∙_}
-use mathlib.Core.List.{List, [], _∷_}
-use mathlib.Core.Bool.{Bool, true, false, cond, _&&_}
-use Prim.Native.Nat.{ℕ, _+_}
-use lib.Dec.{eqb, ltb}
-use Rattle.language.specs.Limits.{byteFamilies}
-use Rattle.language.specs.Read.{twoBytes}
+use mathlib.Core.List.{List}
+use mathlib.Core.Bool.{Bool, true, false, _&&_}
+use Prim.Native.Nat.{ℕ}
+use Rattle.language.specs.Read.{FamilyNumber, names, unnamed}
 use Rattle.language.proofs.Integers.{clash}
 use Rattle.fields.specs.declared.Named.{Named}
 use Rattle.fields.specs.declared.Named.the-variants.{Family, Bad}
-use Rattle.fields.specs.CallNumber.{isCallTag, byOneByte, byTwoBytes, namedIn}
+use Rattle.fields.specs.CallNumber.{isCallTag, numberIn, namedAt, namedIn}
 use Rattle.gates.specs.Gates.{namesNone, namelessOf}
 
--- a call names a family or none, wherever its content stands
-anywhere : (tag from : ℕ) (l : List ℕ) → namesNone (namedIn tag from l) ≡ namesNone (namedIn tag 0 l)
-unfolding namesNone namedIn byOneByte byTwoBytes
-anywhere tag from l = go (eqb tag 39) l
-  where
-    two : (n : ℕ) (b : Bool) → namesNone (cond b (Bad 31) (Family n (from + 2))) ≡ namesNone (cond b (Bad 31) (Family n (0 + 2)))
-    two n true = refl
-    two n false = refl
-
-    go : (b : Bool) (l : List ℕ) → namesNone (cond b (byTwoBytes from l) (byOneByte from l)) ≡ namesNone (cond b (byTwoBytes 0 l) (byOneByte 0 l))
-    go true [] = refl
-    go true (x ∷ []) = refl
-    go true (x ∷ y ∷ rest) = two (twoBytes x y) (ltb (twoBytes x y) byteFamilies)
-    go false [] = refl
-    go false (x ∷ rest) = refl
+-- a number names a family or none, wherever it stands
+anywhere : (from : ℕ) (number : FamilyNumber) → namesNone (namedAt from number) ≡ namesNone (namedAt 0 number)
+unfolding namesNone namedAt
+anywhere from (names n width rest) = refl
+anywhere from (unnamed k) = refl
 
 module _ (tag : ℕ) (l : List ℕ) where
   pub nameless-other : isCallTag tag ≡ false → namelessOf tag l ≡ false
@@ -36,7 +24,7 @@ module _ (tag : ℕ) (l : List ℕ) where
   module _ (h : isCallTag tag ≡ true) (from : ℕ) where
     nameless-is : namelessOf tag l ≡ namesNone (namedIn tag from l)
     unfolding namelessOf
-    nameless-is = rw h (sym (anywhere tag from l))
+    nameless-is = rw h (sym (anywhere from (numberIn tag l)))
 
     pub nameless-family : (n after : ℕ) → namedIn tag from l ≡ Family n after → namelessOf tag l ≡ false
     unfolding namesNone

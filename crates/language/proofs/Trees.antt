@@ -4,15 +4,15 @@ use mathlib.Core.Path.{_≡_}
 use mathlib.Core.Bool.{Bool, true, false, cond}
 use Prim.Native.Nat.{ℕ, zero, suc, _+_, _≤_, _<_, pred}
 use native.Mathlib.Omega.{arith}
-use lib.Dec.{leb, ltb}
+use lib.Dec.{leb}
 use lib.ListN.{length, take, drop, length-take}
-use Rattle.language.specs.Limits.{deepest, byteFamilies}
+use Rattle.language.specs.Limits.{deepest}
 use Rattle.language.specs.Tree.{Place, Ending, Number, Operation, sum, difference, product, Index, literal, variable, operation, badIndex, Operand, whole, element, badOperand}
 use Rattle.language.specs.Tree.{ParameterType, qbit, qbits, badType, Argument, index, operand, badArgument, Gate, gateH, gateT, gateTdg, Statement, Statements, gate, cx, call, reverse, for, badStatement, nil, cons}
 use Rattle.language.specs.Tree.{Top, family, qreg, creg, measure, reset, if, statement, badTop}
 use Rattle.language.specs.Read
-use Rattle.language.specs.Read.{Field, field, badHeader, Reader, ofFields, due, fields, fieldsAfter, firstField, fieldOf, extent, twoBytes, readIndex, outerIndex, readOperand, readType, readArgument, readStatement, outerStatement, statementsBy, readTop, read, operandDue}
-use Rattle.language.proofs.ReadLaws.{AllRows, choose-all}
+use Rattle.language.specs.Read.{Field, field, badHeader, Reader, ofFields, due, fields, fieldsAfter, firstField, fieldOf, extent, twoBytes, FamilyNumber, names, unnamed, oneByteNumber, twoByteNumber, readIndex, outerIndex, readOperand, readType, readArgument, readStatement, outerStatement, statementsBy, readTop, read, operandDue}
+use Rattle.language.proofs.ReadLaws.{AllRows, choose-all, Begins, one-byte-begins, two-bytes-begin}
 
 -- a refusal's number, and its place in a program of so many bytes
 pub record Listed (size n p : ℕ) : Type 0 where
@@ -197,16 +197,18 @@ module _ (size : ℕ) where
   unfolding Read.callOf FairStatement
   call-of-fair p n from content j k = (j, map-fair FairArgument readArgument argument-fair (fields from content) (fields-inside from content k))
 
+  call-by-fair : (p : Place) (content : List ℕ) (number : FamilyNumber) → p + 3 + length content ≤ size → Begins content number → FairStatement (Read.callBy p number)
+  unfolding Read.callBy Begins FairStatement
+  call-by-fair p content (names n width rest) k w = call-of-fair p n (p + 3 + width) rest (omega arith) (omega (arith, w .long))
+  call-by-fair p content (unnamed number) k w = record { from = w .from; known = w .known; within = omega arith }
+
   call-fair : Fair FairStatement Read.readCall
-  unfolding Fair Read.readCall FairStatement
-  call-fair p [] k = omega arith
-  call-fair p (n ∷ rest) k = call-of-fair p n (p + 4) rest (omega arith) (omega arith)
+  unfolding Fair
+  call-fair p content k = call-by-fair p content (oneByteNumber content) k (one-byte-begins content)
 
   long-call-fair : Fair FairStatement Read.readLongCall
-  unfolding Fair Read.readLongCall FairStatement
-  long-call-fair p [] k = omega arith
-  long-call-fair p (low ∷ []) k = omega arith
-  long-call-fair p (low ∷ high ∷ rest) k = cond-fair FairStatement (ltb (twoBytes low high) byteFamilies) (omega arith) (call-of-fair p (twoBytes low high) (p + 5) rest (omega arith) (omega arith))
+  unfolding Fair
+  long-call-fair p content k = call-by-fair p content (twoByteNumber content) k (two-bytes-begin content)
 
   gate-fair : (g : Gate) → Fair FairStatement (ofFields (Read.gateOf g))
   unfolding Fair FairStatement Read.gateOf

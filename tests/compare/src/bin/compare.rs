@@ -11,7 +11,7 @@ use generate::{libraries, Case};
 use std::io::Write;
 use std::process::ExitCode;
 
-/// Of how many seeds one makes libraries, which take long.
+/// One seed in so many makes libraries too: they take longer.
 const LIBRARY_SEEDS: usize = 100;
 
 /// Reads one argument as a number, or takes what stands in for it.
@@ -78,9 +78,9 @@ fn compare_all() -> Result<(), String> {
         tally.line()
     ))?;
     compare_cases("generated programs", generate::case, first..last)?;
-    let hundredth = || (first..last).step_by(LIBRARY_SEEDS);
-    compare_cases("libraries", libraries::sound, hundredth())?;
-    compare_cases("damaged libraries", libraries::damaged, hundredth())
+    let some = || (first..last).step_by(LIBRARY_SEEDS);
+    compare_cases("libraries", libraries::sound, some())?;
+    compare_cases("damaged libraries", libraries::damaged, some())
 }
 
 fn main() -> ExitCode {
