@@ -352,24 +352,24 @@ pub fn operand(
     }
 }
 
-// One wire, and no more, in the field from `at` to `next`.
+// One wire, and no more, from `from` to `next` in the field at `at`.
 pub fn one_wire(
     program: &[u8],
-    at: usize,
+    from: usize,
     next: usize,
+    at: usize,
     s: Visible,
     kinds: &[u16],
     sizes: &[Size],
     lows: &[Form],
     highs: &[Form],
 ) -> Read
-    requires { ⌜ (at + 3 ≤ next) × (next ≤ length (now program)) ⌝ }
+    requires { ⌜ next ≤ length (now program) ⌝ }
     requires { ⌜ TablesRight s (now kinds) (now sizes) (now lows) (now highs) ⌝ }
-    ensures { λ r. ⌜ ((fs : List Signature) → checkedPart r ≡ oneWire (scopeAt fs s (now (kinds .entry)) (now (sizes .entry)) (now (lows .entry)) (now (highs .entry))) at (fieldsAt (now (program .entry)) (at + 3) next)) ⌝ }
+    ensures { λ r. ⌜ ((fs : List Signature) → checkedPart r ≡ oneWire (scopeAt fs s (now (kinds .entry)) (now (sizes .entry)) (now (lows .entry)) (now (highs .entry))) at (fieldsAt (now (program .entry)) from next)) ⌝ }
     ensures { λ r. ⌜ EndsAt next r ⌝ }
 {
     let none = [0i64; FORM_NUMBERS];
-    let from = at + 3;
     let r = operand(
         program,
         from,
@@ -392,11 +392,12 @@ pub fn one_wire(
     Read::Upto(next)
 }
 
-// A wire, and then a wire or a bit, and no more, in the field from `at` to `next`.
+// A wire, and then a wire or a bit, and no more, from `from` to `next` in the field at `at`.
 pub fn two_operands(
     program: &[u8],
-    at: usize,
+    from: usize,
     next: usize,
+    at: usize,
     second: Wanted,
     s: Visible,
     kinds: &[u16],
@@ -404,14 +405,13 @@ pub fn two_operands(
     lows: &[Form],
     highs: &[Form],
 ) -> Read
-    requires { ⌜ (at + 3 ≤ next) × (next ≤ length (now program)) ⌝ }
+    requires { ⌜ next ≤ length (now program) ⌝ }
     requires { ⌜ ((l : List ℤ) → SizeRight second l) ⌝ }
     requires { ⌜ TablesRight s (now kinds) (now sizes) (now lows) (now highs) ⌝ }
-    ensures { λ r. ⌜ ((fs : List Signature) → checkedPart r ≡ twoOperands (scopeAt fs s (now (kinds .entry)) (now (sizes .entry)) (now (lows .entry)) (now (highs .entry))) (wantedOf second (replicate formNumbers (pos 0))) at (fieldsAt (now (program .entry)) (at + 3) next)) ⌝ }
+    ensures { λ r. ⌜ ((fs : List Signature) → checkedPart r ≡ twoOperands (scopeAt fs s (now (kinds .entry)) (now (sizes .entry)) (now (lows .entry)) (now (highs .entry))) (wantedOf second (replicate formNumbers (pos 0))) at (fieldsAt (now (program .entry)) from next)) ⌝ }
     ensures { λ r. ⌜ EndsAt next r ⌝ }
 {
     let none = [0i64; FORM_NUMBERS];
-    let from = at + 3;
     let r = operand(
         program,
         from,
@@ -450,25 +450,27 @@ pub fn two_operands(
     Read::Upto(next)
 }
 
-// Two wires, and no more, in the field from `at` to `next`.
+// Two wires, and no more, from `from` to `next` in the field at `at`.
 pub fn two_wires(
     program: &[u8],
-    at: usize,
+    from: usize,
     next: usize,
+    at: usize,
     s: Visible,
     kinds: &[u16],
     sizes: &[Size],
     lows: &[Form],
     highs: &[Form],
 ) -> Read
-    requires { ⌜ (at + 3 ≤ next) × (next ≤ length (now program)) ⌝ }
+    requires { ⌜ next ≤ length (now program) ⌝ }
     requires { ⌜ TablesRight s (now kinds) (now sizes) (now lows) (now highs) ⌝ }
-    ensures { λ r. ⌜ ((fs : List Signature) → checkedPart r ≡ twoOperands (scopeAt fs s (now (kinds .entry)) (now (sizes .entry)) (now (lows .entry)) (now (highs .entry))) wire at (fieldsAt (now (program .entry)) (at + 3) next)) ⌝ }
+    ensures { λ r. ⌜ ((fs : List Signature) → checkedPart r ≡ twoOperands (scopeAt fs s (now (kinds .entry)) (now (sizes .entry)) (now (lows .entry)) (now (highs .entry))) wire at (fieldsAt (now (program .entry)) from next)) ⌝ }
 {
     two_operands(
         program,
-        at,
+        from,
         next,
+        at,
         Wanted::Wire,
         s,
         kinds,

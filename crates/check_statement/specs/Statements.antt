@@ -5,13 +5,13 @@ use Prim.Native.Nat.{ℕ, _≤_}
 use lib.IntN.{ℤ}
 use lib.ListN.{drop}
 use Rattle.language.specs.Tree.{Statement, badIndex, reverse, badStatement, gateH}
-use Rattle.language.specs.Read.{Field, field, due, outerIndex, Reader, ofFields, gateOf, cxOf, statementBy, statementsBy, forOf}
+use Rattle.language.specs.Read.{Field, field, due, outerIndex, Reader, ofFields, gateOf, cxOf, phaseOf, cphaseOf, statementBy, statementsBy, forOf}
 use Rattle.language.specs.Form.{Loop}
 use Rattle.language.specs.Check.{Checked, good, refused, checkBounds, checkStatement, Declared}
 use Rattle.fields.specs.CallNumber.{callReader}
 use Rattle.forms.specs.Flat.{Kept, asForm}
 use Rattle.check_statement.specs.declared.StatementTag.{StatementTag}
-use Rattle.check_statement.specs.declared.StatementTag.the-variants.{Gate, Cx, Call, Reverse, For, Other}
+use Rattle.check_statement.specs.declared.StatementTag.the-variants.{Gate, Cx, Phase, Cphase, Call, Reverse, For, Other}
 use Rattle.check_index.specs.declared.Read.{Read}
 use Rattle.check_index.specs.declared.Read.the-variants.{Upto, Refused}
 use Rattle.check_index.specs.Answers.{Beyond}
@@ -35,6 +35,8 @@ BoundsPass program at to (Refused n p) l h = Unit {0}
 abbrev pub statementReader : (Field → Statement) → (tag : ℕ) → StatementTag → Reader Statement
 statementReader part tag Gate = ofFields (gateOf gateH)
 statementReader part tag Cx = ofFields cxOf
+statementReader part tag Phase = ofFields phaseOf
+statementReader part tag Cphase = ofFields cphaseOf
 statementReader part tag Call = callReader tag
 statementReader part tag Reverse = ofFields (λ p fs. reverse p (statementsBy part fs))
 statementReader part tag For = ofFields (forOf part)

@@ -1,4 +1,4 @@
-// The check of statements: gates, calls, reverse, loops, lists of them, and top fields that declare nothing.
+// The check of statements: gates, phases, calls, reverse, loops, lists of them, and top fields that declare nothing.
 ghost use mathlib.Core.Path.{_≡_};
 ghost use mathlib.Core.List.{List};
 ghost use Prim.Native.Nat.{ℕ, _+_, _≤_};
@@ -34,12 +34,14 @@ const IN_CONDITIONAL: usize = DEEPEST - 1;
 // The tags of statements, from the first to the last.
 const FIRST_TAG: u8 = 32;
 
-const LAST_TAG: u8 = 39;
+const LAST_TAG: u8 = 41;
 
 // What a statement's tag says.
 pub enum StatementTag {
     Gate,
     Cx,
+    Phase,
+    Cphase,
     Call,
     Reverse,
     For,
@@ -84,6 +86,8 @@ fn statement_tag(tag: u8) -> StatementTag
         37 => StatementTag::Reverse,
         38 => StatementTag::For,
         39 => StatementTag::Call,
+        40 => StatementTag::Phase,
+        41 => StatementTag::Cphase,
         _ => StatementTag::Other,
     }
 }
@@ -126,8 +130,14 @@ fn one_statement(
     let below = levels - 1;
     let from = at + 3;
     match statement_tag(tag) {
-        StatementTag::Gate => one_wire(program, at, next, s, kinds, sizes, lows, highs),
-        StatementTag::Cx => two_wires(program, at, next, s, kinds, sizes, lows, highs),
+        StatementTag::Gate => one_wire(program, from, next, at, s, kinds, sizes, lows, highs),
+        StatementTag::Cx => two_wires(program, from, next, at, s, kinds, sizes, lows, highs),
+        StatementTag::Phase => {
+            check_phase::phase(program, from, next, at, s, kinds, sizes, lows, highs)
+        }
+        StatementTag::Cphase => {
+            check_phase::cphase(program, from, next, at, s, kinds, sizes, lows, highs)
+        }
         StatementTag::Call => {
             call(
                 program,
@@ -351,11 +361,13 @@ pub fn action(
     requires { ⌜ (tag ≡ 1 → ⊥) × (tag ≡ 2 → ⊥) × (tag ≡ 3 → ⊥) ⌝ }
     ensures { λ r. ⌜ ((d : Declared) → topScope d ≡ (scopeFull s (now (families .entry)) (now (kinds .entry)) (now (sizes .entry)) (now (lows .entry)) (now (highs .entry))) → checkedDeclared r d ≡ checkTop (readTop (field at tag (slice (at + 3) next (now (program .entry))))) d) ⌝ }
 {
+    let from = at + 3;
     match tag {
         4 => check_operand::two_operands(
             program,
-            at,
+            from,
             next,
+            at,
             Wanted::Bit,
             s,
             kinds,
@@ -363,7 +375,7 @@ pub fn action(
             lows,
             highs,
         ),
-        5 => one_wire(program, at, next, s, kinds, sizes, lows, highs),
+        5 => one_wire(program, from, next, at, s, kinds, sizes, lows, highs),
         6 => conditional(program, at, next, s, families, kinds, sizes, lows, highs),
         _ => one_statement(
             program,

@@ -6,99 +6,117 @@ use mathlib.Core.Bool.{Bool, true, false, cond}
 use borrow.Author.Tests.{eq-eqb, ne-eqb}
 use lib.ListN.{drop}
 use lib.Seq.{slice}
-use lib.Dec.{eqb}
 use lib.IntN.{ℤ}
 use types.Run.{OneOf}
 use denote.Enum.Declared.{tagOf}
 use Rattle.language.specs.Tree.{Place, badOperand, Gate, gateH, gateT, gateTdg}
 use Rattle.language.specs.Read.{fields, due, readOperand, operandDue}
-use Rattle.language.specs.Machine.{Meaning, Run, Direction, Condition, endAt, noMeaning, after, _>>=_, wireOf, write, written, doCx, runGate, runCx}
-use Rattle.language.specs.Result.{op, firstNumber, secondNumber}
+use Rattle.language.specs.Machine.{Meaning, Run, Direction, Condition, Action, Frame, done, endAt, noMeaning, after, _>>=_, _>>_, wireOf, apart, fewHalvings, write, written, doCx, runGate, runCx}
+use Rattle.language.specs.Machine as machine
+use Rattle.language.specs.Result.{op, firstNumber, secondNumber, halvingsOf}
 use Rattle.fields.specs.declared.Header.the-variants.{Whole}
 use Rattle.fields.proofs.Header.{the-type}
 use Rattle.fields.proofs.Between.{lookIn, in-whole}
+use Rattle.fields.proofs.Parts.{not-first}
 use Rattle.operands.specs.declared.WireMeaning.{WireMeaning}
 use Rattle.operands.specs.declared.WireMeaning.the-variants.{Is, Over, Stuck}
 use Rattle.operands.specs.declared.Wire.{Wire}
 use Rattle.operands.specs.Meanings.{theWire, wireTold, WireAt, frameOf}
+use Rattle.operands.proofs.WireMeaning.{the-type as wire-type}
 use Rattle.operands.proofs.OperandFields.{wire-none}
 use Rattle.records.specs.declared.State.{State}
 use Rattle.records.specs.declared.Answer.{Answer}
 use Rattle.records.specs.Outcomes.{Does, ActionNumbers}
+use Rattle.records.proofs.Sequences.{does-end, does-stuck}
 use Rattle.gates.specs.declared.Mode.{Mode}
-use Rattle.gates.specs.Gates.{directionOf, gateFor, codeOf, gateAt, cxAt, actAt}
+use Rattle.gates.specs.Gates.{directionOf, gateFor, codeOf, noWireOf, onWire, onTwoWires, gateBy}
 
 -- the same run by another name
 pub does-as : (l : List ℕ) (st : State) (l' : List ℕ) (r : Answer) (run run' : Run (Unit {0})) → run' ≡ run → Does l st l' r run → Does l st l' r run'
 does-as l st l' r run run' e d = subst (λ (x : Run (Unit {0})). Does l st l' r x) (sym e) d
 
-pub gate-acts : (tag : ℕ) (reversed : Bool) (n : ℕ) → ActionNumbers (written (directionOf reversed) (gateFor tag) (theWire n)) (codeOf tag reversed) n 0
-unfolding directionOf written op firstNumber secondNumber
+pub gate-acts : (tag : ℕ) (reversed : Bool) (n : ℕ) → ActionNumbers (written (directionOf reversed) (gateFor tag) (theWire n)) (codeOf tag reversed) n 0 0
+unfolding directionOf written op firstNumber secondNumber halvingsOf
 gate-acts tag reversed n = go (gateFor tag) reversed
   where
-    go : (g : Gate) (reversed : Bool) → ActionNumbers (written (directionOf reversed) g (theWire n)) (op (written (directionOf reversed) g (theWire 0))) n 0
-    go gateH true = record { its-code = refl; its-first = refl; its-second = refl }
-    go gateH false = record { its-code = refl; its-first = refl; its-second = refl }
-    go gateT true = record { its-code = refl; its-first = refl; its-second = refl }
-    go gateT false = record { its-code = refl; its-first = refl; its-second = refl }
-    go gateTdg true = record { its-code = refl; its-first = refl; its-second = refl }
-    go gateTdg false = record { its-code = refl; its-first = refl; its-second = refl }
+    go : (g : Gate) (reversed : Bool) → ActionNumbers (written (directionOf reversed) g (theWire n)) (op (written (directionOf reversed) g (theWire 0))) n 0 0
+    go gateH true = record { its-code = refl; its-first = refl; its-second = refl; its-halvings = refl }
+    go gateH false = record { its-code = refl; its-first = refl; its-second = refl; its-halvings = refl }
+    go gateT true = record { its-code = refl; its-first = refl; its-second = refl; its-halvings = refl }
+    go gateT false = record { its-code = refl; its-first = refl; its-second = refl; its-halvings = refl }
+    go gateTdg true = record { its-code = refl; its-first = refl; its-second = refl; its-halvings = refl }
+    go gateTdg false = record { its-code = refl; its-first = refl; its-second = refl; its-halvings = refl }
 
-module _ (mode : Mode) (room : ℕ) (p : Place) (l : List ℕ) (from to : ℕ) (d : Direction) (c : Condition) (values : List ℤ) (ms : List Meaning) (r : WireMeaning) (u : WireAt (slice from to l) 0 values ms r) where
-  gate-is : (tag : ℕ) → gateAt mode room tag p (slice from to l) (frameOf d c values ms) ≡ (wireTold p r >>= (λ w. write (mode .limit) room p (frameOf d c values ms) (written d (gateFor tag) w)))
-  unfolding runGate
-  gate-is tag = ap (λ (x : Run _). x >>= (λ w. write (mode .limit) room p (frameOf d c values ms) (written d (gateFor tag) w))) (sym (u p p (p + 3) d c))
+pub cx-acts : (m n : ℕ) → ActionNumbers (doCx (theWire m) (theWire n)) 4 m n 0
+unfolding op firstNumber secondNumber halvingsOf
+cx-acts m n = record { its-code = refl; its-first = refl; its-second = refl; its-halvings = refl }
 
-  pub gate-wire : (tag : ℕ) (w : Wire) → (tag ≡ 35 → ⊥) → r ≡ Is w
-      → actAt mode room tag p (slice from to l) (frameOf d c values ms) ≡ write (mode .limit) room p (frameOf d c values ms) (written d (gateFor tag) (theWire (w .0)))
-  unfolding wireTold _>>=_ after actAt
-  gate-wire tag w h e = rw (ne-eqb tag 35 h) (gate-is tag ∙ rw e)
+-- an operand without a wire
+pub wire-ends : (l : List ℕ) (st : State) (r : WireMeaning) (p : Place) (next : machine.Wire → Run (Unit {0})) → OneOf (1 ∷ 2 ∷ []) (tagOf wire-type r) → Does l st l (noWireOf r p st) (wireTold p r >>= next)
+unfolding noWireOf wireTold _>>=_ after
+wire-ends l st (Is w) p next h = absurd (not-first h)
+wire-ends l st Over p next h = does-end l st 24 p
+wire-ends l st Stuck p next h = does-stuck l st l
 
-  -- the first operand has no wire
-  pub first-over : (tag : ℕ) → r ≡ Over → actAt mode room tag p (slice from to l) (frameOf d c values ms) ≡ endAt 24 p
-  unfolding actAt runGate runCx wireTold _>>=_ after
-  first-over tag e = go (eqb tag 35)
-    where
-      go : (b : Bool) → cond b (cxAt mode room p (slice from to l) (frameOf d c values ms)) (gateAt mode room tag p (slice from to l) (frameOf d c values ms)) ≡ endAt 24 p
-      go true = rw (sym (u p p (p + 3) d c) ∙ ap (wireTold p) e)
-      go false = rw (sym (u p p (p + 3) d c) ∙ ap (wireTold p) e)
+module _ (mode : Mode) (room : ℕ) (p : Place) (l : List ℕ) (from to : ℕ) (d : Direction) (c : Condition) (values : List ℤ) (ms : List Meaning) (r : WireMeaning) (u : WireAt (slice from to l) 0 values ms r) (t : Place) (k : ℕ) where
+  -- ---- one wire
 
-  pub first-stuck : (tag : ℕ) → r ≡ Stuck → actAt mode room tag p (slice from to l) (frameOf d c values ms) ≡ noMeaning
-  unfolding actAt runGate runCx wireTold _>>=_ after
-  first-stuck tag e = go (eqb tag 35)
-    where
-      go : (b : Bool) → cond b (cxAt mode room p (slice from to l) (frameOf d c values ms)) (gateAt mode room tag p (slice from to l) (frameOf d c values ms)) ≡ noMeaning
-      go true = rw (sym (u p p (p + 3) d c) ∙ ap (wireTold p) e)
-      go false = rw (sym (u p p (p + 3) d c) ∙ ap (wireTold p) e)
+  module _ (act : machine.Wire → Action) where
+    pub one-told : onWire mode room p (fields t (slice from to l)) (frameOf d c values ms) k act ≡ (wireTold p r >>= λ w. (fewHalvings p k >> write (mode .limit) room p (frameOf d c values ms) (act w)))
+    one-told = ap (λ (x : Run machine.Wire). x >>= (λ w. fewHalvings p k >> write (mode .limit) room p (frameOf d c values ms) (act w))) (sym (u p p t d c))
 
-  module _ (tag : ℕ) (h : tag ≡ 35) where
-    act-cx : actAt mode room tag p (slice from to l) (frameOf d c values ms) ≡ cxAt mode room p (slice from to l) (frameOf d c values ms)
-    unfolding actAt
-    act-cx = rw (eq-eqb tag 35 h)
+    pub one-wire : (w : Wire) → r ≡ Is w → onWire mode room p (fields t (slice from to l)) (frameOf d c values ms) k act ≡ (fewHalvings p k >> write (mode .limit) room p (frameOf d c values ms) (act (theWire (w .0))))
+    unfolding wireTold _>>=_ after
+    one-wire w e = one-told ∙ rw e
 
-    pub cx-none : OneOf (1 ∷ 2 ∷ []) (tagOf the-type (lookIn l from to)) → actAt mode room tag p (slice from to l) (frameOf d c values ms) ≡ noMeaning
-    unfolding runCx wireTold _>>=_ after
-    cx-none k = act-cx ∙ rw (sym (wire-none l from to values ms k p p (p + 3) d c))
+  -- ---- two wires
 
-    module _ (t mid : ℕ) (e : lookIn l from to ≡ Whole t mid) (x : Wire) (k : r ≡ Is x) (v : WireMeaning) (w : WireAt (slice mid to l) 0 values ms v) where
-      second : wireOf p (frameOf d c values ms) (operandDue p 1 (fields (p + 3) (slice from to l))) ≡ wireTold p v
-      second = ap (λ fs. wireOf p (frameOf d c values ms) (due readOperand (badOperand 4 p) (drop 1 fs))) (in-whole l from to t mid e .first (p + 3)) ∙ sym (w p p (p + 3 + (mid - from)) d c)
+  module _ (act : machine.Wire → machine.Wire → Action) where
+    -- what is done with two wires, once they are known to differ, before, and before the second is known
+    abbrev both : machine.Wire → machine.Wire → Run (Unit {0})
+    both x y = fewHalvings p k >> write (mode .limit) room p (frameOf d c values ms) (act x y)
 
-      pub cx-second-over : v ≡ Over → actAt mode room tag p (slice from to l) (frameOf d c values ms) ≡ endAt 24 p
-      unfolding runCx wireTold _>>=_ after
-      cx-second-over j = act-cx ∙ rw (sym (u p p (p + 3) d c) ∙ ap (wireTold p) k, second ∙ ap (wireTold p) j)
+    abbrev pair : machine.Wire → machine.Wire → Run (Unit {0})
+    pair x y = apart p x y >> both x y
 
-      pub cx-second-stuck : v ≡ Stuck → actAt mode room tag p (slice from to l) (frameOf d c values ms) ≡ noMeaning
-      unfolding runCx wireTold _>>=_ after
-      cx-second-stuck j = act-cx ∙ rw (sym (u p p (p + 3) d c) ∙ ap (wireTold p) k, second ∙ ap (wireTold p) j)
+    abbrev rest : machine.Wire → Run (Unit {0})
+    rest x = wireOf p (frameOf d c values ms) (operandDue p 1 (fields t (slice from to l))) >>= pair x
 
-      pub cx-same : (y : Wire) → v ≡ Is y → x .0 ≡ y .0 → actAt mode room tag p (slice from to l) (frameOf d c values ms) ≡ endAt 25 p
-      unfolding runCx wireTold _>>=_ after
-      cx-same y j h = act-cx ∙ rw (sym (u p p (p + 3) d c) ∙ ap (wireTold p) k, second ∙ ap (wireTold p) j)
-          (ap (λ (b : Bool). cond b (endAt 25 p) (write (mode .limit) room p (frameOf d c values ms) (doCx (theWire (x .0)) (theWire (y .0))))) (eq-eqb (x .0) (y .0) h))
+    pub two-told : onTwoWires mode room p (fields t (slice from to l)) (frameOf d c values ms) k act ≡ (wireTold p r >>= rest)
+    two-told = ap (λ (x : Run machine.Wire). x >>= rest) (sym (u p p t d c))
 
-      pub cx-two : (y : Wire) → v ≡ Is y → (x .0 ≡ y .0 → ⊥)
-          → actAt mode room tag p (slice from to l) (frameOf d c values ms) ≡ write (mode .limit) room p (frameOf d c values ms) (doCx (theWire (x .0)) (theWire (y .0)))
-      unfolding runCx wireTold _>>=_ after
-      cx-two y j h = act-cx ∙ rw (sym (u p p (p + 3) d c) ∙ ap (wireTold p) k, second ∙ ap (wireTold p) j)
-          (ap (λ (b : Bool). cond b (endAt 25 p) (write (mode .limit) room p (frameOf d c values ms) (doCx (theWire (x .0)) (theWire (y .0))))) (ne-eqb (x .0) (y .0) h))
+    pub two-none : OneOf (1 ∷ 2 ∷ []) (tagOf the-type (lookIn l from to)) → onTwoWires mode room p (fields t (slice from to l)) (frameOf d c values ms) k act ≡ noMeaning
+    unfolding wireTold _>>=_ after
+    two-none h = sym (ap (λ (x : Run machine.Wire). x >>= rest) (wire-none l from to values ms h p p t d c))
+
+    module _ (tag mid : ℕ) (e : lookIn l from to ≡ Whole tag mid) (x : Wire) (j : r ≡ Is x) (v : WireMeaning) (w : WireAt (slice mid to l) 0 values ms v) where
+      second : wireOf p (frameOf d c values ms) (operandDue p 1 (fields t (slice from to l))) ≡ wireTold p v
+      second = ap (λ fs. wireOf p (frameOf d c values ms) (due readOperand (badOperand 4 p) (drop 1 fs))) (in-whole l from to tag mid e .first t) ∙ sym (w p p (t + (mid - from)) d c)
+
+      pub second-told : onTwoWires mode room p (fields t (slice from to l)) (frameOf d c values ms) k act
+          ≡ (wireTold p v >>= pair (theWire (x .0)))
+      unfolding wireTold _>>=_ after
+      second-told = two-told ∙ ap (λ (q : WireMeaning). wireTold p q >>= rest) j
+          ∙ ap (λ (z : Run machine.Wire). z >>= pair (theWire (x .0))) second
+
+      pub two-same : (y : Wire) → v ≡ Is y → x .0 ≡ y .0 → onTwoWires mode room p (fields t (slice from to l)) (frameOf d c values ms) k act ≡ endAt 25 p
+      unfolding wireTold _>>=_ _>>_ after apart
+      two-same y i h = second-told ∙ ap (λ (q : WireMeaning). wireTold p q >>= pair (theWire (x .0))) i
+          ∙ ap (λ (b : Bool). cond b (endAt 25 p) done >> both (theWire (x .0)) (theWire (y .0))) (eq-eqb (x .0) (y .0) h)
+
+      pub two-wires : (y : Wire) → v ≡ Is y → (x .0 ≡ y .0 → ⊥)
+          → onTwoWires mode room p (fields t (slice from to l)) (frameOf d c values ms) k act ≡ both (theWire (x .0)) (theWire (y .0))
+      unfolding wireTold _>>=_ _>>_ after apart
+      two-wires y i h = second-told ∙ ap (λ (q : WireMeaning). wireTold p q >>= pair (theWire (x .0))) i
+          ∙ ap (λ (b : Bool). cond b (endAt 25 p) done >> both (theWire (x .0)) (theWire (y .0))) (ne-eqb (x .0) (y .0) h)
+
+-- ---- gates, which have no k
+
+pub gate-one : (mode : Mode) (room : ℕ) (p tag : ℕ) (l : List ℕ) (d : Direction) (c : Condition) (values : List ℤ) (ms : List Meaning) → (tag ≡ 35 → ⊥)
+    → gateBy mode room tag p l (frameOf d c values ms) ≡ onWire mode room p (fields (p + 3) l) (frameOf d c values ms) 0 (written d (gateFor tag))
+unfolding gateBy runGate fewHalvings _>>_ after
+gate-one mode room p tag l d c values ms h = rw (ne-eqb tag 35 h)
+
+pub gate-two : (mode : Mode) (room : ℕ) (p tag : ℕ) (l : List ℕ) (f : Frame) → tag ≡ 35 → gateBy mode room tag p l f ≡ onTwoWires mode room p (fields (p + 3) l) f 0 doCx
+unfolding gateBy runCx fewHalvings _>>_ after
+gate-two mode room p tag l f h = rw (eq-eqb tag 35 h)

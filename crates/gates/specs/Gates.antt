@@ -5,13 +5,14 @@ use mathlib.Core.List.{List}
 use mathlib.Core.Bool.{Bool, true, false, cond, not, _&&_}
 use lib.Dec.{eqb}
 use lib.IntN.{ℤ, pos, _+ℤ_, _-ℤ_}
-use lib.ListN.{drop}
+use lib.ListN.{length, drop}
 use lib.Seq.{slice}
 use Rattle.language.specs.Limits.{deepest, furthest}
 use Rattle.language.specs.Tree.{Place, Gate, gateH, gateT, gateTdg, badIndex}
 use Rattle.language.specs.Form.{inRange}
-use Rattle.language.specs.Read.{fields, due, operandDue, outerIndex}
-use Rattle.language.specs.Machine.{Run, Frame, Direction, forward, backward, written, endAt, noMeaning, startOf, roundsOf, runGate, runCx, runBounds}
+use Rattle.language.specs.Read.{Field, fields, due, operandDue, outerIndex}
+use Rattle.language.specs.Machine.{Run, Frame, Direction, forward, backward, Action, written, endAt, noMeaning, _>>=_, _>>_, wireOf, apart, fewHalvings, write, startOf, roundsOf, runGate, runCx, runBounds}
+use Rattle.language.specs.Machine as machine
 use Rattle.indexes.specs.declared.Value.{Value}
 use Rattle.indexes.specs.declared.Value.the-variants.{Is, Over as vOver, Stuck as vStuck}
 use Rattle.language.specs.Result.{op}
@@ -20,7 +21,9 @@ use Rattle.fields.specs.declared.Named.the-variants.{Family, Bad}
 use Rattle.fields.specs.CallNumber.{isCallTag, namedIn}
 use Rattle.operands.specs.Meanings.{theWire, operandsOf, frameOf}
 use Rattle.operands.specs.declared.Scope.{Scope}
-use Rattle.records.specs.Outcomes.{conditionOf, OneStep, NoStep}
+use Rattle.operands.specs.declared.WireMeaning.{WireMeaning}
+use Rattle.operands.specs.declared.WireMeaning.the-variants.{Is as wIs, Over as wOver, Stuck as wStuck}
+use Rattle.records.specs.Outcomes.{conditionOf, Does, ActionNumbers, OneStep, NoStep}
 use Rattle.records.specs.declared.State.{State}
 use Rattle.records.specs.declared.Answer.{Answer}
 use Rattle.records.specs.declared.Answer.the-variants.{Going, Ended, Stuck as aStuck}
@@ -43,6 +46,31 @@ codeOf tag reversed = op (written (directionOf reversed) (gateFor tag) (theWire 
 
 abbrev pub frameIn : Mode → List ℤ → Scope → List ℕ → Frame
 frameIn mode values scope regs = frameOf (directionOf (mode .reversed)) (conditionOf (mode .condition)) values (operandsOf scope regs)
+
+-- the answer on an operand that has no wire, in the statement at p
+unfoldable pub noWireOf : WireMeaning → Place → State → Answer
+noWireOf (wIs w) p st = aStuck
+noWireOf wOver p st = Ended 24 p st
+noWireOf wStuck p st = aStuck
+
+-- a record of an action on the wire that is first of these fields; k is the action's, or 0
+abbrev pub onWire : Mode → (room : ℕ) → Place → List Field → Frame → (k : ℕ) → (machine.Wire → Action) → Run (Unit {0})
+onWire mode room p fs f k act = wireOf p f (operandDue p 0 fs) >>= λ w. (fewHalvings p k >> write (mode .limit) room p f (act w))
+
+-- and on the first two, which must differ
+abbrev pub onTwoWires : Mode → (room : ℕ) → Place → List Field → Frame → (k : ℕ) → (machine.Wire → machine.Wire → Action) → Run (Unit {0})
+onTwoWires mode room p fs f k act =
+    wireOf p f (operandDue p 0 fs) >>= λ x. (wireOf p f (operandDue p 1 fs) >>= λ y. (apart p x y >> (fewHalvings p k >> write (mode .limit) room p f (act x y))))
+
+-- the record of each action that has this op and this k, wherever the content stands
+abbrev pub OnWire : List ℕ → State → List ℕ → Answer → Mode → Place → (content : List ℕ) → Frame → (code k : ℕ) → Type 0
+OnWire l st l' r mode p content f code k =
+    (t : Place) (act : machine.Wire → Action) → ((n : ℕ) → ActionNumbers (act (theWire n)) code n 0 k) → Does l st l' r (onWire mode (length l) p (fields t content) f k act)
+
+abbrev pub OnTwoWires : List ℕ → State → List ℕ → Answer → Mode → Place → (content : List ℕ) → Frame → (code k : ℕ) → Type 0
+OnTwoWires l st l' r mode p content f code k =
+    (t : Place) (act : machine.Wire → machine.Wire → Action) → ((m n : ℕ) → ActionNumbers (act (theWire m) (theWire n)) code m n k)
+    → Does l st l' r (onTwoWires mode (length l) p (fields t content) f k act)
 
 -- the gate of this tag, and the cx, with this content
 abbrev pub gateAt : Mode → (room : ℕ) → ℕ → Place → List ℕ → Frame → Run (Unit {0})
@@ -134,7 +162,7 @@ namelessOf tag l = isCallTag tag && namesNone (namedIn tag 0 l)
 pub record Enterable (mode : Mode) (tag : ℕ) (l : List ℕ) : Type 0 where
   pub deep : mode .levels ≡ 0 → ⊥
   pub low : 32 ≤ tag
-  pub high : tag ≤ 39
+  pub high : tag ≤ 41
   pub named : namelessOf tag l ≡ false
 
 pub record StepTaken (mode : Mode) (tag : ℕ) (l : List ℕ) (st s : State) : Type 0 where
@@ -152,5 +180,5 @@ Entered mode tag l base st (Ended n p s) = NoStepLeft mode tag l base st n p s
 Entered mode tag l base st aStuck = Enterable mode tag l → ⊥
 
 -- the gate or the cx of this tag
-unfoldable pub actAt : Mode → (room : ℕ) → ℕ → Place → List ℕ → Frame → Run (Unit {0})
-actAt mode room tag p l f = cond (eqb tag 35) (cxAt mode room p l f) (gateAt mode room tag p l f)
+unfoldable pub gateBy : Mode → (room : ℕ) → ℕ → Place → List ℕ → Frame → Run (Unit {0})
+gateBy mode room tag p l f = cond (eqb tag 35) (cxAt mode room p l f) (gateAt mode room tag p l f)

@@ -10,7 +10,7 @@ ghost use Rattle.language.specs.Machine.{roundsOf, startOf};
 ghost use Rattle.language.specs.Form.{inRange};
 ghost use Rattle.indexes.specs.Values.{mostValues};
 ghost use Rattle.records.specs.Outcomes.{Does};
-ghost use Rattle.gates.specs.Gates.{codeOf, frameIn, directionOf, boundOf, Bounded, mostRounds, Repeated, turnOf, namelessOf, Entered, actAt, deeperOf, innerOf, enteredOf};
+ghost use Rattle.gates.specs.Gates.{codeOf, frameIn, directionOf, boundOf, Bounded, mostRounds, Repeated, turnOf, namelessOf, Entered, noWireOf, OnWire, OnTwoWires, gateBy, deeperOf, innerOf, enteredOf};
 use fields::Header;
 use fields::Named;
 use indexes::VALUES;
@@ -22,6 +22,11 @@ use operands::WireMeaning;
 use records::Answer;
 use records::Condition;
 use records::State;
+
+// The tags of statements, from the first to the last.
+const FIRST_TAG: u8 = 32;
+
+const LAST_TAG: u8 = 41;
 
 // Levels of nested statements in a body.
 pub const LEVELS: u8 = DEEPEST as u8;
@@ -56,6 +61,84 @@ fn code(tag: u8, reversed: bool) -> u8
     3
 }
 
+// The answer on an operand that has no wire.
+fn no_wire(w: WireMeaning, place: usize, st: State) -> Answer
+    requires { ⌜ place ≤ longestProgram ⌝ }
+    ensures { λ r. ⌜ r ≡ noWireOf w place st ⌝ }
+{
+    match w {
+        WireMeaning::Is(x) => Answer::Stuck,
+        WireMeaning::Over => Answer::Ended(24, place as u16, st),
+        WireMeaning::Stuck => Answer::Stuck,
+    }
+}
+
+// Writes a record of an op, with a k or 0 for it, on the wire that is due at `from` in the content that ends at `to`. Its step is taken.
+pub fn on_wire(
+    bytes: &[u8],
+    from: usize,
+    to: usize,
+    op: u8,
+    k: usize,
+    place: usize,
+    vars: &[i32; VALUES],
+    scope: Scope,
+    regs: &[u16; REGISTER_NUMBERS],
+    mode: Mode,
+    st: State,
+    out: &mut [u8],
+) -> Answer
+    requires { ⌜ to ≤ length (now bytes) ⌝ }
+    requires { ⌜ (mode .variables ≤ mostValues) × (place ≤ longestProgram) ⌝ }
+    ensures { λ r. ⌜ OnWire (now (out .entry)) st (now (out .exit)) r mode place (slice from to (now (bytes .entry))) (frameIn mode (take (mode .variables) (now (vars .entry))) scope (now (regs .entry))) op k ⌝ }
+{
+    let many = fields::wide(mode.variables);
+    let c = mode.condition;
+    let r = operands::wire_at(bytes, from, to, vars, many, scope, regs);
+    let WireMeaning::Is(w) = r else {
+        return no_wire(r, place, st);
+    };
+    records::write_record(out, st, place, op, w.0, 0, k, c)
+}
+
+// The same on two wires, which must differ.
+pub fn on_two_wires(
+    bytes: &[u8],
+    from: usize,
+    to: usize,
+    op: u8,
+    k: usize,
+    place: usize,
+    vars: &[i32; VALUES],
+    scope: Scope,
+    regs: &[u16; REGISTER_NUMBERS],
+    mode: Mode,
+    st: State,
+    out: &mut [u8],
+) -> Answer
+    requires { ⌜ to ≤ length (now bytes) ⌝ }
+    requires { ⌜ (mode .variables ≤ mostValues) × (place ≤ longestProgram) ⌝ }
+    ensures { λ r. ⌜ OnTwoWires (now (out .entry)) st (now (out .exit)) r mode place (slice from to (now (bytes .entry))) (frameIn mode (take (mode .variables) (now (vars .entry))) scope (now (regs .entry))) op k ⌝ }
+{
+    let many = fields::wide(mode.variables);
+    let c = mode.condition;
+    let first = operands::wire_at(bytes, from, to, vars, many, scope, regs);
+    let WireMeaning::Is(x) = first else {
+        return no_wire(first, place, st);
+    };
+    let Header::Whole(_, mid) = fields::header_at(bytes, from, to) else {
+        return Answer::Stuck;
+    };
+    let second = operands::wire_at(bytes, mid, to, vars, many, scope, regs);
+    let WireMeaning::Is(y) = second else {
+        return no_wire(second, place, st);
+    };
+    if x.0 == y.0 {
+        return Answer::Ended(25, place as u16, st);
+    }
+    records::write_record(out, st, place, op, x.0, y.0, k, c)
+}
+
 // Writes the gate or the cx with this tag, whose content is from `from` to `to` and whose step is taken.
 pub fn write_gate(
     bytes: &[u8],
@@ -72,32 +155,39 @@ pub fn write_gate(
 ) -> Answer
     requires { ⌜ to ≤ length (now bytes) ⌝ }
     requires { ⌜ (mode .variables ≤ mostValues) × (place ≤ longestProgram) ⌝ }
-    ensures { λ r. ⌜ Does (now (out .entry)) st (now (out .exit)) r (actAt mode (length (now (out .entry))) tag place (slice from to (now (bytes .entry))) (frameIn mode (take (mode .variables) (now (vars .entry))) scope (now (regs .entry)))) ⌝ }
+    ensures { λ r. ⌜ Does (now (out .entry)) st (now (out .exit)) r (gateBy mode (length (now (out .entry))) tag place (slice from to (now (bytes .entry))) (frameIn mode (take (mode .variables) (now (vars .entry))) scope (now (regs .entry)))) ⌝ }
 {
-    let many = fields::wide(mode.variables);
-    let c = mode.condition;
-    match operands::wire_at(bytes, from, to, vars, many, scope, regs) {
-        WireMeaning::Over => Answer::Ended(24, place as u16, st),
-        WireMeaning::Stuck => Answer::Stuck,
-        WireMeaning::Is(x) => {
-            if tag != 35 {
-                return records::write_record(out, st, place, code(tag, mode.reversed), x.0, 0, c);
-            }
-            let Header::Whole(_, mid) = fields::header_at(bytes, from, to) else {
-                return Answer::Stuck;
-            };
-            match operands::wire_at(bytes, mid, to, vars, many, scope, regs) {
-                WireMeaning::Over => Answer::Ended(24, place as u16, st),
-                WireMeaning::Stuck => Answer::Stuck,
-                WireMeaning::Is(y) => {
-                    if x.0 == y.0 {
-                        return Answer::Ended(25, place as u16, st);
-                    }
-                    records::write_record(out, st, place, 4, x.0, y.0, c)
-                }
-            }
-        }
+    if tag == 35 {
+        return on_two_wires(
+            bytes,
+            from,
+            to,
+            4,
+            0,
+            place,
+            vars,
+            scope,
+            regs,
+            mode,
+            st,
+            out,
+        );
     }
+    let op = code(tag, mode.reversed);
+    on_wire(
+        bytes,
+        from,
+        to,
+        op,
+        0,
+        place,
+        vars,
+        scope,
+        regs,
+        mode,
+        st,
+        out,
+    )
 }
 
 // A loop's bounds, and where its body begins.
@@ -242,10 +332,10 @@ pub fn enter(
     if mode.levels == 0 {
         return Answer::Stuck;
     }
-    if tag < 32 {
+    if tag < FIRST_TAG {
         return Answer::Stuck;
     }
-    if 39 < tag {
+    if LAST_TAG < tag {
         return Answer::Stuck;
     }
     if nameless(bytes, from, to, tag) {

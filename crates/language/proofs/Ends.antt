@@ -1,5 +1,5 @@
 -- Each event ends a run exactly under its condition, and a list of events with the first that does.
-use mathlib.Core.Path.{_≡_, refl, sym, ap, _∙_, fun-ext, subst₂}
+use mathlib.Core.Path.{_≡_, refl, sym, ap, _∙_, subst₂}
 use mathlib.Core.List.{List, [], _∷_, _++_}
 use mathlib.Core.Bool.{Bool, true, false, cond}
 use Prim.Native.Nat.{ℕ, suc, _*_}
@@ -8,12 +8,12 @@ use lib.IntN.{ℤ}
 use lib.Dec.{leb, ltb, eqb}
 use borrow.Author.Tests.{ltb-true, ltb-false, leb-true, leb-false, eqb-true, le-ltb, lt-leb, eq-eqb}
 use lib.ListN.{length, length-append}
-use Rattle.language.specs.Limits.{mostWires, recordSize}
+use Rattle.language.specs.Limits.{mostWires, recordSize, mostHalvings}
 use Rattle.language.specs.Tree.{Place}
 use Rattle.language.specs.Form.{inRange}
 use Rattle.language.specs.Machine as M
-use Rattle.language.specs.Machine.{Wire, Action, doCx, Frame, State, Outcome, going, ended, stuck, Run, after, done}
-use Rattle.language.specs.Ends.{Event, stepAt, valueAt, pairAt, recordAt, layoutAt, noMeaning, changed, meet, Ends, tooManyWires, outOfRange, oneWire, limitUsedUp, outputFull, EventLaw, meetAll, First, FirstLaw, Room, RoomIn, RoomLaw, HandedOn, GateLaw, CxLaw}
+use Rattle.language.specs.Machine.{Wire, Action, Frame, State, Outcome, going, ended, stuck, Run, after, done}
+use Rattle.language.specs.Ends.{Event, stepAt, valueAt, pairAt, halvingsAt, recordAt, layoutAt, noMeaning, changed, meet, Ends, tooManyWires, outOfRange, oneWire, tooManyHalvings, limitUsedUp, outputFull, EventLaw, meetAll, First, FirstLaw, Room, RoomIn, RoomLaw, HandedOn, GateLaw, CxLaw, PhaseLaw, CphaseLaw}
 use Rattle.language.proofs.Runs.{then-then, done-then}
 
 pub handed-on : HandedOn
@@ -50,10 +50,11 @@ module _ (limit room : ℕ) where
   -- ---- one event
 
   ends-so : (s : State) {e : Event} {n p : ℕ} → Ends limit room s e n p → meet limit room e s ≡ ended n p s
-  unfolding meet M.step M.write M.inside M.laidOut M._>>=_ after
+  unfolding meet M.step M.write M.inside M.apart M.fewHalvings M.laidOut M._>>=_ after
   ends-so s (tooManyWires {p = p} {n = n} h) = ap (λ (b : Bool). cond b done (M.endAt 23 p) s) (lt-leb n mostWires h)
   ends-so s (outOfRange {p = p} {z = z} h) = ap (λ (b : Bool). after (cond b (M.give z) (M.endAt 24 p) s) (λ x. done)) h
   ends-so s (oneWire {p = p} {x = x} {y = y} h) = ap (λ (b : Bool). cond b (M.endAt 25 p) done s) (eq-eqb (x .number) (y .number) h)
+  ends-so s (tooManyHalvings {p = p} {k = k} h) = ap (λ (b : Bool). cond b done (M.endAt 32 p) s) (lt-leb k mostHalvings h)
   ends-so s (limitUsedUp h) = cond-false (ltb (s .steps) limit) _ _ (le-ltb (s .steps) limit h)
   ends-so s (outputFull h) = cond-false (leb (recordSize * suc (length (s .records))) room) _ _ (lt-leb (recordSize * suc (length (s .records))) room h)
 
@@ -73,13 +74,21 @@ module _ (limit room : ℕ) where
       go true e k = absurd (not-ended k)
       go false e k = same-ends (outOfRange e) (parts k)
 
-  pair-only : (p : Place) (x y : Wire) (s : State) (n q : ℕ) (t : State) → meet limit room (pairAt p x y) s ≡ ended n q t → (t ≡ s) × Ends limit room s (pairAt p x y) n q
-  unfolding meet
+  pair-only : (p : Place) (x y : Wire) (s : State) (n q : ℕ) (t : State) → M.apart p x y s ≡ ended n q t → (t ≡ s) × Ends limit room s (pairAt p x y) n q
+  unfolding M.apart
   pair-only p x y s n q t h = go (eqb (x .number) (y .number)) refl h
     where
       go : (b : Bool) → eqb (x .number) (y .number) ≡ b → cond b (M.endAt 25 p) done s ≡ ended n q t → (t ≡ s) × Ends limit room s (pairAt p x y) n q
       go true e k = same-ends (oneWire (eqb-true (x .number) (y .number) e)) (parts k)
       go false e k = absurd (not-ended k)
+
+  halvings-only : (p : Place) (k : ℕ) (s : State) (n q : ℕ) (t : State) → M.fewHalvings p k s ≡ ended n q t → (t ≡ s) × Ends limit room s (halvingsAt p k) n q
+  unfolding M.fewHalvings
+  halvings-only p k s n q t h = go (leb k mostHalvings) refl h
+    where
+      go : (b : Bool) → leb k mostHalvings ≡ b → cond b done (M.endAt 32 p) s ≡ ended n q t → (t ≡ s) × Ends limit room s (halvingsAt p k) n q
+      go true e j = absurd (not-ended j)
+      go false e j = same-ends (tooManyHalvings (leb-false k mostHalvings e)) (parts j)
 
   record-only : (p : Place) (f : Frame) (a : Action) (s : State) (n q : ℕ) (t : State) → M.write limit room p f a s ≡ ended n q t → (t ≡ s) × Ends limit room s (recordAt p f a) n q
   unfolding M.write
@@ -102,12 +111,13 @@ module _ (limit room : ℕ) where
   ends-only (stepAt p) s n q t h = step-only p s n q t h
   ends-only (valueAt p z) s n q t h = value-only p z s n q t h
   ends-only (pairAt p x y) s n q t h = pair-only p x y s n q t h
+  ends-only (halvingsAt p k) s n q t h = halvings-only p k s n q t h
   ends-only (recordAt p f a) s n q t h = record-only p f a s n q t h
   ends-only (layoutAt p m) s n q t h = layout-only p m s n q t h
   ends-only noMeaning s n q t h = absurd (let z : _≡_ {A = ℕ} 0 1 = cc in omega arith)
 
   goes-so : (e : Event) (s t : State) → meet limit room e s ≡ going tt t → t ≡ changed e s
-  unfolding meet changed M.step M.write M.inside M.laidOut M._>>=_ after
+  unfolding meet changed M.step M.write M.inside M.apart M.fewHalvings M.laidOut M._>>=_ after
   goes-so (stepAt p) s t h = going-either 26 p s (ltb (s .steps) limit) h
   goes-so (valueAt p z) s t h = go (inRange z) h
     where
@@ -119,6 +129,11 @@ module _ (limit room : ℕ) where
       go : (b : Bool) → cond b (M.endAt 25 p) done s ≡ going tt t → t ≡ s
       go true k = absurd (not-ended (sym k))
       go false k = same-going k
+  goes-so (halvingsAt p k) s t h = go (leb k mostHalvings) h
+    where
+      go : (b : Bool) → cond b done (M.endAt 32 p) s ≡ going tt t → t ≡ s
+      go true j = same-going j
+      go false j = absurd (not-ended (sym j))
   goes-so (recordAt p f a) s t h = going-either 27 p s (leb (recordSize * suc (length (s .records))) room) h
   goes-so (layoutAt p m) s t h = go (leb m mostWires) h
     where
@@ -165,7 +180,7 @@ module _ (limit room : ℕ) where
   -- ---- steps and records stay within what the machine is given
 
   room-met : (e : Event) (s : State) → Room limit room s → RoomIn limit room (meet limit room e s)
-  unfolding meet M.step M.write M.inside M.laidOut M._>>=_ after
+  unfolding meet M.step M.write M.inside M.apart M.fewHalvings M.laidOut M._>>=_ after
   room-met (stepAt p) s h = go (ltb (s .steps) limit) refl
     where
       go : (b : Bool) → ltb (s .steps) limit ≡ b → RoomIn limit room (cond b (going tt (record { records = s .records; steps = suc (s .steps) })) (ended 26 p s))
@@ -179,6 +194,11 @@ module _ (limit room : ℕ) where
   room-met (pairAt p x y) s h = go (eqb (x .number) (y .number))
     where
       go : (b : Bool) → RoomIn limit room (cond b (M.endAt 25 p) done s)
+      go true = h
+      go false = h
+  room-met (halvingsAt p k) s h = go (leb k mostHalvings)
+    where
+      go : (b : Bool) → RoomIn limit room (cond b done (M.endAt 32 p) s)
       go true = h
       go false = h
   room-met (recordAt p f a) s h = go (leb (recordSize * suc (length (s .records))) room) refl
@@ -212,9 +232,13 @@ unfolding meet M.runStatement M.runGate
 gate-law limit room p g o e fs f = refl
 
 pub cx-law : CxLaw
-unfolding meet M.runStatement M.runCx M._>>=_ M._>>_ after
-cx-law limit room p c o e fs f = ap (λ (k : Wire → Wire → Run (Unit {0})). M._>>_ (M.step limit room p) (M._>>=_ (M.wireOf p f c) (λ x. M._>>=_ (M.wireOf p f o) (k x)))) (fun-ext (λ x. fun-ext (λ y. fun-ext (λ s. go (eqb (x .number) (y .number)) x y s))))
-  where
-    go : (b : Bool) (x y : Wire) (s : State) → cond b (M.endAt 25 p) (M.write limit room p f (doCx x y)) s ≡ after (cond b (M.endAt 25 p) done s) (λ u. M.write limit room p f (doCx x y))
-    go true x y s = refl
-    go false x y s = refl
+unfolding meet M.runStatement M.runCx
+cx-law limit room p c o e fs f = refl
+
+pub phase-law : PhaseLaw
+unfolding meet M.runStatement M.runPhase
+phase-law limit room p i o e fs f = refl
+
+pub cphase-law : CphaseLaw
+unfolding meet M.runStatement M.runCphase
+cphase-law limit room p i c o e fs f = refl

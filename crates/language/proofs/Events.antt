@@ -10,10 +10,10 @@ use lib.Dec.{ltb, eqb}
 use lib.ListN.{length, getElem?}
 use Rattle.language.specs.Form.{inRange}
 use Rattle.language.specs.Tree.{Place, number, missing, Index, literal, variable, operation, badIndex, Operand, whole, element, badOperand, ParameterType, qbit, qbits, badType, Argument, index, operand, badArgument}
-use Rattle.language.specs.Tree.{Statement, Statements, gate, cx, call, reverse, for, badStatement, nil, cons, Top, family, qreg, creg, measure, reset, if, statement, badTop}
+use Rattle.language.specs.Tree.{Statement, Statements, gate, cx, phase, cphase, call, reverse, for, badStatement, nil, cons, Top, family, qreg, creg, measure, reset, if, statement, badTop}
 use Rattle.language.specs.Machine as M
 use Rattle.language.specs.Machine.{Wire, Meaning, aWire, aBit, wires, bits, Direction, forward, backward, Frame, State, Outcome, going, ended, stuck, Run, after, done, give, Family, Globals}
-use Rattle.language.specs.Ends.{Event, stepAt, valueAt, pairAt, recordAt, layoutAt, noMeaning, meet, meetAll, plain, Meets, RunEvents, InstanceEvents}
+use Rattle.language.specs.Ends.{Event, stepAt, valueAt, pairAt, halvingsAt, recordAt, layoutAt, noMeaning, meet, meetAll, plain, Meets, RunEvents, InstanceEvents}
 use Rattle.language.proofs.Runs.{after-after}
 use Rattle.language.proofs.Ends.{meet-append, first-law}
 
@@ -117,13 +117,13 @@ through-inside p z = one-event (valueAt p z) z (λ l r s. go (inRange z) s)
     go true s = refl
     go false s = refl
 
-through-pair : (p : Place) (f : Frame) (x y : Wire) → Passes (λ l r. cond (eqb (x .number) (y .number)) (M.endAt 25 p) (M.write l r p f (M.doCx x y)))
-unfolding meet meetAll M._>>_ after
-through-pair p f x y = before (pairAt p x y ∷ []) (λ l r. fun-ext (λ s. go l r (eqb (x .number) (y .number)) s)) (through-write p f (M.doCx x y))
-  where
-    go : (l r : ℕ) (b : Bool) (s : State) → cond b (M.endAt 25 p) (M.write l r p f (M.doCx x y)) s ≡ after (after (cond b (M.endAt 25 p) done s) (λ u. done)) (λ u. M.write l r p f (M.doCx x y))
-    go l r true s = refl
-    go l r false s = refl
+through-apart : (p : Place) (x y : Wire) → Passes (λ l r. M.apart p x y)
+unfolding meet
+through-apart p x y = one-event (pairAt p x y) tt (λ l r s. kept (M.apart p x y s))
+
+through-few : (p : Place) (k : ℕ) → Passes (λ l r. M.fewHalvings p k)
+unfolding meet
+through-few p k = one-event (halvingsAt p k) tt (λ l r s. kept (M.fewHalvings p k s))
 
 -- ---- indexes and operands
 
@@ -133,6 +133,15 @@ through-index p values (literal q n) = through-inside p _
 through-index p values (variable q n e) = through-bind (through-found (getElem? values n)) λ z. through-inside p z
 through-index p values (operation q o x y e) = through-bind (through-index p values x) λ a. through-bind (through-index p values y) λ b. through-inside p _
 through-index p values (badIndex n q) = through-nothing
+
+through-natural : (z : ℤ) → Passes (λ l r. M.naturalOf z)
+unfolding M.naturalOf
+through-natural (pos n) = through-give n
+through-natural (negsuc n) = through-nothing
+
+through-halvings : (p : Place) (values : List ℤ) (i : Index) → Passes (λ l r. M.halvings p values i)
+unfolding M.halvings
+through-halvings p values i = through-bind (through-index p values i) through-natural
 
 through-element : (m : Meaning) (z : ℤ) → Passes (λ l r. M.elementAt m z)
 unfolding M.elementAt
@@ -185,17 +194,12 @@ through-meanings p f (index q i ∷ more) = through-meanings p f more
 through-meanings p f (operand q o ∷ more) = through-bind (through-operand p f o) λ m. through-bind (through-meanings p f more) λ ms. through-give _
 through-meanings p f (badArgument n q ∷ more) = through-nothing
 
-through-size : (z : ℤ) → Passes (λ l r. M.sizeOf z)
-unfolding M.sizeOf
-through-size (pos n) = through-give n
-through-size (negsuc n) = through-nothing
-
 through-layout : (values : List ℤ) (next : ℕ) (types : List ParameterType) → Passes (λ l r. M.layout values next types)
 unfolding M.layout M.layWire M.layRegister M.laidThen
 through-layout values next [] = through-give []
 through-layout values next (qbit p e ∷ types) = through-then (through-laid p _) (through-bind (through-layout values _ types) λ ms. through-give _)
 through-layout values next (qbits p i e ∷ types) =
-    through-bind (through-index p values i) λ z. through-bind (through-size z) λ n. through-then (through-laid p _) (through-bind (through-layout values _ types) λ ms. through-give _)
+    through-bind (through-index p values i) λ z. through-bind (through-natural z) λ n. through-then (through-laid p _) (through-bind (through-layout values _ types) λ ms. through-give _)
 through-layout values next (badType n p ∷ types) = through-nothing
 
 -- ---- families
@@ -229,11 +233,14 @@ through-order forward h k = through-then h k
 through-order backward h k = through-then k h
 
 mutual
-  unfolding M.runStatement M.runGate M.runCx M.runCall M.callFamily M.runReverse M.runFor M.runBounds M.enter M.inCall
+  unfolding M.runStatement M.runGate M.runCx M.runPhase M.runCphase M.runCall M.callFamily M.runReverse M.runFor M.runBounds M.enter M.inCall
 
   through-statement : (x : Statement) (xs : List Everywhere) (f : Frame) → Passes (λ l r. M.runStatement l r x (map (familyAt l r) xs) f)
   through-statement (gate p g o e) xs f = through-then (through-step p) (through-bind (through-wire p f o) λ w. through-write p f _)
-  through-statement (cx p c o e) xs f = through-then (through-step p) (through-bind (through-wire p f c) λ x. through-bind (through-wire p f o) λ y. through-pair p f x y)
+  through-statement (cx p c o e) xs f = through-then (through-step p) (through-bind (through-wire p f c) λ x. through-bind (through-wire p f o) λ y. through-then (through-apart p x y) (through-write p f _))
+  through-statement (phase p i o e) xs f = through-then (through-step p) (through-bind (through-halvings p (f .variables) i) λ k. through-bind (through-wire p f o) λ w. through-then (through-few p k) (through-write p f _))
+  through-statement (cphase p i c o e) xs f = through-then (through-step p) (through-bind (through-halvings p (f .variables) i) λ k. through-bind (through-wire p f c) λ x. through-bind (through-wire p f o) λ y.
+      through-then (through-apart p x y) (through-then (through-few p k) (through-write p f _)))
   through-statement (call p n more) xs f = through-then (through-step p) (through-read _ (found-family xs n) λ x.
       through-bind (through-sizes p f more) λ zs. through-bind (through-meanings p f more) λ ms. through-cond (eqb (length zs) (x .variables) && M.allTake (x .types) ms) (x .passes (M.inCall f zs ms)) through-nothing)
   through-statement (reverse p ss) xs f = through-then (through-step p) (through-statements ss xs _)

@@ -8,10 +8,10 @@ use native.Mathlib.Omega.{arith}
 use lib.IntN.{ℤ, pos, negsuc}
 use lib.Dec.{leb, ltb, eqb}
 use lib.ListN.{length, getElem?}
-use Rattle.language.specs.Limits.{mostWires, recordSize}
+use Rattle.language.specs.Limits.{mostWires, recordSize, mostHalvings}
 use Rattle.language.specs.Form.{inRange}
 use Rattle.language.specs.Tree.{Place, number, missing, Index, literal, variable, operation, badIndex, Operand, whole, element, badOperand, ParameterType, qbit, qbits, badType, Argument, index, operand, badArgument}
-use Rattle.language.specs.Tree.{Statement, Statements, gate, cx, call, reverse, for, badStatement, nil, cons, Top, family, qreg, creg, measure, reset, if, statement, badTop}
+use Rattle.language.specs.Tree.{Statement, Statements, gate, cx, phase, cphase, call, reverse, for, badStatement, nil, cons, Top, family, qreg, creg, measure, reset, if, statement, badTop}
 use Rattle.language.specs.Read.{read}
 use Rattle.language.specs.Machine as M
 use Rattle.language.specs.Machine.{Meaning, aWire, aBit, wires, bits, Direction, forward, backward, Frame, Outcome, going, ended, stuck, Run, Family, Globals}
@@ -71,6 +71,23 @@ module _ (size : ℕ) where
   ends-index p values (operation q o l r e) h = ends-bind (ends-index p values l h) λ x. ends-bind (ends-index p values r h) λ y. ends-inside p _ h
   ends-index p values (badIndex n q) h = ends-nothing
 
+  ends-natural : (z : ℤ) → EndsWithin (M.naturalOf z)
+  unfolding M.naturalOf
+  ends-natural (pos n) = ends-give n
+  ends-natural (negsuc n) = ends-nothing
+
+  ends-halvings : (p : Place) (values : List ℤ) (i : Index) → p ≤ size → EndsWithin (M.halvings p values i)
+  unfolding M.halvings
+  ends-halvings p values i h = ends-bind (ends-index p values i h) ends-natural
+
+  ends-few : (p : Place) (k : ℕ) → p ≤ size → EndsWithin (M.fewHalvings p k)
+  unfolding M.fewHalvings
+  ends-few p k h = ends-cond (leb k mostHalvings) (ends-give tt) (ends-at 32 p h)
+
+  ends-apart : (p : Place) (x y : M.Wire) → p ≤ size → EndsWithin (M.apart p x y)
+  unfolding M.apart
+  ends-apart p x y h = ends-cond (eqb (x .number) (y .number)) (ends-at 25 p h) (ends-give tt)
+
   ends-element : (m : Meaning) (z : ℤ) → EndsWithin (M.elementAt m z)
   unfolding M.elementAt
   ends-element (aWire w) z = ends-nothing
@@ -126,17 +143,12 @@ module _ (size : ℕ) where
   unfolding M.laidOut
   ends-laid p n h = ends-cond (leb n mostWires) (ends-give tt) (ends-at 23 p h)
 
-  ends-size : (z : ℤ) → EndsWithin (M.sizeOf z)
-  unfolding M.sizeOf
-  ends-size (pos n) = ends-give n
-  ends-size (negsuc n) = ends-nothing
-
   ends-layout : (values : List ℤ) (next : ℕ) (types : List ParameterType) → AllOf (FairType size) types → EndsWithin (M.layout values next types)
   unfolding M.layout M.layWire M.layRegister M.laidThen
   ends-layout values next [] h = ends-give []
   ends-layout values next (qbit p e ∷ types) h = ends-then (ends-laid p _ (h .0)) (ends-bind (ends-layout values _ types (h .1)) λ ms. ends-give _)
   ends-layout values next (qbits p i e ∷ types) h =
-      ends-bind (ends-index p values i (h .0 .0)) λ z. ends-bind (ends-size z) λ n. ends-then (ends-laid p _ (h .0 .0)) (ends-bind (ends-layout values _ types (h .1)) λ ms. ends-give _)
+      ends-bind (ends-index p values i (h .0 .0)) λ z. ends-bind (ends-natural z) λ n. ends-then (ends-laid p _ (h .0 .0)) (ends-bind (ends-layout values _ types (h .1)) λ ms. ends-give _)
   ends-layout values next (badType n p ∷ types) h = ends-nothing
 
   -- ---- statements
@@ -184,11 +196,14 @@ module _ (size : ℕ) where
     ends-enter (some x) f k = record { ends = λ s. k x refl .ends s }
 
     mutual
-      unfolding M.runStatement M.runGate M.runCx M.runCall M.callFamily M.runReverse M.runFor M.runBounds FairStatement M.enter M.inCall
+      unfolding M.runStatement M.runGate M.runCx M.runPhase M.runCphase M.runCall M.callFamily M.runReverse M.runFor M.runBounds FairStatement M.enter M.inCall
 
       pub ends-statement : (x : Statement) (fs : List Family) (f : Frame) → FairStatement size x → AllOf FamilyWithin fs → EndsWithin (M.runStatement limit room x fs f)
       ends-statement (gate p g o e) fs f h k = ends-then (ends-step p (h .0)) (ends-bind (ends-wire p f o (h .0)) λ w. ends-write p f _ (h .0))
-      ends-statement (cx p c o e) fs f h k = ends-then (ends-step p (h .0)) (ends-bind (ends-wire p f c (h .0)) λ x. ends-bind (ends-wire p f o (h .0)) λ y. ends-cond (eqb (x .number) (y .number)) (ends-at 25 p (h .0)) (ends-write p f (M.doCx x y) (h .0)))
+      ends-statement (cx p c o e) fs f h k = ends-then (ends-step p (h .0)) (ends-bind (ends-wire p f c (h .0)) λ x. ends-bind (ends-wire p f o (h .0)) λ y. ends-then (ends-apart p x y (h .0)) (ends-write p f (M.doCx x y) (h .0)))
+      ends-statement (phase p i o e) fs f h k = ends-then (ends-step p (h .0)) (ends-bind (ends-halvings p (f .variables) i (h .0)) λ n. ends-bind (ends-wire p f o (h .0)) λ w. ends-then (ends-few p n (h .0)) (ends-write p f _ (h .0)))
+      ends-statement (cphase p i c o e) fs f h k = ends-then (ends-step p (h .0)) (ends-bind (ends-halvings p (f .variables) i (h .0)) λ n. ends-bind (ends-wire p f c (h .0)) λ x. ends-bind (ends-wire p f o (h .0)) λ y.
+          ends-then (ends-apart p x y (h .0)) (ends-then (ends-few p n (h .0)) (ends-write p f _ (h .0))))
       ends-statement (call p n more) fs f h k = ends-then (ends-step p (h .0)) (ends-enter (getElem? fs n) _ λ x e.
           ends-bind (ends-sizes p f more (h .0)) λ zs. ends-bind (ends-meanings p f more (h .0)) λ ms. ends-cond (eqb (length zs) (x .variables) && M.allTake (x .types) ms) (kept-found fs n k x e .body (M.inCall f zs ms)) ends-nothing)
       ends-statement (reverse p ss) fs f h k = ends-then (ends-step p (h .0)) (ends-statements ss fs _ (h .1) k)

@@ -8,7 +8,7 @@ use Prim.Native.Nat.{ℕ, zero, suc, _*_, _≤_, _<_}
 use native.Mathlib.Omega.{arith}
 use lib.IntN.{ℤ, pos}
 use lib.Dec.{leb, eqb}
-use borrow.Author.Tests.{eqb-true, eq-eqb}
+use borrow.Author.Tests.{eqb-true, eq-eqb, leb-true, leb-false}
 use lib.ListN.{length, getElem?}
 use Rattle.language.specs.Limits.{recordSize, longestProgram, mostWires, mostBits}
 use Rattle.language.specs.Tree.{Place, Refusal}
@@ -18,11 +18,11 @@ use Rattle.language.specs.Machine as M
 use Rattle.language.specs.Machine.{State, Outcome, found, Family, begin, layout, allDeclared, runProgram, runInstance}
 use Rattle.language.specs.Result.{Answer, Conclusion, finished, gotStuck, outputBytes, writtenInto, resultOf, untouched, conclusionOf, checkProgram, verdict, checkResult, ifAccepted, runOutcome, fourBytes, allSizesFit, instanceOf, instanceOutcome}
 use Rattle.language.specs.Lookup.{Declaration, familyIn, meaning}
-use Rattle.language.specs.Sound.{qubitsDeclared, bitsDeclared, wiresLaid, wiresOf, wiresLaidOut, Sound, Finishes, Suits}
+use Rattle.language.specs.Sound.{qubitsDeclared, bitsDeclared, wiresLaid, wiresOf, wiresLaidOut, EndsWith, Sound, Finishes, Suits}
 use Rattle.language.specs.Theorem.{Reports, RunTheorem, instanceAt}
 use Rattle.language.proofs.FormLaws.{Naturals}
 use Rattle.language.proofs.FormLaws as L
-use Rattle.language.proofs.Safe.{World, Held, Safe, goes, ends, Any, then-both}
+use Rattle.language.proofs.Safe.{World, lastEnd, Held, Safe, goes, ends, Any, then-both}
 use Rattle.language.proofs.Accepted.{program-counts}
 use Rattle.language.proofs.Tops.{program-safe, instance-safe, layout-few}
 use Rattle.language.proofs.Instances.{declared-family, family-found, family-missing}
@@ -33,7 +33,7 @@ use Rattle.language.proofs.Output.{written-size, drop-written, none-wri
 
 -- a state that holds, as an answer with a number
 state-sound : (W : World) (lent : List ℕ) (n : Refusal) (p : Place) (s : State) → W .room ≡ length lent → (W .wires ≤ mostWires) × (W .bits ≤ mostBits) → Held W s
-    → (n ≡ 0) ⊎ ((W .least ≤ n) × (n ≤ 27)) → (n ≡ 0 → p ≡ 0) → (1 ≤ n → n ≤ 23 → (length (s .records) ≡ 0) × (s .steps ≡ 0))
+    → (n ≡ 0) ⊎ EndsWith (W .least) n → (n ≡ 0 → p ≡ 0) → (1 ≤ n → n ≤ 23 → (length (s .records) ≡ 0) × (s .steps ≡ 0))
     → (n ≡ 26 → s .steps ≡ W .limit) → (n ≡ 27 → length lent < recordSize * suc (length (s .records)))
     → Sound (W .least) (W .limit) (W .wires) (W .bits) lent (record { result = resultOf n p s; output = writtenInto lent (s .records) })
 unfolding resultOf
@@ -57,10 +57,17 @@ state-sound W lent n p s room few h number place early limited filled =
       bytes = bytes-written (W .wires) (W .bits) lent (s .records) (h .named);
     }
 
+ends-with : (least n : ℕ) → least ≤ n → (27 < n → n ≡ 32) → EndsWith least n
+ends-with least n l k = go (leb n 27) refl
+  where
+    go : (b : Bool) → leb n 27 ≡ b → EndsWith least n
+    go true e = inl (l, leb-true n 27 e)
+    go false e = inr (k (leb-false n 27 e))
+
 -- an outcome that is safe, and the answer that it comes to
-safe-reports : {A : Type 0} (W : World) (lent : List ℕ) (o : Outcome A) → 1 ≤ W .least → W .most ≡ 27 → W .room ≡ length lent → (W .wires ≤ mostWires) × (W .bits ≤ mostBits) → Safe W Any o → Reports (W .least) (W .limit) (W .wires) (W .bits) lent o (conclusionOf lent o)
+safe-reports : {A : Type 0} (W : World) (lent : List ℕ) (o : Outcome A) → 1 ≤ W .least → W .room ≡ length lent → (W .wires ≤ mostWires) × (W .bits ≤ mostBits) → Safe W Any o → Reports (W .least) (W .limit) (W .wires) (W .bits) lent o (conclusionOf lent o)
 unfolding conclusionOf resultOf
-safe-reports W lent o least most room few (goes {a = a} {s = s} p h) = record {
+safe-reports W lent o least room few (goes {a = a} {s = s} p h) = record {
   answer = _;
   is = refl;
   last = s;
@@ -74,19 +81,19 @@ safe-reports W lent o least most room few (goes {a = a} {s = s} p h) = record {
   named = h .named;
   sound = state-sound W lent 0 0 s room few h (inl refl) (λ e. refl) (λ a b. absurd (omega arith)) (λ e. absurd (omega arith)) (λ e. absurd (omega arith));
 }
-safe-reports W lent o least most room few (ends {n = n} {p = p} {s = s} e h) = record {
+safe-reports W lent o least room few (ends {n = n} {p = p} {s = s} e h) = record {
   answer = _;
   is = refl;
   last = s;
   complete = λ z. absurd (omega (arith, e .from));
-  cut = λ l. (refl, e .from, omega (arith, e .to));
+  cut = λ l. (refl, ends-with (W .least) n (e .from) (e .known));
   records = refl;
   steps = refl;
   output = refl;
   within = h .few;
   fits = omega (arith, h .fit);
   named = h .named;
-  sound = state-sound W lent n p s room few h (inr (e .from, omega (arith, e .to))) (λ z. absurd (omega (arith, e .from))) (λ a b. (e .nothing b .1, e .nothing b .0)) (λ z. omega (arith, e .limited z, h .few)) (λ z. omega (arith, e .filled z));
+  sound = state-sound W lent n p s room few h (inr (ends-with (W .least) n (e .from) (e .known))) (λ z. absurd (omega (arith, e .from))) (λ a b. (e .nothing b .1, e .nothing b .0)) (λ z. omega (arith, e .limited z, h .few)) (λ z. omega (arith, e .filled z));
 }
 
 -- the answer alone
@@ -100,7 +107,7 @@ untouched-finishes least limit q b lent n l u h few = record {
   answer = _;
   is = refl;
   sound = record {
-    number = inr (u, omega arith);
+    number = inr (inl (u, omega arith));
     place = λ e. refl;
     steps = omega arith;
     fits = omega arith;
@@ -143,9 +150,10 @@ finishes-from {least} {more} l f = let s = f .sound in
       };
     }
   where
-    go : {n : ℕ} → (n ≡ 0) ⊎ ((least ≤ n) × (n ≤ 27)) → (n ≡ 0) ⊎ ((more ≤ n) × (n ≤ 27))
+    go : {n : ℕ} → (n ≡ 0) ⊎ EndsWith least n → (n ≡ 0) ⊎ EndsWith more n
     go (inl e) = inl e
-    go (inr h) = inr (omega (arith, h .0), h .1)
+    go (inr (inl h)) = inr (inl (omega (arith, h .0), h .1))
+    go (inr (inr e)) = inr (inr e)
 
 -- ---- whole runs
 
@@ -157,8 +165,8 @@ run-checked : (program : List ℕ) (limit : ℕ) (output : List ℕ) (d : Declar
     → Reports 24 limit (qubitsDeclared program) (bitsDeclared program) output (runProgram limit (length output) (read program)) (runOutcome program limit output)
 unfolding runOutcome ifAccepted
 run-checked program limit output d e =
-    let W : World = record { limit = limit; room = length output; wires = qubitsDeclared program; bits = bitsDeclared program; least = 24; most = 27; early = omega arith; late = omega arith } in
-    rw e (safe-reports W output (runProgram limit (length output) (read program)) (omega arith) refl refl (omega (arith, program-counts (read program) d (checked program d e))) (program-safe W (omega arith) (read program) d (checked program d e) (omega arith) (omega arith)))
+    let W : World = record { limit = limit; room = length output; wires = qubitsDeclared program; bits = bitsDeclared program; least = 24; most = lastEnd; early = omega arith; late = omega arith } in
+    rw e (safe-reports W output (runProgram limit (length output) (read program)) (omega arith) refl (omega (arith, program-counts (read program) d (checked program d e))) (program-safe W (omega arith) (read program) d (checked program d e) (omega arith) (omega arith)))
 
 -- ---- instances
 
@@ -188,9 +196,9 @@ module _ (program : List ℕ) (n : ℕ) (sizes : List ℕ) (limit : ℕ) (output
       → Reports 23 limit (wiresLaidOut program n sizes) 0 output (runInstance f (map pos (fourBytes sizes))) (conclusionOf output (runInstance f (map pos (fourBytes sizes))))
   unfolding wiresOf
   machine-reports D f i g v t c =
-      let W : World = record { limit = limit; room = length output; wires = wiresLaidOut program n sizes; bits = 0; least = 23; most = 27; early = omega arith; late = omega arith } in
+      let W : World = record { limit = limit; room = length output; wires = wiresLaidOut program n sizes; bits = 0; least = 23; most = lastEnd; early = omega arith; late = omega arith } in
       let q : wiresLaid (layout (map pos (fourBytes sizes)) 0 (f .types) begin) ≤ wiresLaidOut program n sizes = rw (i, t) (omega arith) in
-      safe-reports W output (runInstance f (map pos (fourBytes sizes))) (omega arith) refl refl few-laid (instance-safe W (omega arith) (read program) d n f (map pos (fourBytes sizes)) e g (sizes-natural (f .variables) sizes c) q (omega arith))
+      safe-reports W output (runInstance f (map pos (fourBytes sizes))) (omega arith) refl few-laid (instance-safe W (omega arith) (read program) d n f (map pos (fourBytes sizes)) e g (sizes-natural (f .variables) sizes c) q (omega arith))
 
   -- at sizes that suit, the machine runs
   suited-reports : Suits program n sizes
@@ -229,7 +237,7 @@ instance-reports program family sizes limit output e s =
     let a = accepted program e in
     rw (a .1) (suited-reports program family sizes limit output (a .0) (checked program (a .0) (a .1)) s)
 
--- every instance of an accepted program, at every family number, sizes, limit and output; at sizes that suit, the number is 0 or 23 to 27
+-- every instance of an accepted program, at every family number, sizes, limit and output; at sizes that suit, the number is 0, 23 to 27 or 32
 pub instance-sound : (program : List ℕ) (family : ℕ) (sizes : List ℕ) (limit : ℕ) (output : List ℕ) → checkResult program .number ≡ 0
     → Finishes 20 limit (wiresLaidOut program family sizes) 0 output (instanceOutcome program family sizes limit output)
     × (Suits program family sizes → Finishes 23 limit (wiresLaidOut program family sizes) 0 output (instanceOutcome program family sizes limit output))

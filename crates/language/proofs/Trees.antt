@@ -8,7 +8,7 @@ use lib.Dec.{leb}
 use lib.ListN.{length, take, drop, length-take}
 use Rattle.language.specs.Limits.{deepest}
 use Rattle.language.specs.Tree.{Place, Ending, Number, Operation, sum, difference, product, Index, literal, variable, operation, badIndex, Operand, whole, element, badOperand}
-use Rattle.language.specs.Tree.{ParameterType, qbit, qbits, badType, Argument, index, operand, badArgument, Gate, gateH, gateT, gateTdg, Statement, Statements, gate, cx, call, reverse, for, badStatement, nil, cons}
+use Rattle.language.specs.Tree.{ParameterType, qbit, qbits, badType, Argument, index, operand, badArgument, Gate, gateH, gateT, gateTdg, Statement, Statements, gate, cx, phase, cphase, call, reverse, for, badStatement, nil, cons}
 use Rattle.language.specs.Tree.{Top, family, qreg, creg, measure, reset, if, statement, badTop}
 use Rattle.language.specs.Read
 use Rattle.language.specs.Read.{Field, field, badHeader, Reader, ofFields, due, fields, fieldsAfter, firstField, fieldOf, extent, twoBytes, FamilyNumber, names, unnamed, oneByteNumber, twoByteNumber, readIndex, outerIndex, readOperand, readType, readArgument, readStatement, outerStatement, statementsBy, readTop, read, operandDue}
@@ -59,7 +59,7 @@ module _ (size : ℕ) where
   -- ---- trees whose faults have such numbers and places
 
   abbrev pub FairIndex : Index → Type 0
-  FairIndex (literal p n) = Unit {0}
+  FairIndex (literal p n) = p ≤ size
   FairIndex (variable p n e) = p ≤ size
   FairIndex (operation p o l r e) = (p ≤ size) × FairIndex l × FairIndex r
   FairIndex (badIndex n p) = Listed size n p
@@ -83,6 +83,8 @@ module _ (size : ℕ) where
     pub FairStatement : Statement → Type 0
     FairStatement (gate p g o e) = (p ≤ size) × FairOperand o
     FairStatement (cx p c o e) = (p ≤ size) × FairOperand c × FairOperand o
+    FairStatement (phase p k o e) = (p ≤ size) × FairIndex k × FairOperand o
+    FairStatement (cphase p k c o e) = (p ≤ size) × FairIndex k × FairOperand c × FairOperand o
     FairStatement (call p n more) = (p ≤ size) × AllOf FairArgument more
     FairStatement (reverse p ss) = (p ≤ size) × FairStatements ss
     FairStatement (for p low high ss) = (p ≤ size) × FairIndex low × FairIndex high × FairStatements ss
@@ -130,7 +132,7 @@ module _ (size : ℕ) where
   unfolding Fair Read.readLiteral
   literal-fair p [] k = omega arith
   literal-fair p (a ∷ []) k = omega arith
-  literal-fair p (a ∷ b ∷ []) k = tt
+  literal-fair p (a ∷ b ∷ []) k = omega arith
   literal-fair p (a ∷ b ∷ c ∷ rest) k = omega arith
 
   variable-fair : Fair FairIndex Read.readVariable
@@ -218,6 +220,14 @@ module _ (size : ℕ) where
   unfolding Fair FairStatement Read.cxOf
   cx-fair q rest k = (omega arith, operand-due-fair q 0 (q + 3) rest (omega arith) k, operand-due-fair q 1 (q + 3) rest (omega arith) k)
 
+  phase-fair : Fair FairStatement (ofFields Read.phaseOf)
+  unfolding Fair FairStatement Read.phaseOf
+  phase-fair q rest k = (omega arith, index-due-fair outerIndex (index-fair deepest) q 0 (q + 3) rest (omega arith) k, operand-due-fair q 1 (q + 3) rest (omega arith) k)
+
+  cphase-fair : Fair FairStatement (ofFields Read.cphaseOf)
+  unfolding Fair FairStatement Read.cphaseOf
+  cphase-fair q rest k = (omega arith, index-due-fair outerIndex (index-fair deepest) q 0 (q + 3) rest (omega arith) k, operand-due-fair q 1 (q + 3) rest (omega arith) k, operand-due-fair q 2 (q + 3) rest (omega arith) k)
+
   for-fair : (part : Field → Statement) → FairPart FairStatement part → Fair FairStatement (ofFields (Read.forOf part))
   unfolding Fair FairStatement Read.forOf
   for-fair part h q rest k =
@@ -227,7 +237,7 @@ module _ (size : ℕ) where
   unfolding Read.statementBy AllRows Fair FairStatement FairPart
   statement-by-fair part h (badHeader p) k = omega arith
   statement-by-fair part h (field p tag content) k = choose-all (Fair FairStatement) tag _ _
-      (gate-fair gateH, (gate-fair gateT, (gate-fair gateTdg, (cx-fair, (call-fair, ((λ q rest j. (omega arith, rest-fair part h 0 (q + 3) rest j)), (for-fair part h, (long-call-fair, tt))))))))
+      (gate-fair gateH, (gate-fair gateT, (gate-fair gateTdg, (cx-fair, (call-fair, ((λ q rest j. (omega arith, rest-fair part h 0 (q + 3) rest j)), (for-fair part h, (long-call-fair, (phase-fair, (cphase-fair, tt))))))))))
       (λ q rest j. omega arith) p content k
 
   statement-fair : (levels : ℕ) → FairPart FairStatement (readStatement levels)

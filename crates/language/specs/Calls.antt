@@ -77,6 +77,12 @@ t i = field 33 (at i)
 abbrev pub cx : List ℕ → List ℕ → List ℕ
 cx i j = field 35 (at i ++ at j)
 
+abbrev pub phase : List ℕ → List ℕ → List ℕ
+phase k wire = field 40 (k ++ wire)
+
+abbrev pub cphase : List ℕ → List ℕ → List ℕ
+cphase k wires = field 41 (k ++ wires)
+
 abbrev pub reverse : List ℕ → List ℕ
 reverse body = field 37 body
 
@@ -112,12 +118,16 @@ size k = k % 256 ∷ k / 256 ∷ 0 ∷ 0 ∷ []
 abbrev pub lent : ℕ → List ℕ
 lent k = replicate k 7
 
+-- a record without a condition, all of whose numbers are below 256
+abbrev pub row : (op first second k : ℕ) → List ℕ
+row op first second k = op ∷ 0 ∷ first ∷ 0 ∷ second ∷ 0 ∷ 0 ∷ 0 ∷ k ∷ 0 ∷ 0 ∷ 0 ∷ []
+
 -- a record of an op on one wire, and of cx
 abbrev pub one : ℕ → ℕ → List ℕ
-one op w = op ∷ 0 ∷ w ∷ 0 ∷ 0 ∷ 0 ∷ 0 ∷ 0 ∷ []
+one op w = row op w 0 0
 
 abbrev pub two : ℕ → ℕ → ℕ → List ℕ
-two op w x = op ∷ 0 ∷ w ∷ 0 ∷ x ∷ 0 ∷ 0 ∷ 0 ∷ []
+two op w x = row op w x 0
 
 abbrev pub gives : Call → (number place records steps : ℕ) → List ℕ → Example
 gives call number place records steps output = record

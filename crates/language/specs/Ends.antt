@@ -1,15 +1,14 @@
 -- Where a run ends: at the first condition for an end that the machine meets, whatever the program, checked or not.
 use mathlib.Core.Path.{_≡_}
 use mathlib.Core.List.{List, [], _∷_, _++_}
-use mathlib.Core.Bool.{false, cond}
+use mathlib.Core.Bool.{false}
 use Prim.Native.Nat.{ℕ, suc, _*_, _≤_, _<_}
 use lib.IntN.{ℤ}
-use lib.Dec.{eqb}
 use lib.ListN.{length, getElem?}
-use Rattle.language.specs.Limits.{mostWires, recordSize}
-use Rattle.language.specs.Tree.{Place, Refusal, Ending, Gate, Operand, gate, cx, Top}
+use Rattle.language.specs.Limits.{mostWires, recordSize, mostHalvings}
+use Rattle.language.specs.Tree.{Place, Refusal, Ending, Gate, Index, Operand, gate, cx, phase, cphase, Top}
 use Rattle.language.specs.Form.{inRange}
-use Rattle.language.specs.Machine.{Wire, Action, doCx, Frame, Family, State, Outcome, going, ended, stuck, Run, after, _>>=_, _>>_, done, endAt, found, inside, wireOf, written, laidOut, begin}
+use Rattle.language.specs.Machine.{Wire, Action, doCx, doPhase, doCphase, Frame, Family, State, Outcome, going, ended, stuck, Run, after, _>>=_, _>>_, done, found, inside, halvings, fewHalvings, wireOf, apart, written, laidOut, begin}
 use Rattle.language.specs.Machine as M
 
 -- what happens in a run, by the place of its statement or type field
@@ -18,8 +17,10 @@ pub data Event : Type 0 where
   stepAt : Place → Event
   -- the value of an index node
   valueAt : Place → ℤ → Event
-  -- the wires of a cx
+  -- the wires of a cx or a cphase
   pairAt : Place → (control target : Wire) → Event
+  -- k of a phase or a cphase
+  halvingsAt : Place → (k : ℕ) → Event
   -- a record
   recordAt : Place → Frame → Action → Event
   -- so many wires laid out in all, up to this type field
@@ -32,6 +33,7 @@ unfoldable pub changed : Event → State → State
 changed (stepAt p) s = record { records = s .records; steps = suc (s .steps) }
 changed (valueAt p z) s = s
 changed (pairAt p x y) s = s
+changed (halvingsAt p k) s = s
 changed (recordAt p f a) s = record { records = s .records ++ (record { action = a; condition = f .condition } ∷ []); steps = s .steps }
 changed (layoutAt p n) s = s
 changed noMeaning s = s
@@ -43,7 +45,8 @@ module _ (limit room : ℕ) where
   unfoldable pub meet : Event → Run (Unit {0})
   meet (stepAt p) = M.step limit room p
   meet (valueAt p z) = inside p z >>= λ x. done
-  meet (pairAt p x y) = cond (eqb (x .number) (y .number)) (endAt 25 p) done
+  meet (pairAt p x y) = apart p x y
+  meet (halvingsAt p k) = fewHalvings p k
   meet (recordAt p f a) = M.write limit room p f a
   meet (layoutAt p n) = laidOut p n
   meet noMeaning = M.noMeaning
@@ -53,6 +56,7 @@ module _ (limit room : ℕ) where
     tooManyWires : {p : Place} {n : ℕ} → mostWires < n → Ends s (layoutAt p n) 23 p
     outOfRange : {p : Place} {z : ℤ} → inRange z ≡ false → Ends s (valueAt p z) 24 p
     oneWire : {p : Place} {x y : Wire} → x .number ≡ y .number → Ends s (pairAt p x y) 25 p
+    tooManyHalvings : {p : Place} {k : ℕ} → mostHalvings < k → Ends s (halvingsAt p k) 32 p
     limitUsedUp : {p : Place} → limit ≤ s .steps → Ends s (stepAt p) 26 p
     outputFull : {p : Place} {f : Frame} {a : Action} → room < recordSize * suc (length (s .records)) → Ends s (recordAt p f a) 27 p
 
@@ -100,7 +104,8 @@ module _ (limit room : ℕ) where
 abbrev pub HandedOn : Type 1
 HandedOn = (A B : Type 0) (n : Refusal) (p : Place) (s : State) (next : A → Run B) → after (ended n p s) next ≡ ended n p s
 
--- the order within a statement: its step, its operands' values, for cx its two wires, its record
+-- the order within a statement: its step, for a phase its k, its operands' values, its two wires if it has two, then for a phase whether its k is too large,
+-- its record
 abbrev pub GateLaw : Type 0
 GateLaw =
     (limit room : ℕ) (p : Place) (g : Gate) (o : Operand) (e : Ending) (fs : List Family) (f : Frame)
@@ -111,6 +116,20 @@ CxLaw =
     (limit room : ℕ) (p : Place) (c o : Operand) (e : Ending) (fs : List Family) (f : Frame)
     → M.runStatement limit room (cx p c o e) fs f
     ≡ (meet limit room (stepAt p) >> (wireOf p f c >>= λ x. (wireOf p f o >>= λ y. (meet limit room (pairAt p x y) >> meet limit room (recordAt p f (doCx x y))))))
+
+abbrev pub PhaseLaw : Type 0
+PhaseLaw =
+    (limit room : ℕ) (p : Place) (i : Index) (o : Operand) (e : Ending) (fs : List Family) (f : Frame)
+    → M.runStatement limit room (phase p i o e) fs f
+    ≡ (meet limit room (stepAt p) >> (halvings p (f .variables) i >>= λ k. (wireOf p f o >>= λ w.
+    (meet limit room (halvingsAt p k) >> meet limit room (recordAt p f (doPhase (f .direction) k w))))))
+
+abbrev pub CphaseLaw : Type 0
+CphaseLaw =
+    (limit room : ℕ) (p : Place) (i : Index) (c o : Operand) (e : Ending) (fs : List Family) (f : Frame)
+    → M.runStatement limit room (cphase p i c o e) fs f
+    ≡ (meet limit room (stepAt p) >> (halvings p (f .variables) i >>= λ k. (wireOf p f c >>= λ x. (wireOf p f o >>= λ y.
+    (meet limit room (pairAt p x y) >> (meet limit room (halvingsAt p k) >> meet limit room (recordAt p f (doCphase (f .direction) k x y))))))))
 
 -- ---- whole runs and instances
 

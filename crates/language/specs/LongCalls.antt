@@ -48,14 +48,14 @@ longCalls =
     ∷ turnedDown (longCall 256 []) 8 0
     -- the tag is a statement's at every level: 5 past the deepest, where the next tag is 3
     ∷ turnedDown (nested 16 reverse (longCall 0 [])) 5 48
-    ∷ turnedDown (nested 16 reverse (field 40 [])) 3 48
+    ∷ turnedDown (nested 16 reverse (field 42 [])) 3 48
     ∷ []
 
 -- the same over 257 families
 longCallsMade : List Example
 longCallsMade =
     -- the family 256 is entered, and not the family 0
-    gives (run (library ++ qreg 1 ++ longCall 256 q) 100 (lent 8)) 0 0 1 2 (one 1 0)
+    gives (run (library ++ qreg 1 ++ longCall 256 q) 100 (lent 12)) 0 0 1 2 (one 1 0)
     ∷ gives (run (library ++ qreg 1 ++ field 36 (0 ∷ q) ++ field 36 (255 ∷ q)) 100 (lent 8)) 0 0 0 2 (lent 8)
     ∷ turnedDown (library ++ qreg 1 ++ longCall 255 q) 31 2068
     ∷ turnedDown (library ++ qreg 1 ++ longCall 257 q) 8 2068
@@ -64,7 +64,7 @@ longCallsMade =
     ∷ turnedDown (library ++ qreg 1 ++ longCall 256 (q ++ q)) 4 2068
     -- a family does not see itself
     ∷ turnedDown (gates 256 ++ gate (longCall 256 (field 48 (0 ∷ [])))) 8 2056
-    ∷ gives (instance library 256 [] 100 (lent 8)) 0 0 1 1 (one 1 0)
+    ∷ gives (instance library 256 [] 100 (lent 12)) 0 0 1 1 (one 1 0)
     ∷ gives (instance library 255 [] 100 (lent 8)) 0 0 0 0 (lent 8)
     ∷ gives (instance library 257 [] 100 (lent 8)) 20 0 0 0 (lent 8)
     ∷ []

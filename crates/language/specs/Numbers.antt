@@ -3,7 +3,7 @@ use mathlib.Core.Path.{_≡_, refl}
 use mathlib.Core.List.{List, [], _∷_, _++_}
 use mathlib.Core.Bool.{true}
 use lib.ListN.{replicate}
-use Rattle.language.specs.Calls.{instance, run, Example, allHold, computed, field, lit, var, _plus_, _times_, at, h, cx, reverse, for, qreg, family, n, L, size, lent, one, gives, accepted, turnedDown, call, creg, nested}
+use Rattle.language.specs.Calls.{instance, run, Example, allHold, computed, field, lit, var, _plus_, _times_, at, h, cx, phase, reverse, for, qreg, family, n, L, size, lent, row, one, gives, accepted, turnedDown, call, creg, nested}
 
 -- turned down for the input: by the check, before the machine
 forInput : List Example
@@ -61,13 +61,15 @@ forState =
     ∷ gives (instance (family (n plus n) []) 0 (size 40_000) 100 (lent 8)) 23 5 0 0 (lent 8)
     -- 24: 60,000 · n at n = 65,535, as a parameter's size and as a loop's end
     ∷ gives (instance (family (n times lit 60_000) []) 0 (size 65_535) 100 (lent 8)) 24 5 0 0 (lent 8)
-    ∷ gives (instance (family (n plus lit 1) (h (lit 0) ++ for (lit 0) (n times lit 60_000) [])) 0 (size 65_534) 100 (lent 9)) 24 32 1 2 (one 1 0 ++ lent 1)
+    ∷ gives (instance (family (n plus lit 1) (h (lit 0) ++ for (lit 0) (n times lit 60_000) [])) 0 (size 65_534) 100 (lent 13)) 24 32 1 2 (one 1 0 ++ lent 1)
     -- 25: both operands are one wire
-    ∷ gives (run (qreg 2 ++ h (lit 1) ++ cx (lit 1) (lit 1)) 100 (lent 9)) 25 17 1 2 (one 1 1 ++ lent 1)
+    ∷ gives (run (qreg 2 ++ h (lit 1) ++ cx (lit 1) (lit 1)) 100 (lent 13)) 25 17 1 2 (one 1 1 ++ lent 1)
     -- 26: the third step
-    ∷ gives (run (qreg 1 ++ h (lit 0) ++ h (lit 0) ++ h (lit 0)) 2 (lent 24)) 26 29 2 2 (one 1 0 ++ one 1 0 ++ lent 8)
-    -- 27: seven bytes left
-    ∷ gives (run (qreg 1 ++ h (lit 0) ++ h (lit 0)) 100 (lent 15)) 27 17 1 2 (one 1 0 ++ lent 7)
+    ∷ gives (run (qreg 1 ++ h (lit 0) ++ h (lit 0) ++ h (lit 0)) 2 (lent 32)) 26 29 2 2 (one 1 0 ++ one 1 0 ++ lent 8)
+    -- 27: eleven bytes left
+    ∷ gives (run (qreg 1 ++ h (lit 0) ++ h (lit 0)) 100 (lent 23)) 27 17 1 2 (one 1 0 ++ lent 11)
+    -- 32: k = 64, which 63 is not
+    ∷ gives (run (qreg 1 ++ phase (lit 63) (at (lit 0)) ++ phase (lit 64) (at (lit 0))) 100 (lent 24)) 32 22 1 2 (row 7 0 0 63 ++ lent 12)
     ∷ []
 
 for-input-hold : allHold forInput ≡ true

@@ -7,10 +7,10 @@ use mathlib.Core.Option.{Option, none, some}
 use Prim.Native.Nat.{ℕ, suc, _+_, _*_, _≤_, _<_}
 use lib.IntN.{ℤ, pos}
 use lib.ListN.{length, drop, getD}
-use Rattle.language.specs.Limits.{recordSize, mostWires, mostBits}
+use Rattle.language.specs.Limits.{recordSize, mostWires, mostBits, mostHalvings}
 use Rattle.language.specs.Tree.{number, missing, Top, family, qreg, creg, measure, reset, if, statement, badTop}
 use Rattle.language.specs.Read.{twoBytes, read}
-use Rattle.language.specs.Machine.{Meaning, aWire, aBit, wires, bits, Condition, always, whenBit, Action, doH, doT, doTdg, doReset, doCx, doMeasure, Record}
+use Rattle.language.specs.Machine.{Meaning, aWire, aBit, wires, bits, Condition, always, whenBit, Action, doH, doT, doTdg, doReset, doCx, doMeasure, doPhase, doCphase, Record}
 use Rattle.language.specs.Machine.{Outcome, going, ended, stuck, begin, layout}
 use Rattle.language.specs.Lookup.{Declaration, familyIn}
 use Rattle.language.specs.Result.{Answer, Conclusion, finished, writtenInto, fourBytes, allSizesFit}
@@ -77,14 +77,20 @@ wiresLaidOut program n sizes = wiresOf (familyIn (read program) n) (map pos (fou
 
 -- ---- what records name
 
--- wires and bits below those laid out
+-- a second wire, below those laid out, and not the first
+abbrev pub OtherWire : (wireCount first second : ℕ) → Type 0
+OtherWire wireCount first second = (second < wireCount) × (first ≡ second → ⊥)
+
+-- wires and bits below those laid out, no wire twice, and a k that is not too large
 abbrev pub Names : (wireCount bitCount : ℕ) → Action → Type 0
 Names wireCount bitCount (doH w) = w .number < wireCount
 Names wireCount bitCount (doT w) = w .number < wireCount
 Names wireCount bitCount (doTdg w) = w .number < wireCount
 Names wireCount bitCount (doReset w) = w .number < wireCount
-Names wireCount bitCount (doCx x y) = (x .number < wireCount) × (y .number < wireCount)
+Names wireCount bitCount (doCx x y) = (x .number < wireCount) × OtherWire wireCount (x .number) (y .number)
 Names wireCount bitCount (doMeasure w b) = (w .number < wireCount) × (b .number < bitCount)
+Names wireCount bitCount (doPhase d k w) = (k ≤ mostHalvings) × (w .number < wireCount)
+Names wireCount bitCount (doCphase d k x y) = (k ≤ mostHalvings) × (x .number < wireCount) × OtherWire wireCount (x .number) (y .number)
 
 -- a bit below those laid out, and a value that it can have
 abbrev pub NamesBit : (bitCount : ℕ) → Condition → Type 0
@@ -97,19 +103,28 @@ AllName wireCount bitCount (r ∷ rs) = Names wireCount bitCount (r .action) × 
 
 -- the same of the record whose bytes begin at an offset of the output
 pub record NamedAt (wireCount bitCount : ℕ) (output : List ℕ) (offset : ℕ) : Type 0 where
-  pub op : (1 ≤ getD output offset 0) × (getD output offset 0 ≤ 6)
+  pub op : (1 ≤ getD output offset 0) × (getD output offset 0 ≤ 10)
   pub value : getD output (offset + 1) 0 ≤ 2
   pub first : twoBytes (getD output (offset + 2) 0) (getD output (offset + 3) 0) < wireCount
-  pub target : getD output offset 0 ≡ 4 → twoBytes (getD output (offset + 4) 0) (getD output (offset + 5) 0) < wireCount
+  pub target : getD output offset 0 ≡ 4 → OtherWire wireCount (twoBytes (getD output (offset + 2) 0) (getD output (offset + 3) 0)) (twoBytes (getD output (offset + 4) 0) (getD output (offset + 5) 0))
   pub measured : getD output offset 0 ≡ 5 → twoBytes (getD output (offset + 4) 0) (getD output (offset + 5) 0) < bitCount
+  pub controlled : 9 ≤ getD output offset 0 → OtherWire wireCount (twoBytes (getD output (offset + 2) 0) (getD output (offset + 3) 0)) (twoBytes (getD output (offset + 4) 0) (getD output (offset + 5) 0))
   pub condition : 1 ≤ getD output (offset + 1) 0 → twoBytes (getD output (offset + 6) 0) (getD output (offset + 7) 0) < bitCount
+  -- k, which the ops up to 6 have not, and two zero bytes
+  pub halvings : twoBytes (getD output (offset + 8) 0) (getD output (offset + 9) 0) ≤ mostHalvings
+  pub plain : getD output offset 0 ≤ 6 → twoBytes (getD output (offset + 8) 0) (getD output (offset + 9) 0) ≡ 0
+  pub zeros : (getD output (offset + 10) 0 ≡ 0) × (getD output (offset + 11) 0 ≡ 0)
 
 -- ---- the answer
+
+-- the numbers that a run may end with: from `least` to 27, and 32
+abbrev pub EndsWith : (least n : ℕ) → Type 0
+EndsWith least n = ((least ≤ n) × (n ≤ 27)) ⊎ (n ≡ 32)
 
 -- the answer of a run that may end with the numbers from `least` on, under a step limit, into the output lent, with so many wires and bits laid out
 pub record Sound (least limit wireCount bitCount : ℕ) (lent : List ℕ) (a : Answer) : Type 0 where
   -- done, or one of the ends
-  pub number : (a .result .number ≡ 0) ⊎ ((least ≤ a .result .number) × (a .result .number ≤ 27))
+  pub number : (a .result .number ≡ 0) ⊎ EndsWith least (a .result .number)
   -- done has place 0
   pub place : a .result .number ≡ 0 → a .result .place ≡ 0
   pub steps : a .result .steps ≤ limit

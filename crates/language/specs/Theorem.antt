@@ -11,7 +11,7 @@ use Rattle.language.specs.Read.{read}
 use Rattle.language.specs.Machine.{State, Outcome, going, ended, _>>=_, found, begin, allDeclared, runProgram, instanceRun}
 use Rattle.language.specs.Result.{Answer, Conclusion, finished, writtenInto, untouched, checkResult, runOutcome, fourBytes, allSizesFit, instanceOutcome}
 use Rattle.language.specs.Lookup.{Declaration, familyIn}
-use Rattle.language.specs.Sound.{qubitsDeclared, bitsDeclared, wiresOf, wiresLaidOut, AllName, Sound, Suits}
+use Rattle.language.specs.Sound.{qubitsDeclared, bitsDeclared, wiresOf, wiresLaidOut, AllName, EndsWith, Sound, Suits}
 use Rattle.language.specs.Sizes.{bytesOfSizes, AllAtMost}
 
 -- A call comes to `called`, where the machine, under a step limit and with the output lent, comes out as `o`. So many wires and bits are laid out, and
@@ -24,9 +24,9 @@ pub record Reports {A : Type 0} (least limit wireCount bitCount : ℕ) (lent : L
   pub last : State
   -- The number 0, with place 0, says that the machine came to the end of the body or of the program: the list is complete.
   pub complete : answer .result .number ≡ 0 → (answer .result .place ≡ 0) × ((value : A) × (o ≡ going value last))
-  -- Any other number, with its place, is the machine's own end, one from `least` to 27. Ends says what they come of.
+  -- Any other number, with its place, is the machine's own end, one from `least` to 27, or 32. Ends says what they come of.
   pub cut : 1 ≤ answer .result .number
-      → (o ≡ ended (answer .result .number) (answer .result .place) last) × (least ≤ answer .result .number) × (answer .result .number ≤ 27)
+      → (o ≡ ended (answer .result .number) (answer .result .place) last) × EndsWith least (answer .result .number)
   -- The records and the steps are the machine's: so many are counted, and these records and no others are written, at the output's front.
   pub records : answer .result .records ≡ length (last .records)
   pub steps : answer .result .steps ≡ last .steps
@@ -34,14 +34,14 @@ pub record Reports {A : Type 0} (least limit wireCount bitCount : ℕ) (lent : L
   -- no more steps than the limit, and no more records than the output has room for
   pub within : last .steps ≤ limit
   pub fits : recordSize * length (last .records) ≤ length lent
-  -- each record names only wires and bits that are laid out
+  -- each record names only wires and bits that are laid out, and no wire twice
   pub named : AllName wireCount bitCount (last .records)
   -- and the same read from the answer and the output's bytes alone
   pub sound : Sound least limit wireCount bitCount lent answer
 
 -- ---- whole runs
 
--- every whole run of an accepted program, under every step limit and into every output: the number is 0 or 24 to 27
+-- every whole run of an accepted program, under every step limit and into every output: the number is 0, 24 to 27 or 32
 abbrev pub RunTheorem : Type 0
 RunTheorem =
     (program : List ℕ) (limit : ℕ) (output : List ℕ) → checkResult program .number ≡ 0
@@ -64,7 +64,7 @@ pub record InstanceAnswers (program : List ℕ) (family : ℕ) (sizes : List ℕ
   -- a size that is too large
   pub tooLarge : (d : Declaration) → familyIn (read program) family ≡ some d → length sizes ≡ 4 * d .variables → allSizesFit (fourBytes sizes) ≡ false
       → instanceOutcome program family sizes limit output ≡ untouched output 22 0
-  -- any other: the number is 0 or 23 to 27
+  -- any other: the number is 0, 23 to 27 or 32
   pub suited : Suits program family sizes
       → Reports 23 limit (wiresLaidOut program family sizes) 0 output (instanceAt program family (fourBytes sizes) limit (length output))
       (instanceOutcome program family sizes limit output)

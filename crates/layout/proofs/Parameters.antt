@@ -2,7 +2,7 @@
 use Prim.Native.Nat.{ℕ, suc, _+_, _-_, _≤_, _<_}
 use mathlib.Core.Path.{_≡_, refl, sym, ap, _∙_}
 use mathlib.Core.List.{List, [], _∷_, _++_, map, map-append, append-assoc, append-nil}
-use mathlib.Core.Bool.{true, false}
+use mathlib.Core.Bool.{true}
 use native.Mathlib.Omega.{arith}
 use borrow.Author.Tests.{le-leb, lt-leb, ne-eqb}
 use types.Run.{OneOf}
@@ -18,7 +18,7 @@ use Rattle.language.specs.Form.{inRange}
 use Rattle.language.specs.Limits.{mostParameters, mostWires, furthest}
 use Rattle.language.specs.Tree.{Place, ParameterType}
 use Rattle.language.specs.Read.{field, fields, readType, typesOf, due, choose, readQbit, qbitsOf}
-use Rattle.language.specs.Machine.{Meaning, Run, Outcome, going, ended, stuck, give, endAt, noMeaning, laidOut, sizeOf, laidThen, layWire, layRegister, layout, after, _>>=_, _>>_}
+use Rattle.language.specs.Machine.{Meaning, Run, Outcome, going, ended, stuck, give, endAt, noMeaning, laidOut, naturalOf, laidThen, layWire, layRegister, layout, after, _>>=_, _>>_}
 use Rattle.operands.specs.Meanings.{parameterOf, ofParameter, clipped}
 use Rattle.operands.specs.declared.Wire.{Wire}
 use Rattle.operands.specs.declared.Operand.{Operand}
@@ -37,11 +37,6 @@ use Rattle.layout.specs.declared.Placed.the-variants.{Fits, Past, Over, 
 use Rattle.layout.specs.declared.Layout.{Layout}
 use Rattle.layout.specs.declared.Layout.the-variants as a
 use Rattle.layout.specs.Layout.{placed, WithinWires, WireFrom, RegisterFrom, TypeFrom, cameOut, laidWith, laid, LaysOut}
-
--- a value that is not below 0
-pub natural : (z : ℤ) → ltZ z (pos 0) ≡ false → z ≡ pos (natAbs z)
-natural (pos n) h = refl
-natural (negsuc n) h = absurd (omega integers)
 
 pub natural-small : (z : ℤ) → inRange z ≡ true → natAbs z ≤ furthest
 natural-small (pos n) h = omega (integers, range-true)
@@ -67,17 +62,17 @@ module _ (next : ℕ) where
   wire-fits w e h = record { same = λ p rest. rw e (laid-on p (next + 1) _ h); within = h }
 
   pub register-negative : (z : ℤ) → ltZ z (pos 0) ≡ true → RegisterFrom z next Stuck
-  unfolding placed layRegister WithinWires sizeOf _>>=_ after
+  unfolding placed layRegister WithinWires naturalOf _>>=_ after
   register-negative (pos n) h = absurd (omega integers)
   register-negative (negsuc n) h = record { same = λ p rest. refl; within = tt }
 
   module _ (z : ℤ) (n : ℕ) (natural : z ≡ pos n) where
     pub register-past : mostWires < next + n → RegisterFrom z next Past
-    unfolding placed layRegister WithinWires sizeOf _>>=_ after
+    unfolding placed layRegister WithinWires naturalOf _>>=_ after
     register-past h = record { same = λ p rest. rw natural (laid-past p (next + n) _ h); within = tt }
 
     pub register-fits : (w : Wire) → w .0 ≡ next → next + n ≤ mostWires → RegisterFrom z next (Fits (Register w n) (next + n))
-    unfolding placed layRegister WithinWires sizeOf _>>=_ after parameterOf
+    unfolding placed layRegister WithinWires naturalOf _>>=_ after parameterOf
     register-fits w e h =
         let whole : clipped next n ≡ n = omega arith in
         record { same = λ p rest. rw (natural, e, whole) (laid-on p (next + n) _ h); within = h }

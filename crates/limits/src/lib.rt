@@ -37,4 +37,7 @@ pub const DEEPEST: usize = 16;
 pub const FURTHEST: i64 = 2_000_000_000;
 
 // Bytes of a record.
-pub const RECORD_SIZE: usize = 8;
+pub const RECORD_SIZE: usize = 12;
+
+// A phase's k: its angle is one turn, halved k times.
+pub const MOST_HALVINGS: usize = 63;

@@ -6,6 +6,7 @@ mod input;
 ghost use Prim.Native.Nat.{_*_, _≤_};
 ghost use mathlib.Core.Path.{_≡_};
 ghost use lib.ListN.{length};
+ghost use Rattle.language.specs.Limits.{recordSize};
 ghost use Rattle.language.specs.Result.{finished};
 ghost use Rattle.metaqasm.specs.Answers.{answered};
 ghost use Rattle.list_words.specs.Words.{outcomeOf};
@@ -21,7 +22,7 @@ const LIMIT: u64 = 1000000;
 
 // Prints the lines of the records, a buffer of them at a time, and answers whether all were written.
 fn print_records(output: &[u8], records: usize) -> bool
-    requires { ⌜ 8 * records ≤ length (now output) ⌝ }
+    requires { ⌜ recordSize * records ≤ length (now output) ⌝ }
 {
     let mut space = io::buffer();
     let buffer: &mut [u8] = &mut space;
@@ -52,7 +53,7 @@ fn print_result(result: MetaqasmResult) -> bool {
 
 // Prints a listing. Where a write fails, nothing more is printed, and a message says so.
 fn print_listing(output: &[u8], result: MetaqasmResult)
-    requires { ⌜ 8 * result .records ≤ length (now output) ⌝ }
+    requires { ⌜ recordSize * result .records ≤ length (now output) ⌝ }
 {
     if !print_records(output, result.records as usize) {
         os::fail(b"list: writing standard output");
@@ -67,7 +68,7 @@ fn print_listing(output: &[u8], result: MetaqasmResult)
 fn answer(job: Job, sizes: &[u8], program: &[u8], output: &mut [u8]) -> MetaqasmResult
     requires { ⌜ JobHeld job (now sizes) ⌝ }
     ensures { λ r. ⌜ outcomeOf (jobMeant job (now (sizes .entry))) (now (program .entry)) (now (output .entry)) ≡ finished (record { result = answered r; output = now (output .exit) }) ⌝ }
-    ensures { λ r. ⌜ 8 * r .records ≤ length (now (output .exit)) ⌝ }
+    ensures { λ r. ⌜ recordSize * r .records ≤ length (now (output .exit)) ⌝ }
 {
     match job {
         Job::Whole => list_whole(program, LIMIT, output),

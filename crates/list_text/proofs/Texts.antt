@@ -11,6 +11,7 @@ use lib.Dec.{leb}
 use lib.ListN.{length, take, drop, length-append, length-take}
 use lib.Seq.{sets-eq, take-at}
 use Rattle.io.specs.Digits.{digits, Fewest}
+use Rattle.language.specs.Limits.{recordSize}
 use Rattle.text_bytes.specs.Decimal.{ascii, digit, decimal}
 use Rattle.text_bytes.specs.Buffers.{Room, Puts}
 use Rattle.text_bytes.proofs.DecimalLaws.{decimal-digit, decimal-next}
@@ -73,12 +74,12 @@ digits-fit k n h f = go (leb k 20) refl
         omega arith
 
 -- the line of one record more
-pub lines-more : (bytes : List ℕ) (first next : ℕ) → first ≤ next → linesText bytes first (next + 1 - first) ≡ linesText bytes first (next - first) ++ lineText (take 8 (drop (8 * next) bytes))
+pub lines-more : (bytes : List ℕ) (first next : ℕ) → first ≤ next → linesText bytes first (next + 1 - first) ≡ linesText bytes first (next - first) ++ lineText (take recordSize (drop (recordSize * next) bytes))
 unfolding linesText
 lines-more bytes first next h =
     let e : next + 1 - first ≡ suc (next - first) = omega arith in
-    let f : 8 * (first + (next - first)) ≡ 8 * next = omega arith in
-    ap (linesText bytes first) e ∙ ap (λ (k : ℕ). linesText bytes first (next - first) ++ lineText (take 8 (drop k bytes))) f
+    let f : recordSize * (first + (next - first)) ≡ recordSize * next = omega arith in
+    ap (linesText bytes first) e ∙ ap (λ (k : ℕ). linesText bytes first (next - first) ++ lineText (take recordSize (drop k bytes))) f
 
 -- the lines of some records and then those of the next ones are the lines of all of them
 pub lines-together : (bytes : List ℕ) (first some more : ℕ) → linesText bytes first some ++ linesText bytes (first + some) more ≡ linesText bytes first (some + more)
@@ -89,16 +90,17 @@ lines-together bytes first some zero =
 lines-together bytes first some (suc more) =
     let e : some + suc more ≡ suc (some + more) = omega arith in
     let f : first + some + more ≡ first + (some + more) = omega arith in
-    sym (append-assoc (linesText bytes first some) (linesText bytes (first + some) more) (lineText (take 8 (drop (8 * (first + some + more)) bytes))))
-    ∙ ap (λ (l : List ℕ). l ++ lineText (take 8 (drop (8 * (first + some + more)) bytes))) (lines-together bytes first some more)
-    ∙ ap (λ (k : ℕ). linesText bytes first (some + more) ++ lineText (take 8 (drop (8 * k) bytes))) f
+    sym (append-assoc (linesText bytes first some) (linesText bytes (first + some) more) (lineText (take recordSize (drop (recordSize * (first + some + more)) bytes))))
+    ∙ ap (λ (l : List ℕ). l ++ lineText (take recordSize (drop (recordSize * (first + some + more)) bytes))) (lines-together bytes first some more)
+    ∙ ap (λ (k : ℕ). linesText bytes first (some + more) ++ lineText (take recordSize (drop (recordSize * k) bytes))) f
     ∙ ap (linesText bytes first) (sym e)
 
 -- an operation that no record has
-pub gate-other : (op first second : ℕ) → (op ≡ 1 → ⊥) → (op ≡ 2 → ⊥) → (op ≡ 3 → ⊥) → (op ≡ 4 → ⊥) → (op ≡ 5 → ⊥) → (op ≡ 6 → ⊥)
-    → ascii "op" ++ numberText op ≡ gateText op first second
+pub gate-other : (op first second k : ℕ) → (op ≡ 1 → ⊥) → (op ≡ 2 → ⊥) → (op ≡ 3 → ⊥) → (op ≡ 4 → ⊥) → (op ≡ 5 → ⊥) → (op ≡ 6 → ⊥) → (op ≡ 7 → ⊥) → (op ≡ 8 → ⊥) → (op ≡ 9 → ⊥) → (op ≡ 10 → ⊥)
+    → ascii "op" ++ numberText op ≡ gateText op first second k
 unfolding gateText
-gate-other op first second a b c d e f = rw (ne-eqb op 1 a, ne-eqb op 2 b, ne-eqb op 3 c, ne-eqb op 4 d, ne-eqb op 5 e, ne-eqb op 6 f)
+gate-other op first second k a b c d e f g h i j =
+    rw (ne-eqb op 1 a, ne-eqb op 2 b, ne-eqb op 3 c, ne-eqb op 4 d, ne-eqb op 5 e, ne-eqb op 6 f, ne-eqb op 7 g, ne-eqb op 8 h, ne-eqb op 9 i, ne-eqb op 10 j)
 
 -- a condition that there is
 pub condition-is : (condition bit : ℕ) → (condition ≡ 0 → ⊥) → ascii "if" ++ numberText bit ++ numberText (condition - 1) ++ ascii " " ≡ conditionText condition bit

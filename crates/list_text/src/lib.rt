@@ -3,8 +3,10 @@ ghost use mathlib.Core.Path.{_≡_};
 ghost use mathlib.Core.List.{_++_};
 ghost use Prim.Native.Nat.{_+_, _*_, _-_, _<_, _≤_};
 ghost use lib.ListN.{length, take};
+ghost use Rattle.language.specs.Limits.{recordSize};
 ghost use Rattle.io.specs.Counts.{Counts};
 ghost use Rattle.list_text.specs.Lines.{numberText, gateText, conditionText, twoBytesAt, lineText, linesText, endText, Put};
+use limits::RECORD_SIZE;
 
 // The bytes of text that any line fits in.
 const LINE: usize = 128;
@@ -43,9 +45,9 @@ fn number(n: u64, text: &mut [u8], from: usize) -> usize
 
 // Puts a name and a number.
 fn named(name: &[u8], first: u64, text: &mut [u8], from: usize) -> usize
-    requires { ⌜ length (now name) ≤ 7 ⌝ }
-    requires { ⌜ from + 28 ≤ length (now text) ⌝ }
-    ensures { λ r. ⌜ Put (now (text .entry)) from (now (text .exit)) r (now (name .entry) ++ numberText first) 28 ⌝ }
+    requires { ⌜ length (now name) ≤ 8 ⌝ }
+    requires { ⌜ from + 29 ≤ length (now text) ⌝ }
+    ensures { λ r. ⌜ Put (now (text .entry)) from (now (text .exit)) r (now (name .entry) ++ numberText first) 29 ⌝ }
 {
     let at = put(name, text, from);
     number(first, text, at)
@@ -53,18 +55,28 @@ fn named(name: &[u8], first: u64, text: &mut [u8], from: usize) -> usize
 
 // Puts a name and two numbers.
 fn paired(name: &[u8], first: u64, second: u64, text: &mut [u8], from: usize) -> usize
-    requires { ⌜ length (now name) ≤ 7 ⌝ }
-    requires { ⌜ from + 49 ≤ length (now text) ⌝ }
-    ensures { λ r. ⌜ Put (now (text .entry)) from (now (text .exit)) r (now (name .entry) ++ numberText first ++ numberText second) 49 ⌝ }
+    requires { ⌜ length (now name) ≤ 8 ⌝ }
+    requires { ⌜ from + 50 ≤ length (now text) ⌝ }
+    ensures { λ r. ⌜ Put (now (text .entry)) from (now (text .exit)) r (now (name .entry) ++ numberText first ++ numberText second) 50 ⌝ }
 {
     let at = named(name, first, text, from);
     number(second, text, at)
 }
 
-// Puts an operation and the wires or bits that it is on.
-fn gate(op: u8, first: u64, second: u64, text: &mut [u8], from: usize) -> usize
-    requires { ⌜ from + 49 ≤ length (now text) ⌝ }
-    ensures { λ r. ⌜ Put (now (text .entry)) from (now (text .exit)) r (gateText op first second) 49 ⌝ }
+// Puts a name and three numbers.
+fn tripled(name: &[u8], first: u64, second: u64, third: u64, text: &mut [u8], from: usize) -> usize
+    requires { ⌜ length (now name) ≤ 8 ⌝ }
+    requires { ⌜ from + 71 ≤ length (now text) ⌝ }
+    ensures { λ r. ⌜ Put (now (text .entry)) from (now (text .exit)) r (now (name .entry) ++ numberText first ++ numberText second ++ numberText third) 71 ⌝ }
+{
+    let at = paired(name, first, second, text, from);
+    number(third, text, at)
+}
+
+// Puts an operation, a phase's k, and the wires or bits that it is on.
+fn gate(op: u8, first: u64, second: u64, k: u64, text: &mut [u8], from: usize) -> usize
+    requires { ⌜ from + 71 ≤ length (now text) ⌝ }
+    ensures { λ r. ⌜ Put (now (text .entry)) from (now (text .exit)) r (gateText op first second k) 71 ⌝ }
 {
     match op {
         1 => named(b"h", first, text, from),
@@ -73,14 +85,18 @@ fn gate(op: u8, first: u64, second: u64, text: &mut [u8], from: usize) -> usize
         4 => paired(b"cx", first, second, text, from),
         5 => paired(b"measure", first, second, text, from),
         6 => named(b"reset", first, text, from),
+        7 => paired(b"phase", k, first, text, from),
+        8 => paired(b"phasedg", k, first, text, from),
+        9 => tripled(b"cphase", k, first, second, text, from),
+        10 => tripled(b"cphasedg", k, first, second, text, from),
         _ => named(b"op", wide(op), text, from),
     }
 }
 
 // Puts the condition of a record: the bit and the value that it must have.
 fn condition(kind: u8, bit: u64, text: &mut [u8], from: usize) -> usize
-    requires { ⌜ from + 50 ≤ length (now text) ⌝ }
-    ensures { λ r. ⌜ Put (now (text .entry)) from (now (text .exit)) r (conditionText kind bit) 50 ⌝ }
+    requires { ⌜ from + 51 ≤ length (now text) ⌝ }
+    ensures { λ r. ⌜ Put (now (text .entry)) from (now (text .exit)) r (conditionText kind bit) 51 ⌝ }
 {
     if kind == 0 {
         return from;
@@ -99,18 +115,20 @@ fn two_bytes(bytes: &[u8], at: usize) -> u64
 
 // Puts the line of a record.
 fn line(bytes: &[u8], text: &mut [u8], from: usize) -> usize
-    requires { ⌜ 8 ≤ length (now bytes) ⌝ }
+    requires { ⌜ recordSize ≤ length (now bytes) ⌝ }
     requires { ⌜ from + 128 ≤ length (now text) ⌝ }
     ensures { λ r. ⌜ Put (now (text .entry)) from (now (text .exit)) r (lineText (now (bytes .entry))) 128 ⌝ }
 {
     let at = condition(bytes[1], two_bytes(bytes, 6), text, from);
-    let end = gate(bytes[0], two_bytes(bytes, 2), two_bytes(bytes, 4), text, at);
+    let first = two_bytes(bytes, 2);
+    let second = two_bytes(bytes, 4);
+    let end = gate(bytes[0], first, second, two_bytes(bytes, 8), text, at);
     put(b"\n", text, end)
 }
 
 // Puts the lines of the records from `first` on, as many of `total` as there is room for.
 pub fn lines(records: &[u8], first: usize, total: usize, text: &mut [u8]) -> Chunk
-    requires { ⌜ 8 * total ≤ length (now records) ⌝ }
+    requires { ⌜ recordSize * total ≤ length (now records) ⌝ }
     requires { ⌜ first < total ⌝ }
     requires { ⌜ 128 ≤ length (now text) ⌝ }
     ensures text { λ r. ⌜ take (r .size) (now (text .exit)) ≡ linesText (now (records .entry)) first (r .next - first) ⌝ }
@@ -121,8 +139,8 @@ pub fn lines(records: &[u8], first: usize, total: usize, text: &mut [u8]) -> Chu
     let mut next = first;
     let mut size: usize = 0;
     while next < total && text.len() - size >= LINE {
-        let from = 8 * next;
-        let to = from + 8;
+        let from = RECORD_SIZE * next;
+        let to = from + RECORD_SIZE;
         size = line(&records[from..to], text, size);
         next += 1;
     }

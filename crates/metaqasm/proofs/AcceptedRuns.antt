@@ -6,7 +6,7 @@ use mathlib.Core.List.{List, []}
 use borrow.Author.Tests.{leb-true}
 use lib.Dec.{leb}
 use lib.ListN.{length, getElem?}
-use Rattle.language.specs.Limits.{longestProgram}
+use Rattle.language.specs.Limits.{longestProgram, recordSize}
 use Rattle.language.specs.Read.{read}
 use Rattle.language.specs.Check.{Checked, Declared, good, refused, require, check}
 use Rattle.language.specs.Machine.{allDeclared, runProgram}
@@ -61,7 +61,7 @@ sound-of least limit q b lent a c g f =
     subst (λ (x : Reply). Sound least limit q b lent x) i (f .sound)
 
 -- what it says of the records and the steps
-kept-within : (least limit q b : ℕ) (lent : List ℕ) (a : Reply) → Sound least limit q b lent a → (8 * a .result .records ≤ length (a .output)) × (a .result .steps ≤ limit)
+kept-within : (least limit q b : ℕ) (lent : List ℕ) (a : Reply) → Sound least limit q b lent a → (recordSize * a .result .records ≤ length (a .output)) × (a .result .steps ≤ limit)
 kept-within least limit q b lent a s = (omega (arith, s .fits, s .size), s .steps)
 
 -- ---- whole runs
@@ -75,7 +75,7 @@ module _ (l : List ℕ) (limit : ℕ) (lent : List ℕ) (e : checkResult l .numb
   run-told out r h = told-by 24 limit _ _ lent out r _ (run-sound l limit lent e) (h ∙ run-is)
 
   pub run-answers : (out : List ℕ) (r : Answer) (x : Result) → concluded out r ≡ conclusionOf lent (runProgram limit (length lent) (read l)) → concluded out r ≡ finished (record { result = x; output = out })
-      → (runOutcome l limit lent ≡ finished (record { result = x; output = out })) × SoundRun l limit lent (record { result = x; output = out }) × (8 * x .records ≤ length out)
+      → (runOutcome l limit lent ≡ finished (record { result = x; output = out })) × SoundRun l limit lent (record { result = x; output = out }) × (recordSize * x .records ≤ length out)
       × (x .steps ≤ limit)
   run-answers out r x h k =
       let g = sym run-is ∙ sym h ∙ k in
@@ -100,7 +100,7 @@ module _ (l : List ℕ) (k : ℕ) (sizes : List ℕ) (limit : ℕ) (lent : List 
   pub instance-answers : (out : List ℕ) (r : Answer) (x : Result) → concluded out r ≡ instanceOf (getElem? (allDeclared limit (length lent) (read l) []) k) sizes lent
       → concluded out r ≡ finished (record { result = x; output = out })
       → (instanceOutcome l k sizes limit lent ≡ finished (record { result = x; output = out })) × SoundInstance l k sizes limit lent (record { result = x; output = out })
-      × (8 * x .records ≤ length out) × (x .steps ≤ limit)
+      × (recordSize * x .records ≤ length out) × (x .steps ≤ limit)
   instance-answers out r x h j =
       let g = sym instance-is ∙ sym h ∙ j in
       let laid = wiresLaidOut l k sizes in

@@ -8,6 +8,7 @@ use mathlib.Core.Option.{Option, none, some}
 use borrow.Author.Tests.{le-leb, lt-leb, leb-true, eqb-true, eqb-false}
 use lib.Dec.{leb, eqb}
 use lib.ListN.{length}
+use Rattle.language.specs.Limits.{recordSize}
 use Rattle.language.specs.Read.{read}
 use Rattle.language.specs.Result.{Answer as Reply, finished, turnedDown, untouched, checkResult, runOutcome, instanceOutcome, fourBytes, allSizesFit}
 use Rattle.language.specs.Theorem.{InstanceAnswers}
@@ -86,11 +87,11 @@ sound-of {least} {limit} {q} {b} {came} {lent} {buffer} {c} {x} g f =
 
 -- what holds of the answer to a call that prints, whatever the program
 pub record Within (limit : ℕ) (b : TextAnswer) : Type 0 where
-  pub records : 8 * b .result .records ≤ length (b .output)
+  pub records : recordSize * b .result .records ≤ length (b .output)
   pub steps : b .result .steps ≤ limit
   pub fits : b .result .length ≤ length (b .text)
 
-within : (limit : ℕ) (a : Reply) (b : TextAnswer) → Kept a b → 8 * a .result .records ≤ length (a .output) → a .result .steps ≤ limit → Within limit b
+within : (limit : ℕ) (a : Reply) (b : TextAnswer) → Kept a b → recordSize * a .result .records ≤ length (a .output) → a .result .steps ≤ limit → Within limit b
 within limit a b k r s = record { records = omega (arith, k .records, ap length (k .output)); steps = omega (arith, k .steps); fits = k .fits }
 
 -- ---- whole runs
@@ -106,7 +107,7 @@ module _ (l : List ℕ) (limit : ℕ) (lent : List ℕ) (a : Reply) (e : runOutc
 
   pub run-text-promised : (buffer : List ℕ) (b : TextAnswer)
       → textFinished b ≡ byNumber (a .result .number) buffer (some (textOf (qubitsDeclared l) (bitsDeclared l) (recordsIn (a .result .records) (a .output)))) a
-      → 8 * a .result .records ≤ length (a .output) → a .result .steps ≤ limit
+      → recordSize * a .result .records ≤ length (a .output) → a .result .steps ≤ limit
       → (runTextOutcome l limit lent buffer ≡ textFinished b) × SoundRunText l limit lent buffer b × Within limit b
   run-text-promised buffer b f r s =
       let g = run-text-by l limit lent buffer a e ∙ sym f in
@@ -144,7 +145,7 @@ module _ (l : List ℕ) (k : ℕ) (sizes : List ℕ) (limit : ℕ) (lent : List 
 
   pub instance-text-promised : (buffer : List ℕ) (b : TextAnswer)
       → textFinished b ≡ byNumber (a .result .number) buffer (some (textOf (wiresLaidOut l k sizes) 0 (recordsIn (a .result .records) (a .output)))) a
-      → 8 * a .result .records ≤ length (a .output) → a .result .steps ≤ limit
+      → recordSize * a .result .records ≤ length (a .output) → a .result .steps ≤ limit
       → (instanceTextOutcome l k sizes limit lent buffer ≡ textFinished b) × SoundInstanceText l k sizes limit lent buffer b × Within limit b
   instance-text-promised buffer b f r s =
       let g = instance-text-by l k sizes limit lent buffer a e ∙ sym f in

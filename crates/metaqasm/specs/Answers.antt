@@ -18,7 +18,7 @@ NotStuck (Going s) = Unit {0}
 NotStuck (Ended n p s) = Unit {0}
 NotStuck Stuck = ⊥
 
--- Where the check gives 0, the answer of a run is sound: its number is 0 or 24 to 27, it keeps to the limit and the output, and its records name only what is declared.
+-- Where the check gives 0, the answer of a run is sound: its number is 0, 24 to 27 or 32, it keeps to the limit and the output, and its records name only what is declared.
 abbrev pub SoundRun : (program : List ℕ) (limit : ℕ) (lent : List ℕ) → Reply → Type 0
 SoundRun program limit lent a = checkResult program .number ≡ 0 → Sound 24 limit (qubitsDeclared program) (bitsDeclared program) lent a
 

@@ -7,11 +7,12 @@ ghost use Rattle.language.specs.Result.{finished, checkResult, instanceOutcome,
 ghost use Rattle.runs.specs.Conclusions.{concluded, resultIn};
 ghost use Rattle.language.specs.Limits.{recordSize, mostWires, mostBits};
 ghost use Rattle.qasm_text.specs.Text.{textOf};
-ghost use Rattle.qasm_text.specs.RecordsIn.{recordsIn};
+ghost use Rattle.qasm_text.specs.RecordsIn.{recordsIn, FewHalvings};
 ghost use Rattle.qasm_text.specs.TextResult.{textFinished, withoutText, printed, runTextOutcome, instanceTextOutcome};
 ghost use Rattle.metaqasm.specs.Answers.{answered, NotStuck, SoundRun, SoundInstance};
 ghost use Rattle.metaqasm.specs.TextAnswers.{textAnswered, SoundRunText, SoundInstanceText};
 use check_program::Outcome;
+use limits::RECORD_SIZE;
 use qasm_length::TextLength;
 use records::Answer;
 use records::State;
@@ -55,7 +56,7 @@ fn result(number: u32, place: u32, s: State) -> MetaqasmResult
     MetaqasmResult {
         number,
         place,
-        records: (s.written / 8) as u64,
+        records: (s.written / RECORD_SIZE) as u64,
         steps: s.steps,
     }
 }
@@ -95,7 +96,7 @@ pub extern "C" fn metaqasm_check(program: &[u8]) -> MetaqasmResult
 pub extern "C" fn metaqasm_run(program: &[u8], limit: u64, output: &mut [u8]) -> MetaqasmResult
     ensures { λ r. ⌜ runOutcome (now (program .entry)) limit (now (output .entry)) ≡ finished (record { result = answered r; output = now (output .exit) }) ⌝ }
     ensures { λ r. ⌜ SoundRun (now (program .entry)) limit (now (output .entry)) (record { result = answered r; output = now (output .exit) }) ⌝ }
-    ensures { λ r. ⌜ 8 * r .records ≤ length (now (output .exit)) ⌝ }
+    ensures { λ r. ⌜ recordSize * r .records ≤ length (now (output .exit)) ⌝ }
     ensures { λ r. ⌜ r .steps ≤ limit ⌝ }
 {
     let first = checked(program);
@@ -122,7 +123,7 @@ pub extern "C" fn metaqasm_instance(
 ) -> MetaqasmResult
     ensures { λ r. ⌜ instanceOutcome (now (program .entry)) family (now (sizes .entry)) limit (now (output .entry)) ≡ finished (record { result = answered r; output = now (output .exit) }) ⌝ }
     ensures { λ r. ⌜ SoundInstance (now (program .entry)) family (now (sizes .entry)) limit (now (output .entry)) (record { result = answered r; output = now (output .exit) }) ⌝ }
-    ensures { λ r. ⌜ 8 * r .records ≤ length (now (output .exit)) ⌝ }
+    ensures { λ r. ⌜ recordSize * r .records ≤ length (now (output .exit)) ⌝ }
     ensures { λ r. ⌜ r .steps ≤ limit ⌝ }
 {
     let first = checked(program);
@@ -164,6 +165,7 @@ fn printed(
     text: &mut [u8],
 ) -> MetaqasmTextResult
     requires { ⌜ recordSize * run .records ≤ length (now output) ⌝ }
+    requires { ⌜ FewHalvings (run .records) (now output) ⌝ }
     requires { ⌜ (wires ≤ mostWires) × (bits ≤ mostBits) ⌝ }
     ensures { λ r. ⌜ record { result = textAnswered r; output = now (output .entry); text = now (text .exit) } ≡ printed (now (text .entry)) (textOf wires bits (recordsIn (run .records) (now (output .entry)))) (record { result = answered run; output = now (output .entry) }) ⌝ }
 {
@@ -192,7 +194,7 @@ pub extern "C" fn metaqasm_run_text(
 ) -> MetaqasmTextResult
     ensures { λ r. ⌜ runTextOutcome (now (program .entry)) limit (now (output .entry)) (now (text .entry)) ≡ textFinished (record { result = textAnswered r; output = now (output .exit); text = now (text .exit) }) ⌝ }
     ensures { λ r. ⌜ SoundRunText (now (program .entry)) limit (now (output .entry)) (now (text .entry)) (record { result = textAnswered r; output = now (output .exit); text = now (text .exit) }) ⌝ }
-    ensures { λ r. ⌜ 8 * r .records ≤ length (now (output .exit)) ⌝ }
+    ensures { λ r. ⌜ recordSize * r .records ≤ length (now (output .exit)) ⌝ }
     ensures { λ r. ⌜ r .steps ≤ limit ⌝ }
     ensures { λ r. ⌜ r .length ≤ length (now (text .exit)) ⌝ }
 {
@@ -216,7 +218,7 @@ pub extern "C" fn metaqasm_instance_text(
 ) -> MetaqasmTextResult
     ensures { λ r. ⌜ instanceTextOutcome (now (program .entry)) family (now (sizes .entry)) limit (now (output .entry)) (now (text .entry)) ≡ textFinished (record { result = textAnswered r; output = now (output .exit); text = now (text .exit) }) ⌝ }
     ensures { λ r. ⌜ SoundInstanceText (now (program .entry)) family (now (sizes .entry)) limit (now (output .entry)) (now (text .entry)) (record { result = textAnswered r; output = now (output .exit); text = now (text .exit) }) ⌝ }
-    ensures { λ r. ⌜ 8 * r .records ≤ length (now (output .exit)) ⌝ }
+    ensures { λ r. ⌜ recordSize * r .records ≤ length (now (output .exit)) ⌝ }
     ensures { λ r. ⌜ r .steps ≤ limit ⌝ }
     ensures { λ r. ⌜ r .length ≤ length (now (text .exit)) ⌝ }
 {

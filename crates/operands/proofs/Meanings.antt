@@ -164,6 +164,11 @@ pub natural-fits : (z : ℤ) → inRange z ≡ true → ltZ z (pos 0) ≡ false 
 natural-fits (pos i) r h = (tt, record { fits = omega (integers, range-true) })
 natural-fits (negsuc i) r h = absurd (omega integers)
 
+-- a value that is not below 0
+pub natural-is : (z : ℤ) → ltZ z (pos 0) ≡ false → z ≡ pos (natAbs z)
+natural-is (pos n) h = refl
+natural-is (negsuc n) h = absurd (omega integers)
+
 pub indexed-natural : (f size : ℕ) (z : ℤ) (i : ℕ) → ltZ z (pos 0) ≡ false → i ≡ natAbs z → locationIn f size i ≡ locationOf f size z
 unfolding locationOf
 indexed-natural f size (pos n) i h e = ap (locationIn f size) e

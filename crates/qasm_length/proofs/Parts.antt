@@ -7,10 +7,11 @@ use Rattle.qasm_text.specs.Text.{actionLength, conditionLength, qregLength, cre
 use Rattle.qasm_text.specs.RecordsIn.{actionOf, conditionOf}
 use Rattle.qasm_text.proofs.RecordsBack.{action-other, condition-some}
 
--- an operation that is none of the first five
-pub other-action : (op first second : ℕ) → (op ≡ 1 → ⊥) → (op ≡ 2 → ⊥) → (op ≡ 3 → ⊥) → (op ≡ 4 → ⊥) → (op ≡ 5 → ⊥) → actionLength (actionOf op first second) ≡ 9 + width first
+-- an operation that is none of those with a name of their own
+pub other-action : (op first second k : ℕ) → (op ≡ 1 → ⊥) → (op ≡ 2 → ⊥) → (op ≡ 3 → ⊥) → (op ≡ 4 → ⊥) → (op ≡ 5 → ⊥) → (op ≡ 7 → ⊥) → (op ≡ 8 → ⊥) → (op ≡ 9 → ⊥) → (op ≡ 10 → ⊥)
+    → actionLength (actionOf op first second k) ≡ 9 + width first
 unfolding actionLength
-other-action op first second a b c d e = ap actionLength (action-other op first second a b c d e)
+other-action op first second k a b c d e f g h i = ap actionLength (action-other op first second k a b c d e f g h i)
 
 -- a condition that there is
 pub some-condition : (kind bit : ℕ) → (kind ≡ 0 → ⊥) → conditionLength (conditionOf kind bit) ≡ 8 + width bit + width (kind - 1)

@@ -11,10 +11,11 @@ use Rattle.qasm_text.specs.Text.{actionLength, conditionLength, lineLength, lin
 use Rattle.qasm_text.proofs.RecordsBack.{record-read, sum-next}
 
 -- the length of a record's line, from what code reads of it
-pub line-read : (output : List ℕ) (at first second bit : ℕ) → first ≡ numberAt output (at + 2) → second ≡ numberAt output (at + 4) → bit ≡ numberAt output (at + 6)
-    → conditionLength (conditionOf (getD output (at + 1) 0) bit) + actionLength (actionOf (getD output at 0) first second) + 2 ≡ lineLength (recordAt output at)
+pub line-read : (output : List ℕ) (at first second bit k : ℕ)
+    → first ≡ numberAt output (at + 2) → second ≡ numberAt output (at + 4) → bit ≡ numberAt output (at + 6) → k ≡ numberAt output (at + 8)
+    → conditionLength (conditionOf (getD output (at + 1) 0) bit) + actionLength (actionOf (getD output at 0) first second k) + 2 ≡ lineLength (recordAt output at)
 unfolding lineLength
-line-read output at first second bit f s b = ap lineLength (record-read output at first second bit f s b)
+line-read output at first second bit k f s b h = ap lineLength (record-read output at first second bit k f s b h)
 
 -- the line of one record more
 pub lines-more : (output : List ℕ) (i : ℕ) → linesLength (recordsIn (i + 1) output) ≡ linesLength (recordsIn i output) + lineLength (recordAt output (recordSize * i))

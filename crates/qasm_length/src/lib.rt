@@ -1,11 +1,11 @@
 // The length of a list's text, measured without writing it.
 ghost use mathlib.Core.Path.{_≡_};
-ghost use Prim.Native.Nat.{_+_, _*_, _≤_};
+ghost use Prim.Native.Nat.{_+_, _*_, _^_, _≤_};
 ghost use lib.ListN.{length};
-ghost use Rattle.language.specs.Limits.{recordSize};
+ghost use Rattle.language.specs.Limits.{recordSize, mostHalvings};
 ghost use Rattle.text_bytes.specs.Decimal.{width};
 ghost use Rattle.qasm_text.specs.Text.{actionLength, conditionLength, lineLength, linesLength, qregLength, cregsLength, textLength};
-ghost use Rattle.qasm_text.specs.RecordsIn.{actionOf, conditionOf, numberAt, recordAt, recordsIn};
+ghost use Rattle.qasm_text.specs.RecordsIn.{actionOf, conditionOf, numberAt, recordAt, recordsIn, FewHalvings};
 ghost use Rattle.qasm_length.specs.Lengths.{Measured, Measures};
 use limits::RECORD_SIZE;
 
@@ -37,6 +37,14 @@ fn digits_of(n: u16) -> usize
     5
 }
 
+// How many digits 2 to the k has in decimal: the decimal logarithm of 2 is nearly 0.30103.
+pub fn power_digits(k: u16) -> usize
+    requires { ⌜ k ≤ mostHalvings ⌝ }
+    ensures { λ r. ⌜ Measured (width (2 ^ k)) 19 r ⌝ }
+{
+    k as usize * 30103 / 100000 + 1
+}
+
 // The two-byte number at a position of the output.
 pub fn number_at(output: &[u8], at: usize) -> u16
     requires { ⌜ at + 2 ≤ length (now output) ⌝ }
@@ -46,8 +54,9 @@ pub fn number_at(output: &[u8], at: usize) -> u16
 }
 
 // The length of an operation with its numbers.
-fn action_length(op: u8, first: u16, second: u16) -> usize
-    ensures { λ r. ⌜ Measured (actionLength (actionOf op first second)) 29 r ⌝ }
+fn action_length(op: u8, first: u16, second: u16, k: u16) -> usize
+    requires { ⌜ k ≤ mostHalvings ⌝ }
+    ensures { λ r. ⌜ Measured (actionLength (actionOf op first second k)) 48 r ⌝ }
 {
     let one = digits_of(first);
     match op {
@@ -56,6 +65,10 @@ fn action_length(op: u8, first: u16, second: u16) -> usize
         3 => 7 + one,
         4 => 10 + one + digits_of(second),
         5 => 19 + one + digits_of(second),
+        7 => 13 + one + power_digits(k),
+        8 => 14 + one + power_digits(k),
+        9 => 18 + one + digits_of(second) + power_digits(k),
+        10 => 19 + one + digits_of(second) + power_digits(k),
         _ => 9 + one,
     }
 }
@@ -74,13 +87,15 @@ fn condition_length(kind: u8, bit: u16) -> usize
 // The length of the line of the record at a position of the output.
 fn line_length(output: &[u8], at: usize) -> usize
     requires { ⌜ at + recordSize ≤ length (now output) ⌝ }
-    ensures { λ r. ⌜ Measured (lineLength (recordAt (now (output .entry)) at)) 49 r ⌝ }
+    requires { ⌜ numberAt (now output) (at + 8) ≤ mostHalvings ⌝ }
+    ensures { λ r. ⌜ Measured (lineLength (recordAt (now (output .entry)) at)) 68 r ⌝ }
 {
     let condition = condition_length(output[at + 1], number_at(output, at + 6));
     let action = action_length(
         output[at],
         number_at(output, at + 2),
         number_at(output, at + 4),
+        number_at(output, at + 8),
     );
     condition + action + 2
 }
@@ -112,6 +127,7 @@ fn cregs_length(bits: u16) -> usize
 // The length of the lines of so many records, where the room is enough.
 fn lines_length(output: &[u8], records: usize, room: usize) -> TextLength
     requires { ⌜ recordSize * records ≤ length (now output) ⌝ }
+    requires { ⌜ FewHalvings records (now output) ⌝ }
     ensures { λ r. ⌜ Measures room (linesLength (recordsIn records (now (output .entry)))) r ⌝ }
 {
     let mut i: usize = 0;
@@ -130,6 +146,7 @@ fn lines_length(output: &[u8], records: usize, room: usize) -> TextLength
 // The length of the text of so many records over wires and bits, where the room is enough.
 pub fn text_length(output: &[u8], records: usize, wires: u16, bits: u16, room: usize) -> TextLength
     requires { ⌜ recordSize * records ≤ length (now output) ⌝ }
+    requires { ⌜ FewHalvings records (now output) ⌝ }
     ensures { λ r. ⌜ Measures room (textLength wires bits (recordsIn records (now (output .entry)))) r ⌝ }
 {
     let header = FIRST_LINES + qreg_length(wires) + cregs_length(bits);

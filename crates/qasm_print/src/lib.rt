@@ -1,15 +1,15 @@
 // Prints a list as OpenQASM 2.0 text: words and numbers put one after another into a buffer.
 ghost use mathlib.Core.Path.{_≡_};
 ghost use mathlib.Core.List.{_++_};
-ghost use Prim.Native.Nat.{_+_, _*_, _≤_, _<_};
+ghost use Prim.Native.Nat.{_+_, _*_, _^_, _≤_, _<_};
 ghost use lib.ListN.{length};
-ghost use Rattle.language.specs.Limits.{recordSize};
+ghost use Rattle.language.specs.Limits.{recordSize, mostHalvings};
 ghost use Rattle.language.specs.Machine.{doCx, doMeasure};
-ghost use Rattle.text_bytes.specs.Decimal.{digit, decimal};
+ghost use Rattle.text_bytes.specs.Decimal.{ascii, digit, decimal, width};
 ghost use Rattle.qasm_text.specs.Text.{wireText, bitText, actionText, conditionText, line, lines, qregLine, cregLine, cregLines, header, textOf};
-ghost use Rattle.qasm_text.specs.RecordsIn.{actionOf, conditionOf, recordAt, recordsIn};
+ghost use Rattle.qasm_text.specs.RecordsIn.{actionOf, conditionOf, numberAt, recordAt, recordsIn, FewHalvings};
 ghost use Rattle.text_bytes.specs.Buffers.{Room, Puts};
-ghost use Rattle.qasm_print.specs.Prints.{twoDigits, Prints};
+ghost use Rattle.qasm_print.specs.Prints.{twoDigits, angled, Prints};
 use limits::RECORD_SIZE;
 use qasm_length::TextLength;
 
@@ -69,6 +69,34 @@ fn put_number(n: u16, text: &mut [u8], from: usize) -> usize
     put_pair(rest, text, at)
 }
 
+// Puts a number of so many digits in decimal, two digits at a time from its end.
+fn put_digits(n: u64, many: usize, text: &mut [u8], from: usize) -> usize
+    requires { ⌜ many ≡ width n ⌝ }
+    requires { ⌜ Room (now text) from (decimal n) ⌝ }
+    ensures { λ r. ⌜ Puts (now (text .entry)) from (decimal n) (now (text .exit)) r ⌝ }
+{
+    let end = from + many;
+    let mut at = end;
+    let mut rest = n;
+    while rest >= 100 {
+        at -= 2;
+        put_pair((rest % 100) as u16, text, at);
+        rest /= 100;
+    }
+    put_number(rest as u16, text, from);
+    end
+}
+
+// Puts 2 to the k in decimal.
+fn put_power(k: u16, text: &mut [u8], from: usize) -> usize
+    requires { ⌜ k ≤ mostHalvings ⌝ }
+    requires { ⌜ Room (now text) from (decimal (2 ^ k)) ⌝ }
+    ensures { λ r. ⌜ Puts (now (text .entry)) from (decimal (2 ^ k)) (now (text .exit)) r ⌝ }
+{
+    let power: u64 = 1 << k;
+    put_digits(power, qasm_length::power_digits(k), text, from)
+}
+
 // Puts a wire.
 fn put_wire(n: u16, text: &mut [u8], from: usize) -> usize
     requires { ⌜ Room (now text) from (wireText (record { number = n })) ⌝ }
@@ -97,6 +125,38 @@ fn put_on_wire(word: &[u8], n: u16, text: &mut [u8], from: usize) -> usize
     put_wire(n, text, name)
 }
 
+// Puts a word that opens an angle, the angle's 2 to the k, and its end.
+fn put_angle(word: &[u8], k: u16, text: &mut [u8], from: usize) -> usize
+    requires { ⌜ k ≤ mostHalvings ⌝ }
+    requires { ⌜ Room (now text) from (angled (now word) k) ⌝ }
+    ensures { λ r. ⌜ Puts (now (text .entry)) from (angled (now (word .entry)) k) (now (text .exit)) r ⌝ }
+{
+    let name = text_bytes::put(word, text, from);
+    let power = put_power(k, text, name);
+    text_bytes::put(b") ", text, power)
+}
+
+// Puts a phase on a wire.
+fn put_phase(word: &[u8], k: u16, wire: u16, text: &mut [u8], from: usize) -> usize
+    requires { ⌜ k ≤ mostHalvings ⌝ }
+    requires { ⌜ Room (now text) from (angled (now word) k ++ wireText (record { number = wire })) ⌝ }
+    ensures { λ r. ⌜ Puts (now (text .entry)) from (angled (now (word .entry)) k ++ wireText (record { number = wire })) (now (text .exit)) r ⌝ }
+{
+    let angle = put_angle(word, k, text, from);
+    put_wire(wire, text, angle)
+}
+
+// Puts a phase on its control and its target.
+fn put_cphase(word: &[u8], k: u16, control: u16, target: u16, text: &mut [u8], from: usize) -> usize
+    requires { ⌜ k ≤ mostHalvings ⌝ }
+    requires { ⌜ Room (now text) from (angled (now word) k ++ wireText (record { number = control }) ++ ascii "," ++ wireText (record { number = target })) ⌝ }
+    ensures { λ r. ⌜ Puts (now (text .entry)) from (angled (now (word .entry)) k ++ wireText (record { number = control }) ++ ascii "," ++ wireText (record { number = target })) (now (text .exit)) r ⌝ }
+{
+    let wire = put_phase(word, k, control, text, from);
+    let comma = text_bytes::put(b",", text, wire);
+    put_wire(target, text, comma)
+}
+
 // Puts a cx on its control and its target.
 fn put_cx(control: u16, target: u16, text: &mut [u8], from: usize) -> usize
     requires { ⌜ Room (now text) from (actionText (doCx (record { number = control }) (record { number = target }))) ⌝ }
@@ -119,9 +179,10 @@ fn put_measure(wire: u16, bit: u16, text: &mut [u8], from: usize) -> usize
 }
 
 // Puts an operation and what it is on.
-fn put_action(op: u8, first: u16, second: u16, text: &mut [u8], from: usize) -> usize
-    requires { ⌜ Room (now text) from (actionText (actionOf op first second)) ⌝ }
-    ensures { λ r. ⌜ Puts (now (text .entry)) from (actionText (actionOf op first second)) (now (text .exit)) r ⌝ }
+fn put_action(op: u8, first: u16, second: u16, k: u16, text: &mut [u8], from: usize) -> usize
+    requires { ⌜ k ≤ mostHalvings ⌝ }
+    requires { ⌜ Room (now text) from (actionText (actionOf op first second k)) ⌝ }
+    ensures { λ r. ⌜ Puts (now (text .entry)) from (actionText (actionOf op first second k)) (now (text .exit)) r ⌝ }
 {
     match op {
         1 => put_on_wire(b"h ", first, text, from),
@@ -129,6 +190,10 @@ fn put_action(op: u8, first: u16, second: u16, text: &mut [u8], from: usize) -> 
         3 => put_on_wire(b"tdg ", first, text, from),
         4 => put_cx(first, second, text, from),
         5 => put_measure(first, second, text, from),
+        7 => put_phase(b"u1(2*pi/", k, first, text, from),
+        8 => put_phase(b"u1(-2*pi/", k, first, text, from),
+        9 => put_cphase(b"cu1(2*pi/", k, first, second, text, from),
+        10 => put_cphase(b"cu1(-2*pi/", k, first, second, text, from),
         _ => put_on_wire(b"reset ", first, text, from),
     }
 }
@@ -152,6 +217,7 @@ fn put_condition(kind: u8, bit: u16, text: &mut [u8], from: usize) -> usize
 // Puts the line of the record at a position of the output.
 fn put_line(output: &[u8], at: usize, text: &mut [u8], from: usize) -> usize
     requires { ⌜ at + recordSize ≤ length (now output) ⌝ }
+    requires { ⌜ numberAt (now output) (at + 8) ≤ mostHalvings ⌝ }
     requires { ⌜ Room (now text) from (line (recordAt (now output) at)) ⌝ }
     ensures { λ r. ⌜ Puts (now (text .entry)) from (line (recordAt (now (output .entry)) at)) (now (text .exit)) r ⌝ }
 {
@@ -159,13 +225,15 @@ fn put_line(output: &[u8], at: usize, text: &mut [u8], from: usize) -> usize
     let condition = put_condition(output[at + 1], bit, text, from);
     let first = qasm_length::number_at(output, at + 2);
     let second = qasm_length::number_at(output, at + 4);
-    let action = put_action(output[at], first, second, text, condition);
+    let k = qasm_length::number_at(output, at + 8);
+    let action = put_action(output[at], first, second, k, text, condition);
     text_bytes::put(b";\n", text, action)
 }
 
 // Puts the lines of so many records.
 fn put_lines(output: &[u8], records: usize, text: &mut [u8], from: usize) -> usize
     requires { ⌜ recordSize * records ≤ length (now output) ⌝ }
+    requires { ⌜ FewHalvings records (now output) ⌝ }
     requires { ⌜ Room (now text) from (lines (recordsIn records (now output))) ⌝ }
     ensures { λ r. ⌜ Puts (now (text .entry)) from (lines (recordsIn records (now (output .entry)))) (now (text .exit)) r ⌝ }
 {
@@ -230,6 +298,7 @@ fn put_header(wires: u16, bits: u16, text: &mut [u8], from: usize) -> usize
 // does not fit leaves the buffer as it was.
 pub fn print(output: &[u8], records: usize, wires: u16, bits: u16, text: &mut [u8]) -> TextLength
     requires { ⌜ recordSize * records ≤ length (now output) ⌝ }
+    requires { ⌜ FewHalvings records (now output) ⌝ }
     ensures { λ r. ⌜ Prints (now (text .entry)) (textOf wires bits (recordsIn records (now (output .entry)))) (now (text .exit)) r ⌝ }
 {
     let room = text.len();

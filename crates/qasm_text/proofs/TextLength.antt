@@ -4,12 +4,13 @@ use mathlib.Core.List.{List, [], _∷_, _++_, append-assoc}
 use Prim.Native.Nat.{ℕ, zero, suc, _+_, _*_, _^_, _≤_, _<_}
 use native.Mathlib.Omega.{arith}
 use lib.ListN.{length, length-append}
-use Rattle.language.specs.Limits.{mostWires, mostBits, recordSize}
+use Rattle.language.specs.Limits.{mostWires, mostBits, mostHalvings, recordSize}
 use Rattle.text_bytes.specs.Decimal.{ascii, decimal, width}
-use Rattle.language.specs.Machine.{Wire, Bit, Condition, always, whenBit, Action, doH, doT, doTdg, doReset, doCx, doMeasure, Record}
+use Rattle.language.specs.Machine.{Direction, forward, backward, Wire, Bit, Condition, always, whenBit, Action, doH, doT, doTdg, doReset, doCx, doMeasure, doPhase, doCphase, Record}
 use Rattle.language.specs.Sound.{Names, NamesBit, AllName}
-use Rattle.qasm_text.specs.Text.{wireText, bitText, actionText, conditionText, line, lines, qregLine, cregLine, cregLines, header, textOf, actionLength, conditionLength, lineLength, linesLength, qregLength, cregsLength, textLength, enoughFor}
+use Rattle.qasm_text.specs.Text.{wireText, bitText, angleText, actionText, conditionText, line, lines, qregLine, cregLine, cregLines, header, textOf, angleLength, actionLength, conditionLength, lineLength, linesLength, qregLength, cregsLength, textLength, enoughFor}
 use Rattle.text_bytes.proofs.DecimalLaws.{width-most, width-digit}
+use Rattle.text_bytes.proofs.Powers.{power-width}
 
 -- ---- the sum
 
@@ -21,6 +22,11 @@ bit-length : (b : Bit) → length (bitText b) ≡ 1 + width (b .number)
 unfolding bitText ascii width
 bit-length b = omega arith
 
+angle-length : (d : Direction) (k : ℕ) → length (angleText d k) ≡ angleLength d k
+unfolding angleText angleLength ascii width
+angle-length forward k = omega (arith, length-append (decimal (2 ^ k)) (ascii ") "))
+angle-length backward k = omega (arith, length-append (decimal (2 ^ k)) (ascii ") "))
+
 action-length : (a : Action) → length (actionText a) ≡ actionLength a
 unfolding actionText actionLength ascii
 action-length (doH w) = omega (arith, wire-length w)
@@ -29,6 +35,8 @@ action-length (doTdg w) = omega (arith, wire-length w)
 action-length (doReset w) = omega (arith, wire-length w)
 action-length (doCx x y) = simp length-append (omega (arith, wire-length x, wire-length y))
 action-length (doMeasure w b) = simp length-append (omega (arith, wire-length w, bit-length b))
+action-length (doPhase d k w) = simp length-append (omega (arith, angle-length d k, wire-length w))
+action-length (doCphase d k x y) = simp length-append (omega (arith, angle-length d k, wire-length x, wire-length y))
 
 condition-length : (c : Condition) → length (conditionText c) ≡ conditionLength c
 unfolding conditionText conditionLength ascii width
@@ -85,7 +93,12 @@ part-length q b rs ss = omega (arith, sum-append rs ss)
 
 -- ---- no number of 64 bits overflows
 
-action-most : (q b : ℕ) (a : Action) → q ≤ mostWires → b ≤ mostBits → Names q b a → actionLength a ≤ 29
+angle-most : (d : Direction) (k : ℕ) → k ≤ mostHalvings → angleLength d k ≤ 28
+unfolding angleLength
+angle-most forward k h = omega (arith, power-width k h)
+angle-most backward k h = omega (arith, power-width k h)
+
+action-most : (q b : ℕ) (a : Action) → q ≤ mostWires → b ≤ mostBits → Names q b a → actionLength a ≤ 48
 unfolding actionLength
 action-most q b (doH w) l m n = omega (arith, width-most (w .number) (omega arith))
 action-most q b (doT w) l m n = omega (arith, width-most (w .number) (omega arith))
@@ -93,17 +106,19 @@ action-most q b (doTdg w) l m n = omega (arith, width-most (w .number) (omega ar
 action-most q b (doReset w) l m n = omega (arith, width-most (w .number) (omega arith))
 action-most q b (doCx x y) l m n = omega (arith, width-most (x .number) (omega arith), width-most (y .number) (omega arith))
 action-most q b (doMeasure w x) l m n = omega (arith, width-most (w .number) (omega arith), width-most (x .number) (omega arith))
+action-most q b (doPhase d k w) l m n = omega (arith, angle-most d k (n .0), width-most (w .number) (omega arith))
+action-most q b (doCphase d k x y) l m n = omega (arith, angle-most d k (n .0), width-most (x .number) (omega arith), width-most (y .number) (omega arith))
 
 condition-most : (b : ℕ) (c : Condition) → b ≤ mostBits → NamesBit b c → conditionLength c ≤ 14
 unfolding conditionLength
 condition-most b always m n = omega arith
 condition-most b (whenBit x v) m n = omega (arith, width-most (x .number) (omega arith), width-digit v (omega arith))
 
-pub line-most : (q b : ℕ) (r : Record) → q ≤ mostWires → b ≤ mostBits → Names q b (r .action) → NamesBit b (r .condition) → lineLength r ≤ 45
+pub line-most : (q b : ℕ) (r : Record) → q ≤ mostWires → b ≤ mostBits → Names q b (r .action) → NamesBit b (r .condition) → lineLength r ≤ 64
 unfolding lineLength
 line-most q b r l m n c = omega (arith, action-most q b (r .action) l m n, condition-most b (r .condition) m c)
 
-lines-most : (q b : ℕ) (rs : List Record) → q ≤ mostWires → b ≤ mostBits → AllName q b rs → linesLength rs ≤ 45 * length rs
+lines-most : (q b : ℕ) (rs : List Record) → q ≤ mostWires → b ≤ mostBits → AllName q b rs → linesLength rs ≤ 64 * length rs
 unfolding linesLength
 lines-most q b [] l m n = omega arith
 lines-most q b (r ∷ rs) l m n = omega (arith, line-most q b r l m (n .0) (n .1), lines-most q b rs l m (n .2))

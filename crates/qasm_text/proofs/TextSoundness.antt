@@ -16,7 +16,7 @@ use Rattle.language.specs.Check.{Checked, good, refused}
 use Rattle.language.specs.Machine.{Record, Outcome, going, ended, stuck, Family, allDeclared, runProgram, runInstance}
 use Rattle.language.specs.Result.{Answer, Conclusion, finished, writtenInto, resultOf, untouched, conclusionOf, checkProgram, verdict, checkResult, ifAccepted, runOutcome, fourBytes, allSizesFit, instanceOf, instanceOutcome}
 use Rattle.language.specs.Lookup.{mapped}
-use Rattle.language.specs.Sound.{qubitsDeclared, bitsDeclared, wiresLaidOut, AllName, Sound, Finishes}
+use Rattle.language.specs.Sound.{qubitsDeclared, bitsDeclared, wiresLaidOut, AllName, EndsWith, Sound, Finishes}
 use Rattle.qasm_text.specs.Text.{textOf, textLength, enoughFor}
 use Rattle.qasm_text.specs.TextResult.{TextAnswer, TextConclusion, textFinished, textStuck, textInto, unprinted, fullyPrinted, printed, byNumber, textConclusion, recordsOf, runRecords, recordsAt, instanceRecords, runText, runTextOutcome, instanceText, instanceTextOutcome}
 use Rattle.qasm_text.specs.TextSound.{Listed, Complete, TextSound, TextFinishes, RunTextTheorem, InstanceTextTheorem}
@@ -44,9 +44,9 @@ into-rest buffer text = drop-append-seam text (drop (length text) buffer)
 -- ---- an answer printed
 
 module _ (least limit q b : ℕ) (lent buffer : List ℕ) (run : Answer) (s : Sound least limit q b lent run) where
-  end-number : (n : ℕ) → run .result .number ≡ suc n → (run .result .number ≡ 0) ⊎ ((least ≤ run .result .number) × (run .result .number ≤ 27)) → (least ≤ suc n) × (suc n ≤ 27)
+  end-number : (n : ℕ) → run .result .number ≡ suc n → (run .result .number ≡ 0) ⊎ EndsWith least (run .result .number) → EndsWith least (suc n)
   end-number n e (inl z) = absurd (omega arith)
-  end-number n e (inr h) = rw e at h
+  end-number n e (inr h) = subst (EndsWith least) e h
 
   other-sound : (came : Option (List Record)) (n : ℕ) → run .result .number ≡ suc n → TextSound least limit q b came lent buffer (unprinted (suc n) (run .result .place) buffer run)
   unfolding unprinted

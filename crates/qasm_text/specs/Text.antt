@@ -1,8 +1,8 @@
 -- A list of records as OpenQASM 2.0 text: its lines, and its length as a plain sum.
 use mathlib.Core.List.{List, [], _∷_, _++_}
-use Prim.Native.Nat.{ℕ, zero, suc, _+_, _*_}
+use Prim.Native.Nat.{ℕ, zero, suc, _+_, _*_, _^_}
 use Rattle.text_bytes.specs.Decimal.{ascii, decimal, width}
-use Rattle.language.specs.Machine.{Wire, Bit, Condition, always, whenBit, Action, doH, doT, doTdg, doReset, doCx, doMeasure, Record}
+use Rattle.language.specs.Machine.{Direction, forward, backward, Wire, Bit, Condition, always, whenBit, Action, doH, doT, doTdg, doReset, doCx, doMeasure, doPhase, doCphase, Record}
 
 -- ---- the line of a record
 
@@ -13,6 +13,11 @@ wireText w = ascii "q[" ++ decimal (w .number) ++ ascii "]"
 unfoldable pub bitText : Bit → List ℕ
 bitText b = ascii "c" ++ decimal (b .number)
 
+-- one turn divided by 2 to the k, or its inverse
+unfoldable pub angleText : Direction → (k : ℕ) → List ℕ
+angleText forward k = ascii "(2*pi/" ++ decimal (2 ^ k) ++ ascii ") "
+angleText backward k = ascii "(-2*pi/" ++ decimal (2 ^ k) ++ ascii ") "
+
 unfoldable pub actionText : Action → List ℕ
 actionText (doH w) = ascii "h " ++ wireText w
 actionText (doT w) = ascii "t " ++ wireText w
@@ -20,6 +25,8 @@ actionText (doTdg w) = ascii "tdg " ++ wireText w
 actionText (doReset w) = ascii "reset " ++ wireText w
 actionText (doCx x y) = ascii "cx " ++ wireText x ++ ascii "," ++ wireText y
 actionText (doMeasure w b) = ascii "measure " ++ wireText w ++ ascii " -> " ++ bitText b ++ ascii "[0]"
+actionText (doPhase d k w) = ascii "u1" ++ angleText d k ++ wireText w
+actionText (doCphase d k x y) = ascii "cu1" ++ angleText d k ++ wireText x ++ ascii "," ++ wireText y
 
 unfoldable pub conditionText : Condition → List ℕ
 conditionText always = []
@@ -56,6 +63,10 @@ textOf wireCount bitCount rs = header wireCount bitCount ++ lines rs
 
 -- ---- its length
 
+unfoldable pub angleLength : Direction → (k : ℕ) → ℕ
+angleLength forward k = 8 + width (2 ^ k)
+angleLength backward k = 9 + width (2 ^ k)
+
 unfoldable pub actionLength : Action → ℕ
 actionLength (doH w) = 5 + width (w .number)
 actionLength (doT w) = 5 + width (w .number)
@@ -63,6 +74,8 @@ actionLength (doTdg w) = 7 + width (w .number)
 actionLength (doReset w) = 9 + width (w .number)
 actionLength (doCx x y) = 10 + width (x .number) + width (y .number)
 actionLength (doMeasure w b) = 19 + width (w .number) + width (b .number)
+actionLength (doPhase d k w) = 5 + angleLength d k + width (w .number)
+actionLength (doCphase d k x y) = 10 + angleLength d k + width (x .number) + width (y .number)
 
 unfoldable pub conditionLength : Condition → ℕ
 conditionLength always = 0
@@ -88,4 +101,4 @@ textLength wireCount bitCount rs = 36 + qregLength wireCount + cregsLength bitCo
 
 -- bytes that are always enough for so many bits and records, however many wires there are
 abbrev pub enoughFor : (bitCount records : ℕ) → ℕ
-enoughFor bitCount records = 51 + 16 * bitCount + 45 * records
+enoughFor bitCount records = 51 + 16 * bitCount + 64 * records

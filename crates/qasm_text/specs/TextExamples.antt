@@ -6,7 +6,8 @@ use Prim.Native.Nat.{ℕ}
 use lib.Dec.{eqb}
 use Rattle.text_bytes.specs.Decimal.{ascii}
 use Rattle.qasm_text.specs.TextResult.{TextAnswer, TextConclusion, textFinished, textStuck, runTextOutcome, instanceTextOutcome}
-use Rattle.language.specs.Calls.{computed, sameBytes, field, lit, at, bit, h, t, cx, reverse, qreg, creg, L, size, lent, one, two}
+use Rattle.language.specs.Calls.{computed, sameBytes, field, lit, at, bit, h, t, cx, phase, cphase, reverse, qreg, creg, L, size, lent, row, one, two}
+use Rattle.language.specs.Machine.{backward, doCphase, whenBit}
 use Rattle.language.specs.Sound as S
 use Rattle.language.specs.Lookup as K
 use Rattle.text_bytes.specs.Decimal as D
@@ -60,34 +61,55 @@ measuringText =
     ++ ascii "measure q[10] -> c1[0];\nif(c1==1) h q[2];\nif(c0==0) tdg q[0];\nreset q[0];\n"
 
 measuringRecords : List ℕ
-measuringRecords = two 5 10 1 ++ (1 ∷ 2 ∷ 2 ∷ 0 ∷ 0 ∷ 0 ∷ 1 ∷ 0 ∷ []) ++ (3 ∷ 1 ∷ 0 ∷ 0 ∷ 0 ∷ 0 ∷ 0 ∷ 0 ∷ []) ++ one 6 0
+measuringRecords = two 5 10 1 ++ (1 ∷ 2 ∷ 2 ∷ 0 ∷ 0 ∷ 0 ∷ 1 ∷ 0 ∷ 0 ∷ 0 ∷ 0 ∷ 0 ∷ []) ++ (3 ∷ 1 ∷ 0 ∷ 0 ∷ 0 ∷ 0 ∷ 0 ∷ 0 ∷ 0 ∷ 0 ∷ 0 ∷ 0 ∷ []) ++ one 6 0
+
+-- phases and their inverses: the least k, 3, and the largest
+turning : List ℕ
+turning =
+    qreg 2 ++ phase (lit 0) (at (lit 0)) ++ reverse (phase (lit 3) (at (lit 1)) ++ cphase (lit 3) (at (lit 0) ++ at (lit 1)))
+    ++ cphase (lit 63) (at (lit 1) ++ at (lit 0))
+
+turningText : List ℕ
+turningText =
+    opening ++ ascii "qreg q[2];\nu1(2*pi/1) q[0];\ncu1(-2*pi/8) q[0],q[1];\nu1(-2*pi/8) q[1];\n"
+    ++ ascii "cu1(2*pi/9223372036854775808) q[1],q[0];\n"
+
+turningRecords : List ℕ
+turningRecords = row 7 0 0 0 ++ row 10 0 1 3 ++ row 8 1 0 3 ++ row 9 1 0 63
 
 textExamples : List TextExample
 textExamples =
     -- into far more than the text takes, exactly as much, and one byte less
-    prints (runTextOutcome bell 1_000_000 (lent 20) (lent 100)) 0 0 2 2 69 (bellRecords ++ lent 4) (bellText ++ lent 31)
-    ∷ prints (runTextOutcome bell 1_000_000 (lent 16) (lent 69)) 0 0 2 2 69 bellRecords bellText
-    ∷ prints (runTextOutcome bell 1_000_000 (lent 20) (lent 68)) 30 0 2 2 0 (bellRecords ++ lent 4) (lent 68)
-    ∷ prints (runTextOutcome measuring 100 (lent 32) (lent 150)) 0 0 4 7 146 measuringRecords (measuringText ++ lent 4)
-    ∷ prints (runTextOutcome measuring 100 (lent 32) (lent 145)) 30 0 4 7 0 measuringRecords (lent 145)
+    prints (runTextOutcome bell 1_000_000 (lent 28) (lent 100)) 0 0 2 2 69 (bellRecords ++ lent 4) (bellText ++ lent 31)
+    ∷ prints (runTextOutcome bell 1_000_000 (lent 24) (lent 69)) 0 0 2 2 69 bellRecords bellText
+    ∷ prints (runTextOutcome bell 1_000_000 (lent 28) (lent 68)) 30 0 2 2 0 (bellRecords ++ lent 4) (lent 68)
+    ∷ prints (runTextOutcome measuring 100 (lent 48) (lent 150)) 0 0 4 7 146 measuringRecords (measuringText ++ lent 4)
+    ∷ prints (runTextOutcome measuring 100 (lent 48) (lent 145)) 30 0 4 7 0 measuringRecords (lent 145)
+    ∷ prints (runTextOutcome turning 100 (lent 49) (lent 150)) 0 0 4 5 147 (turningRecords ++ lent 1) (turningText ++ lent 3)
     -- no wires: no qreg line
     ∷ prints (runTextOutcome [] 0 [] (lent 40)) 0 0 0 0 36 [] (opening ++ lent 4)
     ∷ prints (runTextOutcome (qreg 0 ++ creg 3) 0 [] (lent 72)) 0 0 0 0 72 [] (opening ++ ascii "creg c0[1];\ncreg c1[1];\ncreg c2[1];\n")
     ∷ prints (instanceTextOutcome L 0 (size 0) 100 [] (lent 37)) 0 0 0 1 36 [] (opening ++ lent 1)
     -- an instance: its wires, and no bits
-    ∷ prints (instanceTextOutcome L 0 (size 3) 100 (lent 24) (lent 71)) 0 0 3 7 71 (one 1 0 ++ one 1 1 ++ one 1 2) (opening ++ ascii "qreg q[3];\nh q[0];\nh q[1];\nh q[2];\n")
+    ∷ prints (instanceTextOutcome L 0 (size 3) 100 (lent 36) (lent 71)) 0 0 3 7 71 (one 1 0 ++ one 1 1 ++ one 1 2) (opening ++ ascii "qreg q[3];\nh q[0];\nh q[1];\nh q[2];\n")
     -- the run's own refusals come before 30
-    ∷ prints (runTextOutcome bell 1 (lent 16) []) 26 17 1 1 0 (one 1 0 ++ lent 8) []
-    ∷ prints (runTextOutcome bell 100 (lent 15) (lent 3)) 27 17 1 2 0 (one 1 0 ++ lent 7) (lent 3)
+    ∷ prints (runTextOutcome bell 1 (lent 24) []) 26 17 1 1 0 (one 1 0 ++ lent 12) []
+    ∷ prints (runTextOutcome bell 100 (lent 23) (lent 3)) 27 17 1 2 0 (one 1 0 ++ lent 11) (lent 3)
+    ∷ prints (runTextOutcome (qreg 1 ++ phase (lit 64) (at (lit 0))) 100 (lent 12) (lent 3)) 32 5 0 1 0 (lent 12) (lent 3)
     ∷ prints (runTextOutcome (creg 1 ++ h (lit 0)) 100 (lent 8) (lent 3)) 9 8 0 0 0 (lent 8) (lent 3)
     ∷ prints (instanceTextOutcome L 1 (size 3) 100 (lent 8) (lent 3)) 20 0 0 0 0 (lent 8) (lent 3)
     ∷ []
 
 -- opens the definitions of texts, so that examples compute
 printing : Unit {0}
-unfolding D.ascii D.digits D.decimal T.wireText T.bitText T.actionText T.conditionText T.line T.lines T.qregLine T.cregLine T.cregLines T.header T.textOf X.textInto X.unprinted X.fullyPrinted X.printed X.byNumber X.textConclusion X.recordsOf X.runRecords X.recordsAt X.instanceRecords X.runText X.runTextOutcome X.instanceText X.instanceTextOutcome S.qubitsOf S.bitsOf S.qubitsIn S.bitsIn S.wiresIn S.wiresLaid S.wiresOf K.mapped K.declares K.counted K.familyIn
+unfolding D.ascii D.digits D.decimal T.wireText T.bitText T.angleText T.actionText T.conditionText T.line T.lines T.qregLine T.cregLine T.cregLines T.header T.textOf X.textInto X.unprinted X.fullyPrinted X.printed X.byNumber X.textConclusion X.recordsOf X.runRecords X.recordsAt X.instanceRecords X.runText X.runTextOutcome X.instanceText X.instanceTextOutcome S.qubitsOf S.bitsOf S.qubitsIn S.bitsIn S.wiresIn S.wiresLaid S.wiresOf K.mapped K.declares K.counted K.familyIn
 printing = tt
 
 examples-hold : allTold textExamples ≡ true
-unfolding computed printing bell bellText bellRecords measuring measuringText measuringRecords textExamples sameText tells allTold
+unfolding computed printing bell bellText bellRecords measuring measuringText measuringRecords turning turningText turningRecords textExamples sameText tells allTold
 examples-hold = refl
+
+-- the longest line, `if(c65534==1) cu1(-2*pi/9223372036854775808) q[65534],q[65533];` and a line feed, takes all that `enoughFor` has for a record
+longest : T.lineLength (record { action = doCphase backward 63 (record { number = 65_534 }) (record { number = 65_533 }); condition = whenBit (record { number = 65_534 }) 1 }) ≡ 64
+unfolding D.digits D.decimal D.width T.angleLength T.actionLength T.conditionLength T.lineLength
+longest = refl

@@ -7,7 +7,7 @@ use Prim.Native.Nat.{ℕ, _^_, _≤_, _<_}
 use lib.ListN.{length, take, drop}
 use Rattle.language.specs.Machine.{Record}
 use Rattle.language.specs.Result.{Answer, writtenInto, checkResult}
-use Rattle.language.specs.Sound.{qubitsDeclared, bitsDeclared, wiresLaidOut, AllName, Sound, Suits}
+use Rattle.language.specs.Sound.{qubitsDeclared, bitsDeclared, wiresLaidOut, AllName, EndsWith, Sound, Suits}
 use Rattle.qasm_text.specs.Text.{textOf, textLength, enoughFor}
 use Rattle.qasm_text.specs.RecordsIn.{recordsIn}
 use Rattle.qasm_text.specs.TextResult.{TextAnswer, TextConclusion, textFinished, runRecords, instanceRecords, runTextOutcome, instanceTextOutcome}
@@ -44,7 +44,7 @@ pub record TextSound (least limit wireCount bitCount : ℕ) (came : Option (List
   pub steps : a .result .steps ≡ run .result .steps
   pub output : a .output ≡ run .output
   -- done, one of the run's own ends, or 30
-  pub number : (a .result .number ≡ 0) ⊎ (a .result .number ≡ 30) ⊎ ((least ≤ a .result .number) × (a .result .number ≤ 27))
+  pub number : (a .result .number ≡ 0) ⊎ (a .result .number ≡ 30) ⊎ EndsWith least (a .result .number)
   -- a run with another number than 0 gives its own result
   pub other : 1 ≤ run .result .number → (a .result .number ≡ run .result .number) × (a .result .place ≡ run .result .place)
   -- a run with number 0 leaves its list, and the text where it fits

@@ -8,6 +8,7 @@ use borrow.Author.Tests.{lt-ltb, le-ltb}
 use lib.ListN.{length}
 use types.Run.{OneOf}
 use denote.Enum.Declared.{tagOf}
+use Rattle.language.specs.Limits.{recordSize}
 use Rattle.language.specs.Tree.{Place}
 use Rattle.language.specs.Machine.{Outcome, Run, after, _>>_, step, done, noMeaning, endAt}
 use Rattle.language.specs.Machine as machine
@@ -43,7 +44,7 @@ does-then l st l' r t x q run next a e b lent rs w = go (run (stateOf rs st)) (s
     go : (o : Outcome (Unit {0})) → answerTold l' (Going t) ≡ flatOutcome lent o → answerTold x q ≡ flatOutcome lent (after o (λ u. next))
     go (machine.going u s) k =
         let e : l' ≡ writtenInto lent (s .records) = cc in
-        let f : 8 * length (s .records) ≡ t .written = cc in
+        let f : recordSize * length (s .records) ≡ t .written = cc in
         let g : s .steps ≡ t .steps = cc in
         b lent (s .records) (record { output = e; size = f }) ∙ ap (λ (n : ℕ). flatOutcome lent (next (record { records = s .records; steps = n }))) (sym g)
     go (machine.ended n p s) k = absurd (let z : _≡_ {A = ℕ} 0 1 = cc in omega arith)

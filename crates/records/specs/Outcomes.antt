@@ -5,9 +5,9 @@ use mathlib.Core.List.{List, [], _∷_}
 use lib.ListN.{length}
 use Rattle.language.specs.Limits.{recordSize}
 use Rattle.language.specs.Tree.{Place, Refusal}
-use Rattle.language.specs.Machine.{Outcome, Run, Record, Action, Frame, write}
+use Rattle.language.specs.Machine.{Outcome, Run, Record, Action, Frame, _>>_, fewHalvings, write}
 use Rattle.language.specs.Machine as machine
-use Rattle.language.specs.Result.{op, firstNumber, secondNumber, writtenInto}
+use Rattle.language.specs.Result.{op, firstNumber, secondNumber, halvingsOf, writtenInto}
 use Rattle.operands.specs.Meanings.{theBit}
 use Rattle.records.specs.declared.State.{State}
 use Rattle.records.specs.declared.Answer.{Answer}
@@ -78,15 +78,25 @@ lowOf n = n % 256
 abbrev pub highOf : ℕ → ℕ
 highOf n = n / 256
 
-abbrev pub bytes8 : ℕ → ℕ → ℕ → ℕ → ℕ → List ℕ
-bytes8 op kind a b c = op ∷ kind ∷ lowOf a ∷ highOf a ∷ lowOf b ∷ highOf b ∷ lowOf c ∷ highOf c ∷ []
+-- the bytes of a record by its numbers: the first eight, then those of k
+abbrev pub numberBytes : (op kind first second bit : ℕ) → (rest : List ℕ) → List ℕ
+numberBytes op kind a b c rest = op ∷ kind ∷ lowOf a ∷ highOf a ∷ lowOf b ∷ highOf b ∷ lowOf c ∷ highOf c ∷ rest
+
+abbrev pub halvingBytes : ℕ → List ℕ
+halvingBytes k = lowOf k ∷ highOf k ∷ 0 ∷ 0 ∷ []
+
+abbrev pub bytesBy : (op kind first second bit k : ℕ) → List ℕ
+bytesBy op kind a b c k = numberBytes op kind a b c (halvingBytes k)
 
 -- an action with its numbers
-pub record ActionNumbers (a : Action) (code first second : ℕ) : Type 0 where
+pub record ActionNumbers (a : Action) (code first second k : ℕ) : Type 0 where
   pub its-code : op a ≡ code
   pub its-first : firstNumber a ≡ first
   pub its-second : secondNumber a ≡ second
+  pub its-halvings : halvingsOf a ≡ k
 
-abbrev pub Writes : List ℕ → State → List ℕ → Answer → Place → ℕ → ℕ → ℕ → Condition → Type 0
-Writes l st l' r p code first second c =
-    (limit : ℕ) (f : Frame) (a : Action) → f .condition ≡ conditionOf c → ActionNumbers a code first second → Does l st l' r (write limit (length l) p f a)
+-- a record of an action with these numbers is written, unless its k is too large
+abbrev pub Writes : List ℕ → State → List ℕ → Answer → Place → (code first second k : ℕ) → Condition → Type 0
+Writes l st l' r p code first second k c =
+    (limit : ℕ) (f : Frame) (a : Action) → f .condition ≡ conditionOf c → ActionNumbers a code first second k
+    → Does l st l' r (fewHalvings p k >> write limit (length l) p f a)

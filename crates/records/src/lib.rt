@@ -1,11 +1,13 @@
 // Records in the output.
 ghost use mathlib.Core.Path.{_≡_};
+ghost use mathlib.Core.List.{[]};
 ghost use Prim.Native.Nat.{_+_, _<_, _≤_};
 ghost use lib.ListN.{length};
 ghost use lib.Seq.{sets};
 ghost use Rattle.language.specs.Limits.{longestProgram, recordSize};
 ghost use Rattle.language.specs.Result.{conditionByte, conditionBit};
-ghost use Rattle.records.specs.Outcomes.{lowOf, highOf, bytes8, conditionOf, Stepped, Writes};
+ghost use Rattle.records.specs.Outcomes.{lowOf, highOf, numberBytes, halvingBytes, conditionOf, Stepped, Writes};
+use limits::MOST_HALVINGS;
 use limits::RECORD_SIZE;
 use operands::Bit;
 
@@ -60,9 +62,10 @@ fn high(n: u16) -> u8
     (n / 256) as u8
 }
 
-fn put(out: &mut [u8], at: usize, op: u8, kind: u8, a: u16, b: u16, c: u16)
+// Puts the first bytes of a record: op, condition, two numbers and the condition's bit.
+fn put_numbers(out: &mut [u8], at: usize, op: u8, kind: u8, a: u16, b: u16, c: u16)
     requires { ⌜ at + recordSize ≤ length (now out) ⌝ }
-    ensures { λ _. ⌜ now (out .exit) ≡ sets (now (out .entry)) at (bytes8 op kind a b c) ⌝ }
+    ensures { λ _. ⌜ now (out .exit) ≡ sets (now (out .entry)) at (numberBytes op kind a b c []) ⌝ }
 {
     out[at] = op;
     out[at + 1] = kind;
@@ -72,6 +75,17 @@ fn put(out: &mut [u8], at: usize, op: u8, kind: u8, a: u16, b: u16, c: u16)
     out[at + 5] = high(b);
     out[at + 6] = low(c);
     out[at + 7] = high(c);
+}
+
+// Puts the last bytes of a record: k, and two zero bytes.
+fn put_halvings(out: &mut [u8], at: usize, k: u16)
+    requires { ⌜ at + 4 ≤ length (now out) ⌝ }
+    ensures { λ _. ⌜ now (out .exit) ≡ sets (now (out .entry)) at (halvingBytes k) ⌝ }
+{
+    out[at] = low(k);
+    out[at + 1] = high(k);
+    out[at + 2] = 0;
+    out[at + 3] = 0;
 }
 
 fn numbers(c: Condition) -> Pair
@@ -84,7 +98,7 @@ fn numbers(c: Condition) -> Pair
     }
 }
 
-// Writes a record of the statement at `place`.
+// Writes a record of the statement at `place`, which has a k, or 0 for it.
 pub fn write_record(
     out: &mut [u8],
     st: State,
@@ -92,11 +106,15 @@ pub fn write_record(
     op: u8,
     a: u16,
     b: u16,
+    k: usize,
     c: Condition,
 ) -> Answer
     requires { ⌜ place ≤ longestProgram ⌝ }
-    ensures { λ r. ⌜ Writes (now (out .entry)) st (now (out .exit)) r place op a b c ⌝ }
+    ensures { λ r. ⌜ Writes (now (out .entry)) st (now (out .exit)) r place op a b k c ⌝ }
 {
+    if MOST_HALVINGS < k {
+        return Answer::Ended(32, place as u16, st);
+    }
     let at = st.written;
     let len = out.len();
     if len < at {
@@ -106,7 +124,8 @@ pub fn write_record(
         return Answer::Ended(27, place as u16, st);
     }
     let n = numbers(c);
-    put(out, at, op, n.0, a, b, n.1);
+    put_numbers(out, at, op, n.0, a, b, n.1);
+    put_halvings(out, at + 8, k as u16);
     let next = at + RECORD_SIZE;
     Answer::Going(State {
         written: next,

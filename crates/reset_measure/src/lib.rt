@@ -34,13 +34,20 @@ pub fn reset(
     requires { ⌜ (mode .variables ≤ mostValues) × (place ≤ longestProgram) ⌝ }
     ensures { λ r. ⌜ Does (now (out .entry)) st (now (out .exit)) r (resetAt mode (length (now (out .entry))) place (slice from to (now (bytes .entry))) (frameIn mode (take (mode .variables) (now (vars .entry))) scope (now (regs .entry)))) ⌝ }
 {
-    let many = fields::wide(mode.variables);
-    let c = mode.condition;
-    match operands::wire_at(bytes, from, to, vars, many, scope, regs) {
-        WireMeaning::Is(w) => records::write_record(out, st, place, 6, w.0, 0, c),
-        WireMeaning::Over => Answer::Ended(24, place as u16, st),
-        WireMeaning::Stuck => Answer::Stuck,
-    }
+    gates::on_wire(
+        bytes,
+        from,
+        to,
+        6,
+        0,
+        place,
+        vars,
+        scope,
+        regs,
+        mode,
+        st,
+        out,
+    )
 }
 
 // Writes the measure whose content is from `from` to `to` and whose step is taken.
@@ -67,7 +74,7 @@ pub fn measure(
     };
     match operands::wire_at(bytes, from, to, vars, many, scope, regs) {
         WireMeaning::Is(x) => match operands::bit_at(bytes, mid, to, vars, many, scope, regs) {
-            BitMeaning::Is(y) => records::write_record(out, st, place, 5, x.0, y.0, c),
+            BitMeaning::Is(y) => records::write_record(out, st, place, 5, x.0, y.0, 0, c),
             BitMeaning::Over => Answer::Ended(24, place as u16, st),
             BitMeaning::Stuck => Answer::Stuck,
         },

@@ -15,14 +15,14 @@ use Rattle.runs.specs.Whole.{started}
 use Rattle.runs.specs.Conclusions.{concluded}
 
 -- a number of records, from its bytes
-records-of : (n at : ℕ) → 8 * n ≡ at → at / recordSize ≡ n
+records-of : (n at : ℕ) → recordSize * n ≡ at → at / recordSize ≡ n
 records-of n at e = omega arith
 
 pub concluded-as : {A : Type 0} (lent l : List ℕ) (r : Answer) (o : Outcome A) → answerTold l r ≡ flatOutcome lent o → concluded l r ≡ conclusionOf lent o
 unfolding answerTold flatOutcome concluded conclusionOf resultOf
 concluded-as lent l (Going s) (machine.going a t) e =
     let p : l ≡ writtenInto lent (t .records) = cc in
-    let q : s .written ≡ 8 * length (t .records) = cc in
+    let q : s .written ≡ recordSize * length (t .records) = cc in
     let u : s .steps ≡ t .steps = cc in
     rw (p, u, records-of (length (t .records)) (s .written) (sym q)) refl
 concluded-as lent l (Going s) (machine.ended n p t) e = absurd (let z : _≡_ {A = ℕ} 0 1 = cc in omega arith)
@@ -32,7 +32,7 @@ concluded-as lent l (Ended n p s) (machine.ended n₁ p₁ t) e =
     let i : n ≡ n₁ = cc in
     let j : p ≡ p₁ = cc in
     let k : l ≡ writtenInto lent (t .records) = cc in
-    let q : s .written ≡ 8 * length (t .records) = cc in
+    let q : s .written ≡ recordSize * length (t .records) = cc in
     let u : s .steps ≡ t .steps = cc in
     rw (i, j, k, u, records-of (length (t .records)) (s .written) (sym q)) refl
 concluded-as lent l (Ended n p s) machine.stuck e = absurd (let z : _≡_ {A = ℕ} 0 1 = cc in omega arith)

@@ -8,6 +8,7 @@ use types.Run.{OneOf}
 use denote.Enum.Declared.{tagOf}
 use lib.ListN.{length}
 use lib.Seq.{slice}
+use Rattle.language.specs.Limits.{recordSize}
 use Rattle.language.specs.Tree.{Place, Top, family, qreg, creg, measure, reset, if, statement, badTop}
 use Rattle.language.specs.Read.{Reader, field, ofFields, choose, readTop, readIf, ifOf, measureOf, resetOf}
 use Rattle.language.specs.Check.{Declared}
@@ -92,7 +93,7 @@ module _ (l : List ℕ) (st : State) (l' : List ℕ) (r : Answer) (run : Run (Un
       go : (o : Outcome (Unit {0})) → answerTold l' (Going t) ≡ flatOutcome lent o → answerTold x q ≡ flatOutcome lent (after (after o (λ u. give g)) next)
       go (machine.going u s) k =
           let e : l' ≡ writtenInto lent (s .records) = cc in
-          let f : 8 * length (s .records) ≡ t .written = cc in
+          let f : recordSize * length (s .records) ≡ t .written = cc in
           let g′ : s .steps ≡ t .steps = cc in
           b lent (s .records) (record { output = e; size = f }) ∙ ap (λ (n : ℕ). flatOutcome lent (next g (record { records = s .records; steps = n }))) (sym g′)
       go (machine.ended n p s) k = absurd (let z : _≡_ {A = ℕ} 0 1 = cc in omega arith)

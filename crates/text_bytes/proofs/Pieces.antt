@@ -6,13 +6,27 @@ use native.Mathlib.Omega.{arith}
 use native.Mathlib.Nat.{add-zero}
 use native.Mathlib.Numerals.{add-one}
 use lib.ListN.{length, take, getD, set, length-append, length-take}
-use lib.Seq.{sets, length-sets, take-suc}
+use lib.Seq.{sets, length-sets, set-comm, take-suc}
 use Rattle.text_bytes.specs.Buffers.{Room, Puts}
 
 -- two stores, the second right after the first
 pub stores : (buffer a b : List ℕ) (i : ℕ) → sets (sets buffer i a) (i + length a) b ≡ sets buffer i (a ++ b)
 stores buffer [] b i = rw add-zero
 stores buffer (x ∷ a) b i = let e : i + suc (length a) ≡ suc i + length a = omega arith in rw e (stores (set buffer i x) a b (suc i))
+
+-- a byte stored before bytes that are there
+set-before : (buffer b : List ℕ) (i j x : ℕ) → i < j → set (sets buffer j b) i x ≡ sets (set buffer i x) j b
+set-before buffer [] i j x h = refl
+set-before buffer (y ∷ b) i j x h = set-before (set buffer j y) b i (suc j) x (omega arith) ∙ ap (λ (l : List ℕ). sets l (suc j) b) (set-comm buffer j i y x (λ e. omega arith))
+
+either-first : (buffer a b : List ℕ) (i j : ℕ) → i + length a ≤ j → sets (sets buffer j b) i a ≡ sets (sets buffer i a) j b
+either-first buffer [] b i j h = refl
+either-first buffer (x ∷ a) b i j h =
+    ap (λ (l : List ℕ). sets l (suc i) a) (set-before buffer b i j x (omega arith)) ∙ either-first (set buffer i x) a b (suc i) j (omega arith)
+
+-- two stores, the second right before the first
+pub stores-back : (buffer a b : List ℕ) (i : ℕ) → sets (sets buffer (i + length a) b) i a ≡ sets buffer i (a ++ b)
+stores-back buffer a b i = either-first buffer a b i (i + length a) (omega arith) ∙ stores buffer a b i
 
 -- room for two pieces is room for the first
 pub room-first : {buffer : List ℕ} {from : ℕ} {a : List ℕ} (b : List ℕ) → Room buffer from (a ++ b) → Room buffer from a

@@ -132,8 +132,8 @@ fn run_statement(
     let Answer::Going(s) = r else {
         return r;
     };
-    if tag < fields::CALL {
-        return gates::write_gate(bytes, from, to, tag, place, vars, scope, regs, mode, s, out);
+    if phases::is_action(tag) {
+        return phases::act(bytes, from, to, tag, place, vars, scope, regs, mode, s, out);
     }
     if fields::is_call(tag) {
         return run_call(

@@ -4,7 +4,6 @@ use Rattle.check_operand.proofs.one_wire.Statement.{statement}
 use Rattle.check_operand.proofs.one_wire.Tie as tie
 use mathlib.Core.Path.{refl, sym, _∙_}
 use mathlib.Core.List.{List}
-use Prim.Native.Nat.{_+_}
 use denote.Ref.{now}
 use lib.ListN.{drop}
 use Rattle.language.specs.Tree.{badOperand}
@@ -15,10 +14,6 @@ use Rattle.check_index.specs.Answers.{checkedPart}
 use Rattle.check_operand.specs.Tables.{scopeAt}
 use Rattle.check_operand.specs.Operands.{wantedOf}
 use Rattle.check_index.proofs.Answers.{ends-stops, part-goes, part-stops, passes-upto, left-some, left-none}
-
-add-from : tie.Need-add-from
-add-from c =
-    search needs
 
 operand-requires : tie.Need-operand-requires
 operand-requires c κs =
@@ -37,8 +32,8 @@ unfolding wantedOf checkOneWire
 returns c =
     let a = c .before .before .before .before .before .before .args in
     let program = now (a .program) in
-    let x : List Signature → Checked (Unit {0}) = λ fs. checkOperand (scopeAt fs (a .s) (now (a .kinds)) (now (a .sizes)) (now (a .lows)) (now (a .highs))) wire (due readOperand (badOperand 4 (a .at)) (fieldsAt program (a .at + 3) (a .next))) in
-    let y = noLeftover (a .at) (ending (drop 1 (fieldsAt program (a .at + 3) (a .next)))) in
+    let x : List Signature → Checked (Unit {0}) = λ fs. checkOperand (scopeAt fs (a .s) (now (a .kinds)) (now (a .sizes)) (now (a .lows)) (now (a .highs))) wire (due readOperand (badOperand 4 (a .at)) (fieldsAt program (a .from) (a .next))) in
+    let y = noLeftover (a .at) (ending (drop 1 (fieldsAt program (a .from) (a .next)))) in
     (λ fs. part-stops (c .before .before .operand .result) (x fs) y (c .before .before .operand .ensures .0 fs) (c .before .match .keys2), ends-stops (c .before .before .operand .result) (a .next) (c .before .match .keys2))
 
 returns-2 : tie.Need-returns-2
@@ -46,24 +41,23 @@ unfolding wantedOf checkOneWire checkedPart
 returns-2 c =
     let a = c .before .before .before .before .before .before .before .before .args in
     let program = now (a .program) in
-    let x : List Signature → Checked (Unit {0}) = λ fs. checkOperand (scopeAt fs (a .s) (now (a .kinds)) (now (a .sizes)) (now (a .lows)) (now (a .highs))) wire (due readOperand (badOperand 4 (a .at)) (fieldsAt program (a .at + 3) (a .next))) in
-    let y = noLeftover (a .at) (ending (drop 1 (fieldsAt program (a .at + 3) (a .next)))) in
+    let x : List Signature → Checked (Unit {0}) = λ fs. checkOperand (scopeAt fs (a .s) (now (a .kinds)) (now (a .sizes)) (now (a .lows)) (now (a .highs))) wire (due readOperand (badOperand 4 (a .at)) (fieldsAt program (a .from) (a .next))) in
+    let y = noLeftover (a .at) (ending (drop 1 (fieldsAt program (a .from) (a .next)))) in
     let end = c .before .before .r .given .0 .0 in
-    let v = passes-upto program (a .at + 3) (a .next) (c .before .before .before .before .operand .result) end (c .before .before .r .given .1) (c .before .before .before .before .operand .ensures .1) in
-    (λ fs. sym (part-goes (c .before .before .before .before .operand .result) (x fs) (c .before .before .before .before .operand .ensures .0 fs) end y (c .before .before .r .given .1) ∙ left-some program (a .at) (a .at + 3) (a .next) end v (c .if1 .taken) (c .before .before .before .before .before .before .before .before .pre .0 .1)), tt)
+    let v = passes-upto program (a .from) (a .next) (c .before .before .before .before .operand .result) end (c .before .before .r .given .1) (c .before .before .before .before .operand .ensures .1) in
+    (λ fs. sym (part-goes (c .before .before .before .before .operand .result) (x fs) (c .before .before .before .before .operand .ensures .0 fs) end y (c .before .before .r .given .1) ∙ left-some program (a .at) (a .from) (a .next) end v (c .if1 .taken) (c .before .before .before .before .before .before .before .before .pre .0)), tt)
 
 returns-3 : tie.Need-returns-3
 unfolding wantedOf checkOneWire checkedPart
 returns-3 c =
     let a = c .before .before .before .before .before .before .before .before .args in
     let program = now (a .program) in
-    let x : List Signature → Checked (Unit {0}) = λ fs. checkOperand (scopeAt fs (a .s) (now (a .kinds)) (now (a .sizes)) (now (a .lows)) (now (a .highs))) wire (due readOperand (badOperand 4 (a .at)) (fieldsAt program (a .at + 3) (a .next))) in
-    let y = noLeftover (a .at) (ending (drop 1 (fieldsAt program (a .at + 3) (a .next)))) in
+    let x : List Signature → Checked (Unit {0}) = λ fs. checkOperand (scopeAt fs (a .s) (now (a .kinds)) (now (a .sizes)) (now (a .lows)) (now (a .highs))) wire (due readOperand (badOperand 4 (a .at)) (fieldsAt program (a .from) (a .next))) in
+    let y = noLeftover (a .at) (ending (drop 1 (fieldsAt program (a .from) (a .next)))) in
     let end = c .before .before .r .given .0 .0 in
-    let v = passes-upto program (a .at + 3) (a .next) (c .before .before .before .before .operand .result) end (c .before .before .r .given .1) (c .before .before .before .before .operand .ensures .1) in
-    (λ fs. sym (part-goes (c .before .before .before .before .operand .result) (x fs) (c .before .before .before .before .operand .ensures .0 fs) end y (c .before .before .r .given .1) ∙ left-none program (a .at) (a .at + 3) (a .next) end v (c .if1 .left)), refl)
+    let v = passes-upto program (a .from) (a .next) (c .before .before .before .before .operand .result) end (c .before .before .r .given .1) (c .before .before .before .before .operand .ensures .1) in
+    (λ fs. sym (part-goes (c .before .before .before .before .operand .result) (x fs) (c .before .before .before .before .operand .ensures .0 fs) end y (c .before .before .r .given .1) ∙ left-none program (a .at) (a .from) (a .next) end v (c .if1 .left)), refl)
 
 pub one-wire-spec : {M : Type 1} → statement M
 one-wire-spec =
-    tie.close
-    (tie.spec add-from operand-requires enum-known-r enum-told returns returns-2 returns-3)
+    tie.close (tie.spec operand-requires enum-known-r enum-told returns returns-2 returns-3)

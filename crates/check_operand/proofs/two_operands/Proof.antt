@@ -4,7 +4,6 @@ use Rattle.check_operand.proofs.two_operands.Statement.{statement}
 use Rattle.check_operand.proofs.two_operands.Tie as tie
 use mathlib.Core.Path.{refl, sym, _∙_}
 use mathlib.Core.List.{List}
-use Prim.Native.Nat.{_+_}
 use denote.Ref.{now}
 use lib.IntN.{pos}
 use lib.ListN.{drop, replicate}
@@ -17,10 +16,6 @@ use Rattle.check_operand.specs.Tables.{scopeAt}
 use Rattle.check_operand.specs.Operands.{wantedOf}
 use Rattle.check_index.proofs.Answers.{ends-stops, part-goes, part-stops, passes-upto, left-some, left-none}
 use Rattle.check_operand.proofs.Operands.{second-is}
-
-add-from : tie.Need-add-from
-add-from c =
-    search needs
 
 operand-requires : tie.Need-operand-requires
 operand-requires c κs =
@@ -41,14 +36,14 @@ returns c =
     let program = now (a .program) in
     let s : List Signature → Scope = λ fs. scopeAt fs (a .s) (now (a .kinds)) (now (a .sizes)) (now (a .lows)) (now (a .highs)) in
     let d = wantedOf (a .second) (replicate 13 (pos 0)) in
-    let from = a .at + 3 in
+    let from = a .from in
     let x : List Signature → Checked (Unit {0}) = λ fs. checkOperand (s fs) wire (due readOperand (badOperand 4 (a .at)) (fieldsAt program from (a .next))) in
     let y : List Signature → Checked (Unit {0}) = λ fs. (checkOperand (s fs) d (due readOperand (badOperand 4 (a .at)) (drop 1 (fieldsAt program from (a .next)))) >> noLeftover (a .at) (ending (drop 2 (fieldsAt program from (a .next))))) in
     (λ fs. part-stops (c .before .before .operand .result) (x fs) (y fs) (c .before .before .operand .ensures .0 fs) (c .before .match .keys2), ends-stops (c .before .before .operand .result) (a .next) (c .before .match .keys2))
 
 operand-requires-2 : tie.Need-operand-requires-2
 operand-requires-2 c κs =
-    (c .before .before .before .before .before .before .before .before .pre .0 .1, (c .before .before .before .before .before .before .before .before .pre .1 .0 _, c .before .before .before .before .before .before .before .before .pre .1 .1))
+    (c .before .before .before .before .before .before .before .before .pre .0, (c .before .before .before .before .before .before .before .before .pre .1 .0 _, c .before .before .before .before .before .before .before .before .pre .1 .1))
 
 enum-known-t : tie.Need-enum-known-t
 enum-known-t c =
@@ -65,7 +60,7 @@ returns-2 c =
     let program = now (a .program) in
     let s : List Signature → Scope = λ fs. scopeAt fs (a .s) (now (a .kinds)) (now (a .sizes)) (now (a .lows)) (now (a .highs)) in
     let d = wantedOf (a .second) (replicate 13 (pos 0)) in
-    let from = a .at + 3 in
+    let from = a .from in
     let x : List Signature → Checked (Unit {0}) = λ fs. checkOperand (s fs) wire (due readOperand (badOperand 4 (a .at)) (fieldsAt program from (a .next))) in
     let y : List Signature → Checked (Unit {0}) = λ fs. (checkOperand (s fs) d (due readOperand (badOperand 4 (a .at)) (drop 1 (fieldsAt program from (a .next)))) >> noLeftover (a .at) (ending (drop 2 (fieldsAt program from (a .next))))) in
     let mid = c .before .before .before .before .before .r .given .0 .0 in
@@ -81,7 +76,7 @@ returns-3 c =
     let program = now (a .program) in
     let s : List Signature → Scope = λ fs. scopeAt fs (a .s) (now (a .kinds)) (now (a .sizes)) (now (a .lows)) (now (a .highs)) in
     let d = wantedOf (a .second) (replicate 13 (pos 0)) in
-    let from = a .at + 3 in
+    let from = a .from in
     let x : List Signature → Checked (Unit {0}) = λ fs. checkOperand (s fs) wire (due readOperand (badOperand 4 (a .at)) (fieldsAt program from (a .next))) in
     let y : List Signature → Checked (Unit {0}) = λ fs. (checkOperand (s fs) d (due readOperand (badOperand 4 (a .at)) (drop 1 (fieldsAt program from (a .next)))) >> noLeftover (a .at) (ending (drop 2 (fieldsAt program from (a .next))))) in
     let mid = c .before .before .before .before .before .before .before .r .given .0 .0 in
@@ -90,7 +85,7 @@ returns-3 c =
     let l = noLeftover (a .at) (ending (drop 1 (fieldsAt program mid (a .next)))) in
     let end = c .before .before .t .given .0 .0 in
     let w = passes-upto program mid (a .next) (c .before .before .before .before .operand2 .result) end (c .before .before .t .given .1) (c .before .before .before .before .operand2 .ensures .1) in
-    (λ fs. sym (part-goes (c .before .before .before .before .before .before .before .before .before .operand .result) (x fs) (c .before .before .before .before .before .before .before .before .before .operand .ensures .0 fs) mid (y fs) (c .before .before .before .before .before .before .before .r .given .1) ∙ second-is (s fs) d program (a .at) from (a .next) mid v ∙ part-goes (c .before .before .before .before .operand2 .result) (z fs) (c .before .before .before .before .operand2 .ensures .0 fs) end l (c .before .before .t .given .1) ∙ left-some program (a .at) mid (a .next) end w (c .if1 .taken) (c .before .before .before .before .before .before .before .before .before .before .before .before .before .pre .0 .1)), tt)
+    (λ fs. sym (part-goes (c .before .before .before .before .before .before .before .before .before .operand .result) (x fs) (c .before .before .before .before .before .before .before .before .before .operand .ensures .0 fs) mid (y fs) (c .before .before .before .before .before .before .before .r .given .1) ∙ second-is (s fs) d program (a .at) from (a .next) mid v ∙ part-goes (c .before .before .before .before .operand2 .result) (z fs) (c .before .before .before .before .operand2 .ensures .0 fs) end l (c .before .before .t .given .1) ∙ left-some program (a .at) mid (a .next) end w (c .if1 .taken) (c .before .before .before .before .before .before .before .before .before .before .before .before .before .pre .0)), tt)
 
 returns-4 : tie.Need-returns-4
 unfolding wantedOf checkTwo checkedPart
@@ -99,7 +94,7 @@ returns-4 c =
     let program = now (a .program) in
     let s : List Signature → Scope = λ fs. scopeAt fs (a .s) (now (a .kinds)) (now (a .sizes)) (now (a .lows)) (now (a .highs)) in
     let d = wantedOf (a .second) (replicate 13 (pos 0)) in
-    let from = a .at + 3 in
+    let from = a .from in
     let x : List Signature → Checked (Unit {0}) = λ fs. checkOperand (s fs) wire (due readOperand (badOperand 4 (a .at)) (fieldsAt program from (a .next))) in
     let y : List Signature → Checked (Unit {0}) = λ fs. (checkOperand (s fs) d (due readOperand (badOperand 4 (a .at)) (drop 1 (fieldsAt program from (a .next)))) >> noLeftover (a .at) (ending (drop 2 (fieldsAt program from (a .next))))) in
     let mid = c .before .before .before .before .before .before .before .r .given .0 .0 in
@@ -114,7 +109,6 @@ pub two-operands-spec : {M : Type 1} → statement M
 two-operands-spec =
     tie.close
     (tie.spec
-    add-from
     operand-requires
     enum-known-r
     enum-told

@@ -15,17 +15,25 @@ use Rattle.check_operand.specs.Operands.{wantedOf, oneWire, twoOperands}
 use Rattle.check_call.specs.Calls.{signatureAt}
 use Rattle.check_statement.proofs.Actions.{kept-is, top-measure, top-reset, top-if, top-statement}
 
+add-from : tie.Need-add-from
+add-from c =
+    search needs
+
 two-operands-requires : tie.Need-two-operands-requires
-two-operands-requires c κs = search needs
+two-operands-requires c κs =
+    search needs
 
 one-wire-requires : tie.Need-one-wire-requires
-one-wire-requires c κs = search needs
+one-wire-requires c κs =
+    search needs
 
 conditional-requires : tie.Need-conditional-requires
-conditional-requires c κs = search needs
+conditional-requires c κs =
+    search needs
 
 one-statement-requires : tie.Need-one-statement-requires
-one-statement-requires c κs = search needs
+one-statement-requires c κs =
+    search needs
 
 returns : tie.Need-returns
 unfolding wantedOf
@@ -60,6 +68,7 @@ pub action-spec : {M : Type 1} → statement M
 action-spec =
     tie.close
     (tie.spec
+    add-from
     two-operands-requires
     one-wire-requires
     conditional-requires

@@ -34,7 +34,7 @@ same-length c = search needs
 returns : tie.Need-returns
 unfolding endText ascii
 returns c =
-    let p = then _ 112 (then _ 91 (then _ 70 (c .before .before .before .before .before .before .before .before .before .before .before .before .before .before .before .paired .ensures) (c .before .before .before .before .before .before .before .before .before .before .before .number .ensures) refl (omega arith)) (c .before .before .before .before .before .before .before .number2 .ensures) refl (omega arith)) (c .before .before .put .ensures) refl (omega arith) in
+    let p = then _ 112 (then _ 92 (then _ 71 (c .before .before .before .before .before .before .before .before .before .before .before .before .before .before .before .paired .ensures) (c .before .before .before .before .before .before .before .before .before .before .before .number .ensures) refl (omega arith)) (c .before .before .before .before .before .before .before .number2 .ensures) refl (omega arith)) (c .before .before .put .ensures) refl (omega arith) in
     let b : c .before .before .put .result ≤ 112 = p .bound in
     (p .text, counts (c .before .before .put .result) (c .before .before .put .last .1 .0) (omega arith))
 

@@ -20,14 +20,17 @@ two-bytes-requires c κs = search needs
 condition-requires : tie.Need-condition-requires
 condition-requires c κs = search needs
 
-shared-slice-read-gate : tie.Need-shared-slice-read-gate
-shared-slice-read-gate c = search needs
-
 two-bytes-requires-2 : tie.Need-two-bytes-requires-2
 two-bytes-requires-2 c κs = search needs
 
 two-bytes-requires-3 : tie.Need-two-bytes-requires-3
 two-bytes-requires-3 c κs = search needs
+
+shared-slice-read-gate : tie.Need-shared-slice-read-gate
+shared-slice-read-gate c = search needs
+
+two-bytes-requires-4 : tie.Need-two-bytes-requires-4
+two-bytes-requires-4 c κs = search needs
 
 gate-requires : tie.Need-gate-requires
 gate-requires c κs = search needs
@@ -44,9 +47,9 @@ same-length c = search needs
 returns : tie.Need-returns
 unfolding lineText ascii
 returns c =
-    let b = now (c .before .before .before .before .before .before .before .before .before .before .before .before .before .before .before .before .before .before .before .before .args .bytes) in
-    then _ _ (then _ 99 (c .before .before .before .before .before .before .before .before .before .before .before .before .before .before .condition .ensures) (c .before .before .before .before .before .before .before .gate .ensures) refl (omega arith)) (c .before .before .put .ensures)
-    (λ j. conditionText (getD b 1 0) (c .before .before .before .before .before .before .before .before .before .before .before .before .before .before .before .before .two-bytes .ensures j) ++ gateText (getD b 0 0) (c .before .before .before .before .before .before .before .before .before .before .two-bytes2 .ensures j) (c .before .before .before .before .before .before .before .before .before .two-bytes3 .ensures j) ++ ascii "\n")
+    let b = now (c .before .before .before .before .before .before .before .before .before .before .before .before .before .before .before .before .before .before .before .before .before .args .bytes) in
+    then _ _ (then _ 122 (c .before .before .before .before .before .before .before .before .before .before .before .before .before .before .before .condition .ensures) (c .before .before .before .before .before .before .before .gate .ensures) refl (omega arith)) (c .before .before .put .ensures)
+    (λ j. conditionText (getD b 1 0) (c .before .before .before .before .before .before .before .before .before .before .before .before .before .before .before .before .before .two-bytes .ensures j) ++ gateText (getD b 0 0) (c .before .before .before .before .before .before .before .before .before .before .before .before .two-bytes2 .ensures j) (c .before .before .before .before .before .before .before .before .before .before .before .two-bytes3 .ensures j) (c .before .before .before .before .before .before .before .before .before .two-bytes4 .ensures j) ++ ascii "\n")
     (omega arith)
 
 pub line-spec : {M : Type 1} → statement M
@@ -56,9 +59,10 @@ line-spec =
     shared-slice-read-condition
     two-bytes-requires
     condition-requires
-    shared-slice-read-gate
     two-bytes-requires-2
     two-bytes-requires-3
+    shared-slice-read-gate
+    two-bytes-requires-4
     gate-requires
     slice-aggregate-put
     put-requires

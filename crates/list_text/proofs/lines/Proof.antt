@@ -8,6 +8,7 @@ use native.Mathlib.Nat.{sub-self}
 use denote.Ref.{now}
 use native.Mathlib.Omega.{arith}
 use lib.ListN.{length, take, drop, length-take, length-drop}
+use Rattle.language.specs.Limits.{recordSize}
 use Rattle.list_text.specs.Lines.{lineText, linesText}
 use Rattle.list_text.proofs.Texts.{lines-more}
 use borrow.Author.Tests.{leb-true, leb-false}
@@ -69,11 +70,11 @@ loop-again c =
     let h : 128 ≤ length (c .before .before .before .before .before .before .before .loop .text) - c .before .before .before .before .before .before .before .loop .size = leb-true _ _ (c .before .before .before .before .before .if1 .taken) in
     let k : length (c .before .before .line .last .1 .0) ≡ length (c .before .before .before .before .before .before .before .loop .text) = c .before .before .line .kept .1 .0 in
     let s : length (c .before .before .before .before .before .before .before .loop .text) ≡ length (now (c .before .before .before .before .before .before .before .before .before .before .args .text)) = c .before .before .before .before .before .before .before .loop .inv .4 in
-    let e : 8 * c .before .before .before .before .before .before .before .loop .next + 8 - 8 * c .before .before .before .before .before .before .before .loop .next ≡ 8 = omega arith in
+    let e : recordSize * c .before .before .before .before .before .before .before .loop .next + recordSize - recordSize * c .before .before .before .before .before .before .before .loop .next ≡ recordSize = omega arith in
     let t : take (c .before .before .line .result) (c .before .before .line .last .1 .0) ≡ linesText (now (c .before .before .before .before .before .before .before .before .before .before .args .records)) (c .before .before .before .before .before .before .before .before .before .before .args .first) (c .before .before .before .before .before .before .before .loop .next + 1 - c .before .before .before .before .before .before .before .before .before .before .args .first) =
     c .before .before .line .ensures .text
-    ∙ ap (λ (l : List ℕ). l ++ lineText (take (8 * c .before .before .before .before .before .before .before .loop .next + 8 - 8 * c .before .before .before .before .before .before .before .loop .next) (drop (8 * c .before .before .before .before .before .before .before .loop .next) (now (c .before .before .before .before .before .before .before .before .before .before .args .records))))) (c .before .before .before .before .before .before .before .loop .inv .2)
-    ∙ ap (λ (n : ℕ). linesText (now (c .before .before .before .before .before .before .before .before .before .before .args .records)) (c .before .before .before .before .before .before .before .before .before .before .args .first) (c .before .before .before .before .before .before .before .loop .next - c .before .before .before .before .before .before .before .before .before .before .args .first) ++ lineText (take n (drop (8 * c .before .before .before .before .before .before .before .loop .next) (now (c .before .before .before .before .before .before .before .before .before .before .args .records))))) e
+    ∙ ap (λ (l : List ℕ). l ++ lineText (take (recordSize * c .before .before .before .before .before .before .before .loop .next + recordSize - recordSize * c .before .before .before .before .before .before .before .loop .next) (drop (recordSize * c .before .before .before .before .before .before .before .loop .next) (now (c .before .before .before .before .before .before .before .before .before .before .args .records))))) (c .before .before .before .before .before .before .before .loop .inv .2)
+    ∙ ap (λ (n : ℕ). linesText (now (c .before .before .before .before .before .before .before .before .before .before .args .records)) (c .before .before .before .before .before .before .before .before .before .before .args .first) (c .before .before .before .before .before .before .before .loop .next - c .before .before .before .before .before .before .before .before .before .before .args .first) ++ lineText (take n (drop (recordSize * c .before .before .before .before .before .before .before .loop .next) (now (c .before .before .before .before .before .before .before .before .before .before .args .records))))) e
     ∙ sym (lines-more (now (c .before .before .before .before .before .before .before .before .before .before .args .records)) (c .before .before .before .before .before .before .before .before .before .before .args .first) (c .before .before .before .before .before .before .before .loop .next) (c .before .before .before .before .before .before .before .loop .inv .0)) in
     (omega arith, omega arith, t, omega arith, k ∙ s, omega arith)
 

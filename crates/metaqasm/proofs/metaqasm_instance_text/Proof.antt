@@ -10,13 +10,16 @@ use Rattle.metaqasm.proofs.AcceptedRuns.{acceptable}
 use Rattle.metaqasm.proofs.TextRuns.{by-other, by-done, instance-accepted, instance-suits, instance-text-promised}
 
 metaqasm-instance-requires : tie.Need-metaqasm-instance-requires
-metaqasm-instance-requires c κs = search needs
+metaqasm-instance-requires c κs =
+    search needs
 
 unprinted-requires : tie.Need-unprinted-requires
-unprinted-requires c κs = search needs
+unprinted-requires c κs =
+    search needs
 
 same-length : tie.Need-same-length
-same-length c = search needs
+same-length c =
+    search needs
 
 returns : tie.Need-returns
 returns c =
@@ -28,7 +31,8 @@ returns c =
     (t .0, (t .1, (t .2 .records, (t .2 .steps, t .2 .fits))))
 
 wide-requires : tie.Need-wide-requires
-wide-requires c κs = search needs
+wide-requires c κs =
+    search needs
 
 wires-requires : tie.Need-wires-requires
 wires-requires c κs =
@@ -44,15 +48,18 @@ printed-requires c κs =
     let l = now (a .program) in
     let out = c .before .before .before .before .before .before .before .before .metaqasm-instance .last .1 .1 .1 .1 .0 in
     let run : Reply = record { result = answered (c .before .before .before .before .before .before .before .before .metaqasm-instance .result); output = out } in
-    let few = c .before .before .before .before .before .before .before .before .metaqasm-instance .ensures .1 .0 (instance-accepted l (a .family) (now (a .sizes)) (a .limit) (now (a .output)) run (c .before .before .before .before .before .before .before .before .metaqasm-instance .ensures .0) (c .before .before .before .before .if1 .left)) .0 .few in
+    let sound = c .before .before .before .before .before .before .before .before .metaqasm-instance .ensures .1 .0 (instance-accepted l (a .family) (now (a .sizes)) (a .limit) (now (a .output)) run (c .before .before .before .before .before .before .before .before .metaqasm-instance .ensures .0) (c .before .before .before .before .if1 .left)) .0 in
+    let few = sound .few in
     let w = (rw (c .before .before .before .wide .ensures) at (c .before .before .wires .ensures)) (instance-suits l (a .family) (now (a .sizes)) (a .limit) (now (a .output)) run (c .before .before .before .before .before .before .before .before .metaqasm-instance .ensures .0) (c .before .before .before .before .if1 .left)) in
-    (c .before .before .before .before .before .before .before .before .metaqasm-instance .ensures .1 .1 .0, (rw w (few .0), few .1))
+    (c .before .before .before .before .before .before .before .before .metaqasm-instance .ensures .1 .1 .0, ((λ i h. sound .bytes i h .halvings), (rw w (few .0), few .1)))
 
 same-length-2 : tie.Need-same-length-2
-same-length-2 c = search needs
+same-length-2 c =
+    search needs
 
 same-length-3 : tie.Need-same-length-3
-same-length-3 c = search needs
+same-length-3 c =
+    search needs
 
 returns-2 : tie.Need-returns-2
 returns-2 c =

@@ -11,13 +11,16 @@ use Rattle.metaqasm.proofs.AcceptedRuns.{acceptable}
 use Rattle.metaqasm.proofs.TextRuns.{by-other, by-done, run-accepted, run-text-promised}
 
 metaqasm-run-requires : tie.Need-metaqasm-run-requires
-metaqasm-run-requires c κs = search needs
+metaqasm-run-requires c κs =
+    search needs
 
 unprinted-requires : tie.Need-unprinted-requires
-unprinted-requires c κs = search needs
+unprinted-requires c κs =
+    search needs
 
 same-length : tie.Need-same-length
-same-length c = search needs
+same-length c =
+    search needs
 
 returns : tie.Need-returns
 returns c =
@@ -42,16 +45,19 @@ printed-requires c κs =
     let l = now (a .program) in
     let out = c .before .before .before .before .before .before .before .metaqasm-run .last .1 .1 .0 in
     let run : Reply = record { result = answered (c .before .before .before .before .before .before .before .metaqasm-run .result); output = out } in
-    let few = c .before .before .before .before .before .before .before .metaqasm-run .ensures .1 .0 (run-accepted l (a .limit) (now (a .output)) run (c .before .before .before .before .before .before .before .metaqasm-run .ensures .0) (c .before .before .before .if1 .left)) .few in
+    let sound = c .before .before .before .before .before .before .before .metaqasm-run .ensures .1 .0 (run-accepted l (a .limit) (now (a .output)) run (c .before .before .before .before .before .before .before .metaqasm-run .ensures .0) (c .before .before .before .if1 .left)) in
+    let few = sound .few in
     let q = c .before .before .declared .ensures .qubits in
     let b = c .before .before .declared .ensures .bits in
-    (c .before .before .before .before .before .before .before .metaqasm-run .ensures .1 .1 .0, (omega (arith, few .0, few .1), omega (arith, few .0, few .1)))
+    (c .before .before .before .before .before .before .before .metaqasm-run .ensures .1 .1 .0, ((λ i h. sound .bytes i h .halvings), (omega (arith, few .0, few .1), omega (arith, few .0, few .1))))
 
 same-length-2 : tie.Need-same-length-2
-same-length-2 c = search needs
+same-length-2 c =
+    search needs
 
 same-length-3 : tie.Need-same-length-3
-same-length-3 c = search needs
+same-length-3 c =
+    search needs
 
 returns-2 : tie.Need-returns-2
 returns-2 c =

@@ -36,6 +36,12 @@ add-number-at-3 c = search needs
 number-at-requires-3 : tie.Need-number-at-requires-3
 number-at-requires-3 c κs = search needs
 
+add-number-at-4 : tie.Need-add-number-at-4
+add-number-at-4 c = search needs
+
+number-at-requires-4 : tie.Need-number-at-requires-4
+number-at-requires-4 c κs = search needs
+
 action-length-requires : tie.Need-action-length-requires
 action-length-requires c κs = search needs
 
@@ -47,11 +53,12 @@ add-result-2 c = search needs
 
 returns : tie.Need-returns
 returns c =
-    let a = c .before .before .before .before .before .before .before .before .args in
-    let first = c .before .before .number-at2 in
-    let second = c .before .number-at3 in
-    let bit = c .before .before .before .before .before .number-at in
-    let e = line-read (now (a .output)) (a .at) (first .result) (second .result) (bit .result) (first .ensures) (second .ensures) (bit .ensures) in
+    let a = c .before .before .before .before .before .before .before .before .before .args in
+    let first = c .before .before .before .number-at2 in
+    let second = c .before .before .number-at3 in
+    let bit = c .before .before .before .before .before .before .number-at in
+    let k = c .before .number-at4 in
+    let e = line-read (now (a .output)) (a .at) (first .result) (second .result) (bit .result) (k .result) (first .ensures) (second .ensures) (bit .ensures) (k .ensures) in
     record { same = omega arith; bound = omega arith }
 
 pub line-length-spec : {M : Type 1} → statement M
@@ -68,6 +75,8 @@ line-length-spec =
     number-at-requires-2
     add-number-at-3
     number-at-requires-3
+    add-number-at-4
+    number-at-requires-4
     action-length-requires
     add-result
     add-result-2

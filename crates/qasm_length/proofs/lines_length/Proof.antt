@@ -7,6 +7,7 @@ use native.Mathlib.Omega.{arith}
 use denote.Ref.{now}
 use Rattle.qasm_text.specs.Text.{linesLength}
 use Rattle.qasm_text.specs.RecordsIn.{recordsIn}
+use Rattle.qasm_text.proofs.RecordsBack.{few-at}
 use Rattle.qasm_length.proofs.Records.{lines-more, lines-rise}
 
 abbrev Inv-loop : tie.InvT-loop
@@ -28,7 +29,7 @@ mul-line-length c =
 
 line-length-requires : tie.Need-line-length-requires Inv-loop μ-loop
 line-length-requires c κs =
-    omega arith
+    (omega arith, few-at (c .before .before .before .args .records) (now (c .before .before .before .args .output)) (c .before .before .before .pre .1) (c .before .loop .i) (omega arith))
 
 sub-if1 : tie.Need-sub-if1 Inv-loop μ-loop
 sub-if1 c =

@@ -29,7 +29,7 @@ put-header-requires c κs =
 put-lines-requires : tie.Need-put-lines-requires
 put-lines-requires c κs =
     let rs = recordsIn (c .before .before .before .before .before .before .before .before .before .before .args .records) (now (c .before .before .before .before .before .before .before .before .before .before .args .output)) in
-    (c .before .before .before .before .before .before .before .before .before .before .pre, room-next (room-whole (now (c .before .before .before .before .before .before .before .before .before .before .args .text)) (c .before .before .before .before .before .before .before .before .before .before .args .wires) (c .before .before .before .before .before .before .before .before .before .before .args .bits) rs (c .before .before .before .before .before .before .before .text-length .result) (c .before .before .before .before .before .before .before .text-length .ensures) _ (c .before .before .before .before .before .enum-told .given .1)) (c .before .before .before .put-header .ensures))
+    (c .before .before .before .before .before .before .before .before .before .before .pre .0, (c .before .before .before .before .before .before .before .before .before .before .pre .1, room-next (room-whole (now (c .before .before .before .before .before .before .before .before .before .before .args .text)) (c .before .before .before .before .before .before .before .before .before .before .args .wires) (c .before .before .before .before .before .before .before .before .before .before .args .bits) rs (c .before .before .before .before .before .before .before .text-length .result) (c .before .before .before .before .before .before .before .text-length .ensures) _ (c .before .before .before .before .before .enum-told .given .1)) (c .before .before .before .put-header .ensures)))
 
 same-length : tie.Need-same-length
 same-length c = search needs

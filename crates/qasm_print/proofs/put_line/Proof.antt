@@ -27,7 +27,7 @@ unfolding line recordAt ascii
 put-condition-requires c κs =
     let out = now (c .before .before .before .before .before .args .output) in
     let at = c .before .before .before .before .before .args .at in
-    rw (c .before .before .number-at .ensures) (room-first (actionText (actionOf (getD out at 0) (numberAt out (at + 2)) (numberAt out (at + 4)))) (room-first (ascii ";\n") (c .before .before .before .before .before .pre .1)))
+    rw (c .before .before .number-at .ensures) (room-first (actionText (actionOf (getD out at 0) (numberAt out (at + 2)) (numberAt out (at + 4)) (numberAt out (at + 8)))) (room-first (ascii ";\n") (c .before .before .before .before .before .pre .1 .1)))
 
 add-number-at-2 : tie.Need-add-number-at-2
 add-number-at-2 c = search needs
@@ -41,13 +41,19 @@ add-number-at-3 c = search needs
 number-at-requires-3 : tie.Need-number-at-requires-3
 number-at-requires-3 c κs = search needs
 
+add-number-at-4 : tie.Need-add-number-at-4
+add-number-at-4 c = search needs
+
+number-at-requires-4 : tie.Need-number-at-requires-4
+number-at-requires-4 c κs = search needs
+
 shared-slice-read-put-action : tie.Need-shared-slice-read-put-action
 shared-slice-read-put-action c = search needs
 
 put-action-requires : tie.Need-put-action-requires
 unfolding line recordAt ascii
 put-action-requires c κs =
-    rw (c .before .before .before .number-at2 .ensures, c .before .before .number-at3 .ensures) (room-next (room-first (ascii ";\n") (c .before .before .before .before .before .before .before .before .before .before .before .before .pre .1)) (rw (c .before .before .before .before .before .before .before .before .before .number-at .ensures) at (c .before .before .before .before .before .before .put-condition .ensures)))
+    (search needs, rw (c .before .before .before .before .number-at2 .ensures, c .before .before .before .number-at3 .ensures, c .before .before .number-at4 .ensures) (room-next (room-first (ascii ";\n") (c .before .before .before .before .before .before .before .before .before .before .before .before .before .pre .1 .1)) (rw (c .before .before .before .before .before .before .before .before .before .before .number-at .ensures) at (c .before .before .before .before .before .before .before .put-condition .ensures))))
 
 slice-aggregate-put : tie.Need-slice-aggregate-put
 slice-aggregate-put c = search needs
@@ -55,7 +61,7 @@ slice-aggregate-put c = search needs
 put-requires : tie.Need-put-requires
 unfolding line recordAt ascii
 put-requires c κs =
-    room-next (c .before .before .before .before .before .before .before .before .before .before .before .before .before .before .before .before .before .pre .1) (puts-both (rw (c .before .before .before .before .before .before .before .before .before .before .before .before .before .before .number-at .ensures) at (c .before .before .before .before .before .before .before .before .before .before .before .put-condition .ensures)) (rw (c .before .before .before .before .before .before .before .before .number-at2 .ensures, c .before .before .before .before .before .before .before .number-at3 .ensures) at (c .before .before .before .before .put-action .ensures)))
+    room-next (c .before .before .before .before .before .before .before .before .before .before .before .before .before .before .before .before .before .before .pre .1 .1) (puts-both (rw (c .before .before .before .before .before .before .before .before .before .before .before .before .before .before .before .number-at .ensures) at (c .before .before .before .before .before .before .before .before .before .before .before .before .put-condition .ensures)) (rw (c .before .before .before .before .before .before .before .before .before .number-at2 .ensures, c .before .before .before .before .before .before .before .before .number-at3 .ensures, c .before .before .before .before .before .before .before .number-at4 .ensures) at (c .before .before .before .before .put-action .ensures)))
 
 same-length : tie.Need-same-length
 same-length c = search needs
@@ -63,7 +69,7 @@ same-length c = search needs
 returns : tie.Need-returns
 unfolding line recordAt ascii
 returns c =
-    puts-both (puts-both (rw (c .before .before .before .before .before .before .before .before .before .before .before .before .before .before .before .before .before .number-at .ensures) at (c .before .before .before .before .before .before .before .before .before .before .before .before .before .before .put-condition .ensures)) (rw (c .before .before .before .before .before .before .before .before .before .before .before .number-at2 .ensures, c .before .before .before .before .before .before .before .before .before .before .number-at3 .ensures) at (c .before .before .before .before .before .before .before .put-action .ensures))) (c .before .before .put .ensures)
+    puts-both (puts-both (rw (c .before .before .before .before .before .before .before .before .before .before .before .before .before .before .before .before .before .before .number-at .ensures) at (c .before .before .before .before .before .before .before .before .before .before .before .before .before .before .before .put-condition .ensures)) (rw (c .before .before .before .before .before .before .before .before .before .before .before .before .number-at2 .ensures, c .before .before .before .before .before .before .before .before .before .before .before .number-at3 .ensures, c .before .before .before .before .before .before .before .before .before .before .number-at4 .ensures) at (c .before .before .before .before .before .before .before .put-action .ensures))) (c .before .before .put .ensures)
 
 pub put-line-spec : {M : Type 1} → statement M
 put-line-spec =
@@ -78,6 +84,8 @@ put-line-spec =
     number-at-requires-2
     add-number-at-3
     number-at-requires-3
+    add-number-at-4
+    number-at-requires-4
     shared-slice-read-put-action
     put-action-requires
     slice-aggregate-put

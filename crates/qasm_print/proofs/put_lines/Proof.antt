@@ -8,7 +8,7 @@ use denote.Ref.{now}
 use Rattle.language.specs.Limits.{recordSize}
 use Rattle.qasm_text.specs.Text.{line, lines}
 use Rattle.qasm_text.specs.RecordsIn.{recordAt, recordsIn}
-use Rattle.qasm_text.proofs.RecordsBack.{lines-next}
+use Rattle.qasm_text.proofs.RecordsBack.{few-at, lines-next}
 use Rattle.text_bytes.specs.Buffers.{Puts}
 use Rattle.text_bytes.proofs.Pieces.{puts-none, puts-size}
 use Rattle.qasm_print.proofs.Rows.{line-room, line-put}
@@ -33,7 +33,7 @@ mul-put-line c =
 put-line-requires : tie.Need-put-line-requires Inv-loop μ-loop
 put-line-requires c κs =
     let out = now (c .before .before .before .before .before .args .output) in
-    (omega (arith, c .before .before .before .before .before .pre .0), line-room (λ k. lines (recordsIn k out)) (λ k. line (recordAt out (recordSize * k))) (λ k. lines-next k out) (c .before .before .before .before .before .args .records) (c .before .before .loop .i) (c .before .loop-test .taken) (c .before .before .before .before .before .pre .1) (c .before .before .loop .inv .1))
+    (omega (arith, c .before .before .before .before .before .pre .0), (few-at (c .before .before .before .before .before .args .records) out (c .before .before .before .before .before .pre .1 .0) (c .before .before .loop .i) (omega arith), line-room (λ k. lines (recordsIn k out)) (λ k. line (recordAt out (recordSize * k))) (λ k. lines-next k out) (c .before .before .before .before .before .args .records) (c .before .before .loop .i) (c .before .loop-test .taken) (c .before .before .before .before .before .pre .1 .1) (c .before .before .loop .inv .1)))
 
 add-i : tie.Need-add-i Inv-loop μ-loop
 add-i c =

@@ -2,7 +2,6 @@
 use borrow.Author.Needs.{needs}
 use Rattle.qasm_print.proofs.put_qreg.Statement.{statement}
 use Rattle.qasm_print.proofs.put_qreg.Tie as tie
-use Prim.Native.Nat.{_-_}
 use denote.Ref.{now}
 use Rattle.text_bytes.specs.Decimal.{ascii, decimal}
 use Rattle.qasm_text.specs.Text.{qregLine}

@@ -11,7 +11,7 @@ use Rattle.operands.specs.Meanings.{operandsOf, theWire, theBit, WireAt, BitAt}
 use Rattle.records.specs.Outcomes.{ActionNumbers}
 use Rattle.records.proofs.Sequences.{does-end, does-stuck}
 use Rattle.language.specs.Machine.{doMeasure}
-use Rattle.language.specs.Result.{op, firstNumber, secondNumber}
+use Rattle.language.specs.Result.{op, firstNumber, secondNumber, halvingsOf}
 use Rattle.gates.specs.Gates.{frameIn}
 use Rattle.gates.proofs.GateRuns.{does-as}
 use Rattle.reset_measure.specs.Tops.{measureAt}
@@ -91,7 +91,7 @@ same-length c =
     search needs
 
 returns-2 : tie.Need-returns-2
-unfolding op firstNumber secondNumber
+unfolding op firstNumber secondNumber halvingsOf
 returns-2 c =
     let a = c .before .before .before .before .before .before .before .before .before .before .before .before .before .before .before .before .before .before .before .args in
     let l = now (a .bytes) in
@@ -109,7 +109,7 @@ returns-2 c =
     let r2 = c .before .before .before .before .before .before .before .bit-at .result in
     let w : BitAt (slice mid (a .to) l) 0 v ms r2 = subst (λ (k : ℕ). BitAt (slice mid (a .to) l) 0 (take k (now (a .vars))) ms r2) (c .before .before .before .before .before .before .before .before .before .before .before .before .before .before .before .before .wide .ensures .0) (c .before .before .before .before .before .before .before .bit-at .ensures) in
     let act = doMeasure (theWire (c .before .before .before .before .before .before .before .before .before .x .given .0 .0 .0)) (theBit (c .before .before .before .before .before .y .given .0 .0 .0)) in
-    let acts : ActionNumbers act 5 (c .before .before .before .before .before .before .before .before .before .x .given .0 .0 .0) (c .before .before .before .before .before .y .given .0 .0 .0) = record { its-code = refl; its-first = refl; its-second = refl } in
+    let acts : ActionNumbers act 5 (c .before .before .before .before .before .before .before .before .before .x .given .0 .0 .0) (c .before .before .before .before .before .y .given .0 .0 .0) 0 = record { its-code = refl; its-first = refl; its-second = refl; its-halvings = refl } in
     does-as _ _ _ _ _ run (measure-two
     (a .mode) n (a .place) l (a .from) (a .to) _ _ v ms _ mid e r u
     (c .before .before .before .before .before .before .before .before .before .x .given .0 .0) (c .before .before .before .before .before .before .before .before .before .x .given .1) r2 w

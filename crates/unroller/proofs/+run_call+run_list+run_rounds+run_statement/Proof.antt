@@ -25,4 +25,4 @@ pub +run-call+run-list+run-rounds+run-statement-spec : {M : Type 1} → statemen
     (λ t. run-rounds-lts.spec (run-rounds-calls t) (run-rounds-at t) run-rounds.Post
     (RunRounds.inmost-requires t) (RunRounds.add-past t) (RunRounds.sub-here t) (RunRounds.wide-requires t) (RunRounds.repeats-of-requires t) (RunRounds.enum-told t) (RunRounds.cast-t29 t) (RunRounds.enum-told-2 t) (RunRounds.enum-known-start t) (RunRounds.inner-requires t) (RunRounds.run-list-requires t) (RunRounds.returns t) (RunRounds.returns-2 t) (RunRounds.same-length t) (RunRounds.returns-3 t))
     (λ t. run-statement-lts.spec (run-statement-calls t) (run-statement-at t) run-statement.Post
-    (RunStatement.enter-requires t) (RunStatement.enum-known-r t) (RunStatement.returns t) (RunStatement.write-gate-requires t) (RunStatement.same-length t) (RunStatement.returns-2 t) (RunStatement.is-call-requires t) (RunStatement.run-call-requires t) (RunStatement.same-length-2 t) (RunStatement.returns-3 t) (RunStatement.run-rounds-requires t) (RunStatement.same-length-3 t) (RunStatement.returns-4 t))
+    (RunStatement.enter-requires t) (RunStatement.enum-known-r t) (RunStatement.returns t) (RunStatement.is-action-requires t) (RunStatement.act-requires t) (RunStatement.same-length t) (RunStatement.returns-2 t) (RunStatement.is-call-requires t) (RunStatement.run-call-requires t) (RunStatement.same-length-2 t) (RunStatement.returns-3 t) (RunStatement.run-rounds-requires t) (RunStatement.same-length-3 t) (RunStatement.returns-4 t))

@@ -1,8 +1,8 @@
 -- What the borrow checker leaves of `list`. Assumes nothing.
+use Prim.Native.Nat.{ℕ, _-_}
 use Rattle.check_statement.proofs.+list+one_statement+repeated.Lts-list as lts
 use Rattle.check_statement.proofs.list.Reads.{Post}
 use Rattle.check_statement.proofs.+list+one_statement+repeated.Proof.Shared.{list-calls as calls, list-at as at}
-use Prim.Native.Nat.{ℕ, _-_}
 use mathlib.Core.Path.{_≡_, refl, sym, _∙_}
 use native.Mathlib.Omega.{arith}
 use borrow.Author.Needs.{needs}

@@ -1,20 +1,20 @@
 -- What the borrow checker leaves of `one-statement`. Assumes nothing.
+use Prim.Native.Nat.{ℕ, _+_, _-_}
 use Rattle.check_statement.proofs.+list+one_statement+repeated.Lts-one_statement as lts
 use Rattle.check_statement.proofs.one_statement.Reads.{Post}
 use Rattle.check_statement.proofs.+list+one_statement+repeated.Proof.Shared.{one-statement-calls as calls, one-statement-at as at}
-use Prim.Native.Nat.{ℕ, _+_}
 use mathlib.Core.Path.{_∙_}
 use native.Mathlib.Omega.{arith}
 use borrow.Author.Needs.{needs}
 use denote.Ref.{now}
-use Rattle.language.specs.Read.{gateOf, cxOf}
-use Rattle.language.specs.Check.{checkStatement}
 use Rattle.fields.specs.Header.{fieldsAt}
 use Rattle.check_index.specs.Answers.{checkedPart}
 use Rattle.check_operand.specs.Tables.{tabulated}
 use Rattle.check_call.specs.Calls.{scopeFull, signatureAt}
+use Rattle.language.specs.Read.{gateOf, cxOf}
+use Rattle.language.specs.Check.{checkStatement}
 use Rattle.check_statement.proofs.Statements.{statement-deep, statement-acts}
-use Rattle.check_statement.specs.declared.StatementTag.the-variants.{Gate, Cx, Call, Reverse, For}
+use Rattle.check_statement.specs.declared.StatementTag.the-variants.{Gate, Cx, Phase, Cphase, Call, Reverse, For}
 use lib.Seq.{slice}
 use Rattle.check_statement.specs.declared.StatementTag.the-variants as S
 
@@ -50,7 +50,7 @@ module _ (t : ℕ) where
 
   pub one-wire-requires : lts.Need-one-wire-requires (calls t) (at t) Post
   one-wire-requires c κs =
-      (c .before .before .before .before .before .before .before .before .pre .1 .0, c .before .before .before .before .before .before .before .before .pre .1 .1 .0)
+      (c .before .before .before .before .before .before .before .before .pre .1 .0 .1, c .before .before .before .before .before .before .before .before .pre .1 .1 .0)
 
   pub enum-told-2 : lts.Need-enum-told-2 (calls t) (at t) Post
   enum-told-2 c =
@@ -58,18 +58,34 @@ module _ (t : ℕ) where
 
   pub two-wires-requires : lts.Need-two-wires-requires (calls t) (at t) Post
   two-wires-requires c κs =
-      (c .before .before .before .before .before .before .before .before .pre .1 .0, c .before .before .before .before .before .before .before .before .pre .1 .1 .0)
+      (c .before .before .before .before .before .before .before .before .pre .1 .0 .1, c .before .before .before .before .before .before .before .before .pre .1 .1 .0)
 
   pub enum-told-3 : lts.Need-enum-told-3 (calls t) (at t) Post
   enum-told-3 c =
+      search needs
+
+  pub phase-requires : lts.Need-phase-requires (calls t) (at t) Post
+  phase-requires c κs =
+      (c .before .before .before .before .before .before .before .before .pre .1 .0 .1, c .before .before .before .before .before .before .before .before .pre .1 .1 .0)
+
+  pub enum-told-4 : lts.Need-enum-told-4 (calls t) (at t) Post
+  enum-told-4 c =
+      search needs
+
+  pub cphase-requires : lts.Need-cphase-requires (calls t) (at t) Post
+  cphase-requires c κs =
+      (c .before .before .before .before .before .before .before .before .pre .1 .0 .1, c .before .before .before .before .before .before .before .before .pre .1 .1 .0)
+
+  pub enum-told-5 : lts.Need-enum-told-5 (calls t) (at t) Post
+  enum-told-5 c =
       search needs
 
   pub call-requires : lts.Need-call-requires (calls t) (at t) Post
   call-requires c κs =
       (c .before .before .before .before .before .before .before .before .pre .1 .0, (c .before .before .before .before .before .before .before .before .pre .1 .1 .0, c .before .before .before .before .before .before .before .before .pre .1 .1 .1))
 
-  pub enum-told-4 : lts.Need-enum-told-4 (calls t) (at t) Post
-  enum-told-4 c =
+  pub enum-told-6 : lts.Need-enum-told-6 (calls t) (at t) Post
+  enum-told-6 c =
       search needs
 
   pub list-requires : lts.Need-list-requires (calls t) (at t) Post
@@ -77,8 +93,8 @@ module _ (t : ℕ) where
       let z = c .before .before .before .if1 .left in
       (omega (arith, c .before .before .before .before .before .before .pre .0), (c .before .before .before .before .before .before .pre .1 .0 .1, (c .before .before .before .before .before .before .pre .1 .1 .0, c .before .before .before .before .before .before .pre .1 .1 .1)))
 
-  pub enum-told-5 : lts.Need-enum-told-5 (calls t) (at t) Post
-  enum-told-5 c =
+  pub enum-told-7 : lts.Need-enum-told-7 (calls t) (at t) Post
+  enum-told-7 c =
       search needs
 
   pub repeated-requires : lts.Need-repeated-requires (calls t) (at t) Post
@@ -86,8 +102,8 @@ module _ (t : ℕ) where
       let z = c .before .before .before .if1 .left in
       (omega (arith, c .before .before .before .before .before .before .pre .0), (c .before .before .before .before .before .before .pre .1 .0, (c .before .before .before .before .before .before .pre .1 .1 .0, c .before .before .before .before .before .before .pre .1 .1 .1)))
 
-  pub enum-told-6 : lts.Need-enum-told-6 (calls t) (at t) Post
-  enum-told-6 c =
+  pub enum-told-8 : lts.Need-enum-told-8 (calls t) (at t) Post
+  enum-told-8 c =
       search needs
 
   pub returns-2 : lts.Need-returns-2 (calls t) (at t) Post
@@ -109,36 +125,54 @@ module _ (t : ℕ) where
       c .two-wires .ensures fs ∙ statement-acts (a .levels) (a .at) (a .tag) (a .next) program s Cx (c .before .before .before .before .before .before .if1 .left) (c .before .before .before .before .before .statement-tag .result) (c .before .before .before .before .before .statement-tag .ensures) (c .before .before .before .enum-told2 .given .1)
 
   pub returns-4 : lts.Need-returns-4 (calls t) (at t) Post
+  unfolding fieldsAt
   returns-4 c =
       let a = c .before .before .before .before .before .before .before .before .before .args in
       let program = now (a .program) in
       let s = scopeFull (a .s) (now (a .families)) (now (a .kinds)) (now (a .sizes)) (now (a .lows)) (now (a .highs)) in
       let fs = tabulated (signatureAt (now (a .families)) (now (a .kinds)) (now (a .sizes))) (a .s .families) 0 in
-      c .call .ensures ∙ statement-acts (a .levels) (a .at) (a .tag) (a .next) program s Call (c .before .before .before .before .before .before .if1 .left) (c .before .before .before .before .before .statement-tag .result) (c .before .before .before .before .before .statement-tag .ensures) (c .before .before .before .enum-told3 .given .1)
+      c .phase .ensures fs ∙ statement-acts (a .levels) (a .at) (a .tag) (a .next) program s Phase (c .before .before .before .before .before .before .if1 .left) (c .before .before .before .before .before .statement-tag .result) (c .before .before .before .before .before .statement-tag .ensures) (c .before .before .before .enum-told3 .given .1)
 
   pub returns-5 : lts.Need-returns-5 (calls t) (at t) Post
-  unfolding checkStatement fieldsAt
+  unfolding fieldsAt
   returns-5 c =
-      let a = c .before .before .before .before .before .before .before .args in
+      let a = c .before .before .before .before .before .before .before .before .before .args in
       let program = now (a .program) in
       let s = scopeFull (a .s) (now (a .families)) (now (a .kinds)) (now (a .sizes)) (now (a .lows)) (now (a .highs)) in
       let fs = tabulated (signatureAt (now (a .families)) (now (a .kinds)) (now (a .sizes))) (a .s .families) 0 in
-      c .list .ensures ∙ statement-acts (a .levels) (a .at) (a .tag) (a .next) program s Reverse (c .before .before .before .before .if1 .left) (c .before .before .before .statement-tag .result) (c .before .before .before .statement-tag .ensures) (c .before .enum-told4 .given .1)
+      c .cphase .ensures fs ∙ statement-acts (a .levels) (a .at) (a .tag) (a .next) program s Cphase (c .before .before .before .before .before .before .if1 .left) (c .before .before .before .before .before .statement-tag .result) (c .before .before .before .before .before .statement-tag .ensures) (c .before .before .before .enum-told4 .given .1)
 
   pub returns-6 : lts.Need-returns-6 (calls t) (at t) Post
-  unfolding fieldsAt
   returns-6 c =
+      let a = c .before .before .before .before .before .before .before .before .before .args in
+      let program = now (a .program) in
+      let s = scopeFull (a .s) (now (a .families)) (now (a .kinds)) (now (a .sizes)) (now (a .lows)) (now (a .highs)) in
+      let fs = tabulated (signatureAt (now (a .families)) (now (a .kinds)) (now (a .sizes))) (a .s .families) 0 in
+      c .call .ensures ∙ statement-acts (a .levels) (a .at) (a .tag) (a .next) program s Call (c .before .before .before .before .before .before .if1 .left) (c .before .before .before .before .before .statement-tag .result) (c .before .before .before .before .before .statement-tag .ensures) (c .before .before .before .enum-told5 .given .1)
+
+  pub returns-7 : lts.Need-returns-7 (calls t) (at t) Post
+  unfolding checkStatement fieldsAt
+  returns-7 c =
       let a = c .before .before .before .before .before .before .before .args in
       let program = now (a .program) in
       let s = scopeFull (a .s) (now (a .families)) (now (a .kinds)) (now (a .sizes)) (now (a .lows)) (now (a .highs)) in
       let fs = tabulated (signatureAt (now (a .families)) (now (a .kinds)) (now (a .sizes))) (a .s .families) 0 in
-      c .repeated .ensures ∙ statement-acts (a .levels) (a .at) (a .tag) (a .next) program s For (c .before .before .before .before .if1 .left) (c .before .before .before .statement-tag .result) (c .before .before .before .statement-tag .ensures) (c .before .enum-told5 .given .1)
+      c .list .ensures ∙ statement-acts (a .levels) (a .at) (a .tag) (a .next) program s Reverse (c .before .before .before .before .if1 .left) (c .before .before .before .statement-tag .result) (c .before .before .before .statement-tag .ensures) (c .before .enum-told6 .given .1)
 
-  pub returns-7 : lts.Need-returns-7 (calls t) (at t) Post
+  pub returns-8 : lts.Need-returns-8 (calls t) (at t) Post
+  unfolding fieldsAt
+  returns-8 c =
+      let a = c .before .before .before .before .before .before .before .args in
+      let program = now (a .program) in
+      let s = scopeFull (a .s) (now (a .families)) (now (a .kinds)) (now (a .sizes)) (now (a .lows)) (now (a .highs)) in
+      let fs = tabulated (signatureAt (now (a .families)) (now (a .kinds)) (now (a .sizes))) (a .s .families) 0 in
+      c .repeated .ensures ∙ statement-acts (a .levels) (a .at) (a .tag) (a .next) program s For (c .before .before .before .before .if1 .left) (c .before .before .before .statement-tag .result) (c .before .before .before .statement-tag .ensures) (c .before .enum-told7 .given .1)
+
+  pub returns-9 : lts.Need-returns-9 (calls t) (at t) Post
   unfolding checkedPart checkStatement
-  returns-7 c =
+  returns-9 c =
       let a = c .before .before .before .before .before .before .args in
       let program = now (a .program) in
       let s = scopeFull (a .s) (now (a .families)) (now (a .kinds)) (now (a .sizes)) (now (a .lows)) (now (a .highs)) in
       let fs = tabulated (signatureAt (now (a .families)) (now (a .kinds)) (now (a .sizes))) (a .s .families) 0 in
-      statement-acts (a .levels) (a .at) (a .tag) (a .next) program s S.Other (c .before .before .before .if1 .left) (c .before .before .statement-tag .result) (c .before .before .statement-tag .ensures) (c .enum-told6 .given .1)
+      statement-acts (a .levels) (a .at) (a .tag) (a .next) program s S.Other (c .before .before .before .if1 .left) (c .before .before .statement-tag .result) (c .before .before .statement-tag .ensures) (c .enum-told8 .given .1)

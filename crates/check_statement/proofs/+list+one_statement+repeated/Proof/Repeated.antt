@@ -1,8 +1,8 @@
 -- What the borrow checker leaves of `repeated`. Assumes nothing.
+use Prim.Native.Nat.{ℕ, _+_, _-_, _<_}
 use Rattle.check_statement.proofs.+list+one_statement+repeated.Lts-repeated as lts
 use Rattle.check_statement.proofs.repeated.Reads.{Post}
 use Rattle.check_statement.proofs.+list+one_statement+repeated.Proof.Shared.{repeated-calls as calls, repeated-at as at}
-use Prim.Native.Nat.{ℕ, _+_, _<_}
 use mathlib.Core.Path.{_∙_, ap}
 use native.Mathlib.Omega.{arith}
 use borrow.Author.Needs.{needs}

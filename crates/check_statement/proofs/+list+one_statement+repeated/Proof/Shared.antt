@@ -1,5 +1,5 @@
 -- The measures of the cycle, and what each member is given and asks at a measure. Assumes nothing.
-use Prim.Native.Nat.{ℕ, _+_, _*_, _<_}
+use Prim.Native.Nat.{ℕ, _<_, _+_, _*_, _-_}
 use borrow.Fn.Kinds.{In}
 use borrow.Fn.PlainCycle.{Measures, is, falls, and}
 use Rattle.check_statement.proofs.list.Reads as list
@@ -14,6 +14,8 @@ use Rattle.check_statement.proofs.+list+one_statement+repeated.Lts-repe
 use Rattle.check_call.proofs.call.Reads as call-reads
 use Rattle.check_operand.proofs.one_wire.Reads as one-wire-reads
 use Rattle.check_operand.proofs.two_wires.Reads as two-wires-reads
+use Rattle.check_phase.proofs.cphase.Reads as cphase-reads
+use Rattle.check_phase.proofs.phase.Reads as phase-reads
 use Rattle.check_statement.proofs.loop_bounds.Reads as loop-bounds-reads
 use Rattle.check_statement.proofs.statement_tag.Reads as statement-tag-reads
 use Rattle.check_statement.proofs.too_deep.Reads as too-deep-reads
@@ -59,7 +61,7 @@ list-calls t = (header-at-reads.Asked, header-at-reads.Learnt, one-statement-bel
 
 -- what the calls of `one-statement` ask and tell
 abbrev pub one-statement-calls : ℕ → one-statement-lts.Claims
-one-statement-calls t = (too-deep-reads.Asked, too-deep-reads.Learnt, statement-tag-reads.Asked, statement-tag-reads.Learnt, one-wire-reads.Asked, one-wire-reads.Learnt, two-wires-reads.Asked, two-wires-reads.Learnt, call-reads.Asked, call-reads.Learnt, list-below t, list.Post, repeated-below t, repeated.Post)
+one-statement-calls t = (too-deep-reads.Asked, too-deep-reads.Learnt, statement-tag-reads.Asked, statement-tag-reads.Learnt, one-wire-reads.Asked, one-wire-reads.Learnt, two-wires-reads.Asked, two-wires-reads.Learnt, phase-reads.Asked, phase-reads.Learnt, cphase-reads.Asked, cphase-reads.Learnt, call-reads.Asked, call-reads.Learnt, list-below t, list.Post, repeated-below t, repeated.Post)
 
 -- what the calls of `repeated` ask and tell
 abbrev pub repeated-calls : ℕ → repeated-lts.Claims

@@ -1,14 +1,16 @@
 -- What the borrow checker leaves of `run-list`. Assumes nothing.
-use Prim.Native.Nat.{ℕ}
+use Prim.Native.Nat.{ℕ, _-_, _+_, _*_}
 use Rattle.unroller.proofs.+run_call+run_list+run_rounds+run_statement.Lts-run_list as lts
 use Rattle.unroller.proofs.run_list.Reads.{Post}
 use Rattle.unroller.proofs.+run_call+run_list+run_rounds+run_statement.Proof.Shared.{run-list-calls as calls, run-list-at as at}
-use Prim.Native.Nat.{_+_, _-_, _*_}
-use mathlib.Core.Path.{_≡_, sym, ap, _∙_, subst}
+use mathlib.Core.Path.{_≡_, ap, _∙_, sym, subst}
 use native.Mathlib.Omega.{arith}
 use borrow.Author.Needs.{needs}
 use denote.Ref.{now}
 use lib.ListN.{length, take}
+use Rattle.gates.specs.Gates.{frameIn}
+use Rattle.gates.proofs.GateRuns.{does-as}
+use Rattle.unroller.specs.Runs.{Often, timesRun, keptIn}
 use lib.IntN.{ℤ}
 use mir.Syntax.{w64}
 use mir.Val.{toZ, ofZ}
@@ -16,19 +18,16 @@ use mir.ValLaws.{toZ-ofZ}
 use Rattle.fields.specs.declared.Header.the-variants.{Whole}
 use Rattle.fields.specs.Header.{fieldsAt, headerOf}
 use Rattle.field_walk.specs.Walks.{wholeOf}
-use Rattle.gates.specs.Gates.{frameIn}
-use Rattle.gates.proofs.GateRuns.{does-as}
-use Rattle.unroller.specs.Runs.{Often, timesRun, keptIn}
 use Rattle.unroller.proofs.Walks.{next-within}
 use Rattle.unroller.proofs.Rounds.{round-turns, kept-still}
 use Rattle.unroller.proofs.ListLoop as M
 
 abbrev pub Inv-loop : lts.InvT-loop
-Inv-loop p base from to place start total looping vars₀ scope regs program table mode out₀ reversed cuts₀ w₀ i₀ s₀ vars out cuts w i s =
-    M.Midway looping mode base from to place (toZ w64 start) total p program vars₀ scope regs out₀ s₀ vars out cuts w i s
+Inv-loop bytes base from to place start total looping vars₀ scope regs program table mode out₀ reversed cuts₀ w₀ i₀ s₀ vars out cuts w i s =
+    M.Midway looping mode base from to place (toZ w64 start) total bytes program vars₀ scope regs out₀ s₀ vars out cuts w i s
 
 abbrev pub μ-loop : lts.MeasureT-loop
-μ-loop p base from to place start total looping vars₀ scope regs program table mode out₀ reversed cuts₀ w₀ i₀ s₀ vars out cuts w i s =
+μ-loop bytes base from to place start total looping vars₀ scope regs program table mode out₀ reversed cuts₀ w₀ i₀ s₀ vars out cuts w i s =
     (total - i) * 65536 + (w .to - w .at)
 
 module _ (t : ℕ) where

@@ -1,21 +1,20 @@
 -- What the borrow checker leaves of `run-rounds`. Assumes nothing.
-use Prim.Native.Nat.{ℕ}
+use Prim.Native.Nat.{ℕ, _-_, _+_}
 use Rattle.unroller.proofs.+run_call+run_list+run_rounds+run_statement.Lts-run_rounds as lts
 use Rattle.unroller.proofs.run_rounds.Reads.{Post}
 use Rattle.unroller.proofs.+run_call+run_list+run_rounds+run_statement.Proof.Shared.{run-rounds-calls as calls, run-rounds-at as at}
-use Prim.Native.Nat.{_+_, _-_}
 use mathlib.Core.Path.{_≡_, refl}
 use native.Mathlib.Omega.{arith}
 use borrow.Author.Needs.{needs}
 use denote.Ref.{now}
 use lib.ListN.{length, take}
 use lib.Seq.{slice}
-use Rattle.language.proofs.Integers.{range-back}
 use Rattle.records.proofs.Sequences.{does-end, does-stuck, step-taken}
 use Rattle.gates.specs.Gates.{frameIn, Repeated, innerOf}
 use Rattle.gates.proofs.GateRuns.{does-as}
 use Rattle.calls.proofs.FamilyTable.{tabled-fewer}
 use Rattle.unroller.specs.Runs.{oneRun}
+use Rattle.language.proofs.Integers.{range-back}
 use Rattle.unroller.proofs.Loops.{inner-seen, inner-few, inner-stays, loop-over, loop-stuck, loop-opens}
 use Rattle.unroller.proofs.InnerReverses.{inside-does, inside-stays}
 

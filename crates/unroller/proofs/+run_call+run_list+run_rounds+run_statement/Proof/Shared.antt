@@ -1,5 +1,5 @@
 -- The measures of the cycle, and what each member is given and asks at a measure. Assumes nothing.
-use Prim.Native.Nat.{ℕ, _<_, _+_, _-_, _*_}
+use Prim.Native.Nat.{ℕ, _<_, _-_, _+_, _*_}
 use borrow.Fn.Kinds.{In}
 use borrow.Fn.PlainCycle.{Measures, is, falls, and}
 use Rattle.unroller.proofs.run_call.Reads as run-call
@@ -29,7 +29,8 @@ use Rattle.gates.proofs.enter.Reads as enter-reads
 use Rattle.gates.proofs.entered.Reads as entered-reads
 use Rattle.gates.proofs.inner.Reads as inner-reads
 use Rattle.gates.proofs.repeats_of.Reads as repeats-of-reads
-use Rattle.gates.proofs.write_gate.Reads as write-gate-reads
+use Rattle.phases.proofs.act.Reads as act-reads
+use Rattle.phases.proofs.is_action.Reads as is-action-reads
 use Rattle.unroller.proofs.begin_round.Reads as begin-round-reads
 use Rattle.unroller.proofs.inmost.Reads as inmost-reads
 use Rattle.unroller.proofs.listed.Reads as listed-reads
@@ -92,4 +93,4 @@ run-rounds-calls t = (inmost-reads.Asked, inmost-reads.Learnt, wide-reads.Asked,
 
 -- what the calls of `run-statement` ask and tell
 abbrev pub run-statement-calls : ℕ → run-statement-lts.Claims
-run-statement-calls t = (enter-reads.Asked, enter-reads.Learnt, write-gate-reads.Asked, write-gate-reads.Learnt, is-call-reads.Asked, is-call-reads.Learnt, run-call-below t, run-call.Post, run-rounds-below t, run-rounds.Post)
+run-statement-calls t = (enter-reads.Asked, enter-reads.Learnt, is-action-reads.Asked, is-action-reads.Learnt, act-reads.Asked, act-reads.Learnt, is-call-reads.Asked, is-call-reads.Learnt, run-call-below t, run-call.Post, run-rounds-below t, run-rounds.Post)

@@ -1,7 +1,7 @@
--- `records::put` meets its contract. Assumes nothing.
+-- `records::put_numbers` meets its contract. Assumes nothing.
 use borrow.Author.Needs.{needs}
-use Rattle.records.proofs.put.Statement.{statement}
-use Rattle.records.proofs.put.Tie as tie
+use Rattle.records.proofs.put_numbers.Statement.{statement}
+use Rattle.records.proofs.put_numbers.Tie as tie
 use mathlib.Core.List.{_∷_, []}
 use mathlib.Core.Path.{_∙_}
 use native.Mathlib.Omega.{arith}
@@ -103,8 +103,8 @@ returns c =
     let a = c .before .before .before .before .before .before .before .args in
     stores (now (a .out)) (a .at) _ _ _ _ _ _ _ _ ∙ (λ j. sets (now (a .out)) (a .at) (a .op ∷ a .kind ∷ c .before .before .before .before .before .low .ensures j ∷ c .before .before .before .before .high .ensures j ∷ c .before .before .before .low2 .ensures j ∷ c .before .before .high2 .ensures j ∷ c .before .low3 .ensures j ∷ c .high3 .ensures j ∷ []))
 
-pub put-spec : {M : Type 1} → statement M
-put-spec =
+pub put-numbers-spec : {M : Type 1} → statement M
+put-numbers-spec =
     tie.close
     (tie.spec
     slice-write-out

@@ -1,0 +1,2 @@
+-- The definitions of crate check_phase, file by file.
+pub mod Phases

@@ -1,0 +1,2 @@
+-- The definitions of crate phases, file by file.
+pub mod Phases
