@@ -38,6 +38,11 @@
  *   - Limit, for programs that may be written to be slow: the longest that you would wait, divided by 0.1 microseconds and
  *     3 ns more for each byte of the program. For 1 s these are some 300,000 steps at 1,000 bytes and 5,000 at 65,535.
  *     (1,000,000 steps may take 200 s there.)
+ *
+ * Coming from 1.2: a record takes 12 bytes and no longer 8, whatever its operation, and so an output holds two thirds of the
+ * records that it held. Build the host anew with this header, go through lists by METAQASM_RECORD_BYTES, and be ready for four
+ * more operations and for the number 32. The line of a record takes up to 64 bytes of a text and no longer 45. Bytes 0 to 7 of
+ * a record are what they were, and so are the texts of programs without phases.
  */
 #ifndef METAQASM_H
 #define METAQASM_H
@@ -50,7 +55,7 @@ extern "C" {
 #endif
 
 /* The version of this header and of the archive that is built beside it. */
-#define METAQASM_VERSION "1.2.0"
+#define METAQASM_VERSION "1.3.0"
 
 /* The stack that a call needs at most, in KiB, for every program within the limits and beside what the host has in use there;
  * and what a check alone needs. On less, a deep program may end the process at the guard page below the stack. (The first
@@ -74,15 +79,19 @@ extern "C" {
 #define METAQASM_MOST_INDEX 2000000000   /* of an index, above 0 and below */
 #define METAQASM_MOST_SIZE 65535         /* of an index variable that an instance is asked for */
 
+/* The largest k of a phase, whose angle is one turn divided by 2 to the k. A program with a larger one is accepted, and a run
+ * that comes to it ends with 32. */
+#define METAQASM_MOST_K 63
+
 /* How many bytes a size takes, and how many a record. */
 #define METAQASM_SIZE_BYTES 4
-#define METAQASM_RECORD_BYTES 8
+#define METAQASM_RECORD_BYTES 12
 
 /* How many bytes a text takes at most: the lines before the bits and records, the line of a bit, and that of a record. So many
  * are always enough, and that is proved. */
 #define METAQASM_MOST_HEAD_BYTES 51
 #define METAQASM_MOST_BIT_LINE_BYTES 16
-#define METAQASM_MOST_RECORD_LINE_BYTES 45
+#define METAQASM_MOST_RECORD_LINE_BYTES 64
 #define METAQASM_TEXT_BYTES(records, bits) \
     (METAQASM_MOST_HEAD_BYTES + METAQASM_MOST_BIT_LINE_BYTES * (size_t)(bits) + \
      METAQASM_MOST_RECORD_LINE_BYTES * (size_t)(records))
@@ -99,6 +108,7 @@ extern "C" {
  *   30        from a call that prints a text: the list is complete, and its text does not fit. The output holds the list,
  *             and records and steps count it.
  *   31        from every call: the program is refused, as with 1 to 13
+ *   32        from an instance or a run: it has ended early, as with 24 to 27
  *
  * A call that prints a text answers as an instance or a run does, and with 30 after all else. Where its number is not 0, the
  * text is as it was. */
@@ -125,9 +135,9 @@ static inline const char *metaqasm_message(uint32_t number)
 /* The answer of a call.
  *
  * number   0: done. Otherwise the program or the call is turned down, or the run has ended early (see above)
- * place    the offset in the program of the tag that the number is about: for 24 to 27 that of the statement (or, where a
- *          parameter's size is out of range, of its type), for 23 that of the type; 0 where the number is 0, 20 to 22 or 30
- * records  how many 8-byte records are written
+ * place    the offset in the program of the tag that the number is about: for 24 to 27 and 32 that of the statement (or, where
+ *          a parameter's size is out of range, of its type), for 23 that of the type; 0 where the number is 0, 20 to 22 or 30
+ * records  how many 12-byte records are written
  * steps    how many steps are taken
  */
 typedef struct {
@@ -143,24 +153,31 @@ typedef struct {
  * program  the program's bytes; NULL is allowed where program_len is 0 (the empty program, which is accepted) */
 metaqasm_result metaqasm_check(const uint8_t *program, size_t program_len);
 
-/* The gate list that instance and run write is a row of records of 8 bytes each, from the output's first byte on. Two-byte
+/* The gate list that instance and run write is a row of records of 12 bytes each, from the output's first byte on. Two-byte
  * numbers have their low byte first, and what an operation does not use is 0:
  *
- *   byte 0       the operation: one of METAQASM_OP_H to METAQASM_OP_RESET
- *   byte 1       the condition: one of METAQASM_ALWAYS to METAQASM_IF_1
- *   bytes 2, 3   the first number: the wire (for cx the control)
- *   bytes 4, 5   the second number: for cx the target wire, for measure the bit that is written
- *   bytes 6, 7   the condition bit, where there is a condition
+ *   byte 0         the operation: one of METAQASM_OP_H to METAQASM_OP_CPHASEDG
+ *   byte 1         the condition: one of METAQASM_ALWAYS to METAQASM_IF_1
+ *   bytes 2, 3     the first number: the wire, or the first of two (for cx the control)
+ *   bytes 4, 5     the second number: the second of two wires (for cx the target), or for measure the bit that is written
+ *   bytes 6, 7     the condition bit, where there is a condition
+ *   bytes 8, 9     k, for the four operations from METAQASM_OP_PHASE on: 0 to METAQASM_MOST_K
+ *   bytes 10, 11   0
  *
- * Wires and bits are numbered separately, each from 0. The result says how many records there are; the output's bytes past
- * them are left as they were. Each statement entered takes one step, and each round of a loop one more. */
+ * A phase multiplies by exp(2 pi i / 2^k) where its wire is 1, a cphase where both its wires are; an inverse multiplies by
+ * exp(-2 pi i / 2^k). Wires and bits are numbered separately, each from 0. The result says how many records there are; the
+ * output's bytes past them are left as they were. Each statement entered takes one step, and each round of a loop one more. */
 enum metaqasm_op {
     METAQASM_OP_H = 1,
     METAQASM_OP_T = 2,
     METAQASM_OP_TDG = 3,
     METAQASM_OP_CX = 4,
     METAQASM_OP_MEASURE = 5,
-    METAQASM_OP_RESET = 6
+    METAQASM_OP_RESET = 6,
+    METAQASM_OP_PHASE = 7,
+    METAQASM_OP_PHASEDG = 8, /* the inverse of phase */
+    METAQASM_OP_CPHASE = 9,
+    METAQASM_OP_CPHASEDG = 10 /* the inverse of cphase */
 };
 
 enum metaqasm_condition {
@@ -203,6 +220,8 @@ metaqasm_result metaqasm_run(const uint8_t *program, size_t program_len, uint64_
  *   cx q[0],q[1];           the control, then the target
  *   measure q[0] -> c1[0];
  *   reset q[0];
+ *   u1(2*pi/8) q[0];        a phase with k = 3; its inverse is u1(-2*pi/8) q[0];
+ *   cu1(2*pi/4) q[1],q[0];  a cphase with k = 2; its inverse is cu1(-2*pi/4) q[1],q[0];
  *   if(c1==1) h q[2];       a record with a condition
  *
  * An instance lays out the wires of its parameters and no bits, and a run all qubits and bits that the program declares.

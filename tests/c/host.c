@@ -1,6 +1,6 @@
-/* A host: takes a guest's program, the paper's adder, copies it, checks it, and prints three instances and the whole run as
- * lists of gates. After the check the guest changes its own bytes, and the lists stay what they are.
- * Run it from the repository's root; it compares the lists with those in examples. */
+/* A host: takes a guest's program, copies it, checks it, and prints instances and the whole run as lists of gates; first with
+ * the paper's adder, then with the Fourier transform. After the check the guest changes its own bytes, and the lists stay what
+ * they are. Run it from the repository's root; it compares the lists with those in examples. */
 #include "expect.h"
 #include "load.h"
 #include <metaqasm.h>
@@ -19,12 +19,22 @@ typedef struct {
 } question;
 
 /* The families of the adder: 0 toffoli, 1 maj, 2 add with the index variable n. */
-static const question questions[] = {
+static const question adder[] = {
     {"toffoli", 0, {0}, 0, 16, NULL},
     {"add at n = 0", 2, {0, 0, 0, 0}, 4, 18, "examples/adder.n0.list"},
     {"add at n = 1", 2, {1, 0, 0, 0}, 4, 55, "examples/adder.n1.list"},
     {NULL, 0, {0}, 0, 92, "examples/adder.list"},
 };
+
+/* The families of the Fourier transform: 0 qft, 1 unqft, 2 add and 3 sub with the index variable n. */
+static const question fourier[] = {
+    {"qft at n = 3", 0, {3, 0, 0, 0}, 4, 6, "examples/qft.n3.list"},
+    {"unqft at n = 3", 1, {3, 0, 0, 0}, 4, 6, "examples/qft.unqft.n3.list"},
+    {"sub at n = 2", 3, {2, 0, 0, 0}, 4, 9, "examples/qft.sub.n2.list"},
+    {NULL, 0, {0}, 0, 15, "examples/qft.list"},
+};
+
+#define COUNT(list) (sizeof(list) / sizeof((list)[0]))
 
 /* The two-byte number at a place, low byte first. */
 static unsigned two(const uint8_t *bytes)
@@ -32,20 +42,43 @@ static unsigned two(const uint8_t *bytes)
     return bytes[0] | (unsigned)bytes[1] << 8;
 }
 
+/* An operation's word in a list, whether it has a k, and whether it has a second number. */
+typedef struct {
+    const char *word;
+    int has_k;
+    int has_second;
+} operation;
+
+static const operation operations[] = {
+    [METAQASM_OP_H] = {"h", 0, 0},
+    [METAQASM_OP_T] = {"t", 0, 0},
+    [METAQASM_OP_TDG] = {"tdg", 0, 0},
+    [METAQASM_OP_CX] = {"cx", 0, 1},
+    [METAQASM_OP_MEASURE] = {"measure", 0, 1},
+    [METAQASM_OP_RESET] = {"reset", 0, 0},
+    [METAQASM_OP_PHASE] = {"phase", 1, 0},
+    [METAQASM_OP_PHASEDG] = {"phasedg", 1, 0},
+    [METAQASM_OP_CPHASE] = {"cphase", 1, 1},
+    [METAQASM_OP_CPHASEDG] = {"cphasedg", 1, 1},
+};
+
 /* Writes the line of one record. */
 static int line(char *text, size_t room, const uint8_t *record)
 {
-    static const char *const names[] = {"?", "h", "t", "tdg", "cx", "measure", "reset"};
-    const char *name = names[record[0] <= METAQASM_OP_RESET ? record[0] : 0];
-    char condition[32] = "";
+    static const operation unknown = {"?", 0, 0};
+    const operation *op = record[0] > 0 && record[0] < COUNT(operations) ? &operations[record[0]] : &unknown;
+    char condition[32] = "", k[8] = "", second[8] = "";
 
     if (record[1] != METAQASM_ALWAYS) {
         snprintf(condition, sizeof condition, "if %u %d ", two(record + 6), record[1] - METAQASM_IF_0);
     }
-    if (record[0] == METAQASM_OP_CX || record[0] == METAQASM_OP_MEASURE) {
-        return snprintf(text, room, "%s%s %u %u\n", condition, name, two(record + 2), two(record + 4));
+    if (op->has_k) {
+        snprintf(k, sizeof k, " %u", two(record + 8));
     }
-    return snprintf(text, room, "%s%s %u\n", condition, name, two(record + 2));
+    if (op->has_second) {
+        snprintf(second, sizeof second, " %u", two(record + 4));
+    }
+    return snprintf(text, room, "%s%s%s %u%s\n", condition, op->word, k, two(record + 2), second);
 }
 
 /* Writes a line for each record, then the line of the result. */
@@ -126,8 +159,8 @@ static int is(metaqasm_result result, uint32_t number, uint32_t place, uint64_t 
 static void refusals(const uint8_t *program, size_t length)
 {
     static const uint8_t zero[4] = {0};
-    static const uint8_t first_two[16] = {4, 0, 0, 0, 2, 0, 0, 0, 4, 0, 1, 0, 2, 0, 0, 0};
-    uint8_t output[32];
+    static const uint8_t first_two[][METAQASM_RECORD_BYTES] = {{METAQASM_OP_CX, 0, 0, 0, 2}, {METAQASM_OP_CX, 0, 1, 0, 2}};
+    uint8_t output[sizeof first_two + 16];
     metaqasm_result result;
 
     memset(output, 0xA5, sizeof output);
@@ -137,11 +170,12 @@ static void refusals(const uint8_t *program, size_t length)
     result = metaqasm_instance(program, length, 2, zero, 0, 1000000, output, sizeof output);
     expect(is(result, METAQASM_WRONG_SIZES_LENGTH, 0, 0, 0) && all(output, sizeof output, 0xA5), "add without n",
            "21 and an untouched output");
-    /* 20 bytes hold two records: both cx of add; the third is due at the h of toffoli, whose tag is at 14. */
-    result = metaqasm_instance(program, length, 2, zero, 4, 1000000, output, 20);
-    expect(is(result, METAQASM_OUTPUT_FULL, 14, 2, 4), "add into 20 bytes", "27 at place 14 with 2 records and 4 steps");
-    expect(memcmp(output, first_two, sizeof first_two) == 0, "add into 20 bytes", "the first two records");
-    expect(all(output + 16, sizeof output - 16, 0xA5), "add into 20 bytes", "untouched bytes past the records");
+    /* 30 bytes hold two records: both cx of add; the third is due at the h of toffoli, whose tag is at 14. */
+    result = metaqasm_instance(program, length, 2, zero, 4, 1000000, output, 30);
+    expect(is(result, METAQASM_OUTPUT_FULL, 14, 2, 4), "add into 30 bytes", "27 at place 14 with 2 records and 4 steps");
+    expect(memcmp(output, first_two, sizeof first_two) == 0, "add into 30 bytes", "the first two records");
+    expect(all(output + sizeof first_two, sizeof output - sizeof first_two, 0xA5), "add into 30 bytes",
+           "untouched bytes past the records");
 }
 
 /* A guest's bytes, which the guest may change at any time, and the host's own copy of them. */
@@ -170,23 +204,34 @@ static void guest_changes(arrival *program)
     memset(program->guests, 0xFF, program->length);
 }
 
-int main(void)
+/* Serves a guest: takes the program, checks it, and answers the questions; the answer is 0 for one that is not accepted. */
+static int serve(arrival *program, const char *path, const question *questions, size_t count)
 {
-    static arrival program;
     metaqasm_result result;
     size_t i;
 
-    if (!take(&program, "examples/adder.bytes")) {
-        return closed();
+    if (!take(program, path)) {
+        return 0;
     }
-    result = metaqasm_check(program.own, program.length);
-    printf("the check: %s\n\n", metaqasm_message(result.number));
-    if (expect(is(result, METAQASM_DONE, 0, 0, 0), "adder", "a program that is accepted")) {
-        guest_changes(&program);
-        for (i = 0; i < sizeof questions / sizeof questions[0]; i++) {
-            answer(&questions[i], program.own, program.length);
-        }
+    result = metaqasm_check(program->own, program->length);
+    printf("%s: the check: %s\n\n", path, metaqasm_message(result.number));
+    if (!expect(is(result, METAQASM_DONE, 0, 0, 0), path, "a program that is accepted")) {
+        return 0;
+    }
+    guest_changes(program);
+    for (i = 0; i < count; i++) {
+        answer(&questions[i], program->own, program->length);
+    }
+    return 1;
+}
+
+int main(void)
+{
+    static arrival program;
+
+    if (serve(&program, "examples/adder.bytes", adder, COUNT(adder))) {
         refusals(program.own, program.length);
     }
+    serve(&program, "examples/qft.bytes", fourier, COUNT(fourier));
     return closed();
 }

@@ -3,6 +3,8 @@
 #include <metaqasm.h>
 #include <string.h>
 
+#define ROOM (2 * METAQASM_RECORD_BYTES) /* the output of a call: two records */
+
 /* Which call is made. */
 enum call { CHECK, INSTANCE, RUN, RUN_TEXT };
 
@@ -51,6 +53,8 @@ static const uint8_t unshown[] = {1, 21, 0, 1, 1, 17, 4, 0, 65, 1, 0, 0, 32, 9, 
 static const uint8_t is_2[] = {3, 2, 0, 1, 0, 6, 10, 0, 2, 49, 6, 0, 0, 64, 2, 0, 0, 0};
 /* a call of family 255 by a two-byte number */
 static const uint8_t low_number[] = {39, 2, 0, 255, 0};
+/* a qreg of 1, and a phase on its wire whose k is 64 */
+static const uint8_t k_64[] = {2, 2, 0, 1, 0, 40, 14, 0, 64, 2, 0, 64, 0, 49, 6, 0, 0, 64, 2, 0, 0, 0};
 /* a family of n with two parameters Qbit[n] */
 static const uint8_t pair[] = {1, 16, 0, 1, 2, 17, 4, 0, 65, 1, 0, 0, 17, 4, 0, 65, 1, 0, 0};
 /* a family of n with a parameter Qbit[n * 40000] */
@@ -72,15 +76,15 @@ static const uint8_t past_largest[] = {0, 0, 1, 0};
 #define CHECKED(bytes, name, value, place) \
     {CHECK, bytes, sizeof bytes, NULL, 0, 0, 0, 0, METAQASM_##name, value, place}
 #define ASKED(bytes, sizes, sizes_len, name, value, place) \
-    {INSTANCE, bytes, sizeof bytes, sizes, sizes_len, 9, 16, 0, METAQASM_##name, value, place}
+    {INSTANCE, bytes, sizeof bytes, sizes, sizes_len, 9, ROOM, 0, METAQASM_##name, value, place}
 #define LISTED(bytes, limit, length, name, value, place) \
     {RUN, bytes, sizeof bytes, NULL, 0, limit, length, 0, METAQASM_##name, value, place}
 #define PRINTED(bytes, text_len, name, value, place) \
-    {RUN_TEXT, bytes, sizeof bytes, NULL, 0, 9, 16, text_len, METAQASM_##name, value, place}
+    {RUN_TEXT, bytes, sizeof bytes, NULL, 0, 9, ROOM, text_len, METAQASM_##name, value, place}
 
 /* A question for every number there is, in their order. */
 static const question questions[] = {
-    LISTED(bell, 2, 16, DONE, 0, 0),
+    LISTED(bell, 2, ROOM, DONE, 0, 0),
     CHECKED(too_long, TOO_LONG, 1, 0),
     CHECKED(one_byte, BAD_HEADER, 2, 0),
     CHECKED(tag_0, BAD_TAG, 3, 0),
@@ -99,15 +103,16 @@ static const question questions[] = {
     ASKED(pair, past_largest, METAQASM_SIZE_BYTES, SIZE_TOO_LARGE, 22, 0),
     ASKED(pair, largest, METAQASM_SIZE_BYTES, TOO_MANY_WIRES, 23, 12),
     ASKED(steep, largest, METAQASM_SIZE_BYTES, INDEX_OUT_OF_RANGE, 24, 5),
-    LISTED(same, 9, 16, ONE_WIRE_TWICE, 25, 5),
-    LISTED(bell, 1, 16, OUT_OF_STEPS, 26, 17),
-    LISTED(bell, 2, 15, OUTPUT_FULL, 27, 17),
+    LISTED(same, 9, ROOM, ONE_WIRE_TWICE, 25, 5),
+    LISTED(bell, 1, ROOM, OUT_OF_STEPS, 26, 17),
+    LISTED(bell, 2, ROOM - 1, OUTPUT_FULL, 27, 17),
     PRINTED(bell, sizeof BELLS_TEXT - 2, TEXT_FULL, 30, 0),
     CHECKED(low_number, LOW_NUMBER, 31, 0),
+    LISTED(k_64, 9, ROOM, K_TOO_LARGE, 32, 5),
 };
 
 /* Numbers that no call answers. */
-static const uint32_t unknown[] = {14,  15,  16,  17,  18,    19,          28,         29, 32,
+static const uint32_t unknown[] = {14,  15,  16,  17,  18,    19,          28,         29, 33,
                                    100, 255, 256, 268, 65536, 0x80000000u, 0xFFFFFFFFu};
 
 #define COUNT(list) (sizeof(list) / sizeof((list)[0]))
@@ -144,7 +149,7 @@ static void answers(void)
 
     for (i = 0; i < COUNT(questions); i++) {
         const question *asked = &questions[i];
-        uint8_t output[16];
+        uint8_t output[ROOM];
         metaqasm_result result = answer(asked, output);
 
         expect(asked->number == asked->value, metaqasm_message(asked->number), "the constant's value");
@@ -171,7 +176,7 @@ static void with_text(void)
 
     for (i = 0; i < COUNT(questions); i++) {
         const question *q = &questions[i];
-        uint8_t plainly[16] = {0}, beside[16] = {0}, byte = 0xA5;
+        uint8_t plainly[ROOM] = {0}, beside[ROOM] = {0}, byte = 0xA5;
         metaqasm_result plain = metaqasm_run(q->program, q->program_len, q->limit, plainly, q->output_len);
         metaqasm_text_result got =
             metaqasm_run_text(q->program, q->program_len, q->limit, beside, q->output_len, &byte, 1);
@@ -219,7 +224,7 @@ static void entries(void)
     };
     size_t i;
 
-    expect(COUNT(listed) == COUNT(questions), "metaqasm_numbers.def", "24 entries");
+    expect(COUNT(listed) == COUNT(questions), "metaqasm_numbers.def", "25 entries");
     for (i = 0; i < COUNT(listed) && i < COUNT(questions); i++) {
         expect(listed[i] == questions[i].value, metaqasm_message(listed[i]), "entries in order");
     }
@@ -238,17 +243,23 @@ static void records(void)
         6,  22, 0, 0, 49, 6, 0, 1, 64, 2, 0, 1, 0, 32, 9, 0, 49, 6, 0, 0, 64, 2, 0, 1, 0,        /* if 0 */
         6,  22, 0, 1, 49, 6, 0, 1, 64, 2, 0, 1, 0, 32, 9, 0, 49, 6, 0, 0, 64, 2, 0, 1, 0,        /* if 1 */
     };
-    static const uint8_t due[] = {
-        METAQASM_OP_T,       METAQASM_ALWAYS, 1, 0, 0, 0, 0, 0, METAQASM_OP_TDG,   METAQASM_ALWAYS, 1, 0, 0, 0, 0, 0,
-        METAQASM_OP_MEASURE, METAQASM_ALWAYS, 1, 0, 1, 0, 0, 0, METAQASM_OP_RESET, METAQASM_ALWAYS, 0, 0, 0, 0, 0, 0,
-        METAQASM_OP_H,       METAQASM_IF_0,   1, 0, 0, 0, 1, 0, METAQASM_OP_H,     METAQASM_IF_1,   1, 0, 0, 0, 1, 0,
+    static const uint8_t due[][METAQASM_RECORD_BYTES] = {
+        {METAQASM_OP_T, METAQASM_ALWAYS, 1, 0, 0, 0, 0, 0, 0, 0, 0, 0},
+        {METAQASM_OP_TDG, METAQASM_ALWAYS, 1, 0, 0, 0, 0, 0, 0, 0, 0, 0},
+        {METAQASM_OP_MEASURE, METAQASM_ALWAYS, 1, 0, 1, 0, 0, 0, 0, 0, 0, 0},
+        {METAQASM_OP_RESET, METAQASM_ALWAYS, 0, 0, 0, 0, 0, 0, 0, 0, 0, 0},
+        {METAQASM_OP_H, METAQASM_IF_0, 1, 0, 0, 0, 1, 0, 0, 0, 0, 0},
+        {METAQASM_OP_H, METAQASM_IF_1, 1, 0, 0, 0, 1, 0, 0, 0, 0, 0},
     };
-    static const uint8_t pair_due[] = {
-        METAQASM_OP_H, METAQASM_ALWAYS, 0, 0, 0, 0, 0, 0, METAQASM_OP_CX, METAQASM_ALWAYS, 0, 0, 1, 0, 0, 0,
+    static const uint8_t pair_due[][METAQASM_RECORD_BYTES] = {
+        {METAQASM_OP_H, METAQASM_ALWAYS, 0, 0, 0, 0, 0, 0, 0, 0, 0, 0},
+        {METAQASM_OP_CX, METAQASM_ALWAYS, 0, 0, 1, 0, 0, 0, 0, 0, 0, 0},
     };
     uint8_t output[sizeof due];
-    metaqasm_result result = metaqasm_run(all, sizeof all, 8, output, sizeof output);
+    metaqasm_result result;
 
+    memset(output, 0xA5, sizeof output);
+    result = metaqasm_run(all, sizeof all, 8, output, sizeof output);
     expect(result.number == METAQASM_DONE && result.records * METAQASM_RECORD_BYTES == sizeof due &&
                memcmp(output, due, sizeof due) == 0,
            "t, tdg, measure, reset, if 0, if 1", "records of these operations and conditions");
@@ -265,6 +276,7 @@ int main(void)
     messages();
     entries();
     records();
-    expect(strcmp(METAQASM_VERSION, "1.2.0") == 0, "the version", "1.2.0");
+    expect(METAQASM_RECORD_BYTES == 12, "a record", "12 bytes");
+    expect(strcmp(METAQASM_VERSION, "1.3.0") == 0, "the version", "1.3.0");
     return closed();
 }

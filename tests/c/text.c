@@ -52,6 +52,25 @@ static const uint8_t loop[] = {
 /* a family of n with x: Qbit[n], whose body is h on x[0] */
 static const uint8_t unshown[] = {1, 21, 0, 1, 1, 17, 4, 0, 65, 1, 0, 0, 32, 9, 0, 49, 6, 0, 0, 64, 2, 0, 0, 0};
 
+/* a qreg of 2 and a creg of 1; phase 0 on wire 1; cphase 63 on wires 1 and 0; reversed: phase 63 on wire 0, cphase 10 on wires
+ * 0 and 1; if bit 0 is 1, phase 3 on wire 0 */
+static const uint8_t phases[] = {
+    2,  2,  0, 2,  0,  3, 2,  0, 1, 0,                                                     /* registers */
+    40, 14, 0, 64, 2,  0, 0,  0, 49, 6, 0, 0, 64, 2, 0, 1, 0,                              /* phase */
+    41, 23, 0, 64, 2,  0, 63, 0, 49, 6, 0, 0, 64, 2, 0, 1, 0, 49, 6, 0, 0, 64, 2, 0, 0, 0, /* cphase */
+    37, 43, 0,                                                                             /* reversed: */
+    40, 14, 0, 64, 2,  0, 63, 0, 49, 6, 0, 0, 64, 2, 0, 0, 0,                              /* phase */
+    41, 23, 0, 64, 2,  0, 10, 0, 49, 6, 0, 0, 64, 2, 0, 0, 0, 49, 6, 0, 0, 64, 2, 0, 1, 0, /* cphase */
+    6,  27, 0, 1,  49, 6, 0,  1, 64, 2, 0, 0, 0,                                           /* if: */
+    40, 14, 0, 64, 2,  0, 3,  0, 49, 6, 0, 0, 64, 2, 0, 0, 0,                              /* phase */
+};
+/* a qreg of 1; phase 1 on its wire; phase 64 on it */
+static const uint8_t k_64[] = {
+    2,  2,  0, 1,  0,                                         /* register */
+    40, 14, 0, 64, 2, 0, 1,  0, 49, 6, 0, 0, 64, 2, 0, 0, 0,  /* phase 1 */
+    40, 14, 0, 64, 2, 0, 64, 0, 49, 6, 0, 0, 64, 2, 0, 0, 0,  /* phase 64 */
+};
+
 static const uint8_t zero[METAQASM_SIZE_BYTES] = {0};
 static const uint8_t three[METAQASM_SIZE_BYTES] = {3};
 static const uint8_t past_largest[METAQASM_SIZE_BYTES] = {0, 0, 1, 0};
@@ -77,6 +96,14 @@ static const question complete[] = {
          "cx q[0],q[1];\n"),
     RUNS("numbers of two digits", eleven, 4, 3, ENDS(DONE, 0, 3, 4),
          HEAD "qreg q[11];\n" ELEVEN_BITS "tdg q[9];\nreset q[10];\nif(c10==0) cx q[0],q[10];\n"),
+    RUNS("phases", phases, 7, 5, ENDS(DONE, 0, 5, 7),
+         HEAD "qreg q[2];\n"
+              "creg c0[1];\n"
+              "u1(2*pi/1) q[1];\n"
+              "cu1(2*pi/9223372036854775808) q[1],q[0];\n"
+              "cu1(-2*pi/1024) q[0],q[1];\n"
+              "u1(-2*pi/9223372036854775808) q[0];\n"
+              "if(c0==1) u1(2*pi/8) q[0];\n"),
     RUNS("bits and no wire", bits, 0, 0, ENDS(DONE, 0, 0, 0), HEAD "creg c0[1];\ncreg c1[1];\n"),
     RUNS("registers declared late", mixed, 1, 1, ENDS(DONE, 0, 1, 1), HEAD "qreg q[4];\ncreg c0[1];\nh q[2];\n"),
     LISTS("a family beside registers", mixed, 0, NULL, 0, 1, 1, ENDS(DONE, 0, 1, 1), HEAD "qreg q[2];\nt q[1];\n"),
@@ -97,6 +124,7 @@ static const question others[] = {
     LISTS("L at n = 3 in 2 records", loop, 0, three, sizeof three, 7, 2, ENDS(OUTPUT_FULL, 24, 2, 7), NULL),
     RUNS("Bell in 1 step", bell, 1, 2, ENDS(OUT_OF_STEPS, 17, 1, 1), NULL),
     RUNS("Bell in 1 record", bell, 2, 1, ENDS(OUTPUT_FULL, 17, 1, 2), NULL),
+    RUNS("a k of 64", k_64, 2, 2, ENDS(K_TOO_LARGE, 22, 1, 2), NULL),
 };
 
 #define COUNT(list) (sizeof(list) / sizeof((list)[0]))
@@ -290,6 +318,26 @@ static void largest(void)
     expect(right(&asked, METAQASM_TEXT_BYTES(1, METAQASM_MOST_BITS)), asked.name, "the text in METAQASM_TEXT_BYTES");
 }
 
+/* The longest line of a record: the last wires and the last bit that there can be, and the smallest part of a turn. */
+static void longest_line(void)
+{
+    static const char line[] = "if(c65534==1) cu1(-2*pi/9223372036854775808) q[65534],q[65533];\n";
+    /* a qreg and a creg of 65,535; if bit 65,534 is 1, reversed: cphase 63 on wires 65,534 and 65,533 */
+    static const uint8_t program[] = {
+        2,  2,  0, 255, 255, 3, 2,  0, 255, 255, 6, 39, 0,  1, 49, 6,   0,   1,  64, 2, 0, 254, 255, 37, 26, 0,
+        41, 23, 0, 64,  2,   0, 63, 0, 49,  6,   0, 0,  64, 2, 0,  254, 255, 49, 6,  0, 0, 64,  2,   0,  253, 255,
+    };
+    static uint8_t text[METAQASM_TEXT_BYTES(1, METAQASM_MOST_BITS)];
+    uint8_t output[METAQASM_RECORD_BYTES];
+    metaqasm_text_result got =
+        metaqasm_run_text(program, sizeof program, 3, output, sizeof output, text, sizeof text);
+    size_t length = strlen(line);
+
+    expect(length == METAQASM_MOST_RECORD_LINE_BYTES, line, "to be as long as a line can be");
+    expect(got.number == METAQASM_DONE && got.length >= length && memcmp(text + got.length - length, line, length) == 0, line,
+           "to be the last line");
+}
+
 int main(void)
 {
     size_t i;
@@ -305,6 +353,7 @@ int main(void)
     }
     teleports();
     largest();
+    longest_line();
     for (i = 0; i < COUNT(others); i++) {
         prints_nothing(&others[i]);
     }

@@ -57,10 +57,33 @@ family ctrladd.m0 ctrladd 1 0
 family ctrladd.m2 ctrladd 1 2
 family loop.n0 loop 0 0
 family loop.n3 loop 0 3
+family qft.n3 qft 0 3
+family qft.unqft.n3 qft 1 3
+family qft.add.n2 qft 2 2
+family qft.sub.n2 qft 3 2
+family qft.n64 qft 0 64
 family there-and-back.there.n1 there-and-back 1 1
 family there-and-back.back.n1 there-and-back 2 1
 family there-and-back.n2 there-and-back 3 2
 family two-sizes.m2.n1 two-sizes 0 2 1
+
+# The output holds 5,461 records.
+gives '5,461 records' "$(printf 'h %s\n' {0..5460} && printf 'end 0 0 5461 10923')" '' "$list" 0 5461 <examples/loop.bytes
+gives '5,462 records' "$(printf 'h %s\n' {0..5460} && printf 'end 27 24 5461 10925')" '' "$list" 0 5462 <examples/loop.bytes
+
+# Phases in a qreg of 2 with a creg of 1: phase 3 on wire 0, cphase 2 on wires 1 and 0; if bit 0 is 1, reversed: phase 0 on
+# wire 1, cphase 63 on wires 0 and 1.
+phases() {
+    printf '\2\2\0\2\0\3\2\0\1\0'
+    printf '\50\16\0\100\2\0\3\0\61\6\0\0\100\2\0\0\0'
+    printf '\51\27\0\100\2\0\2\0\61\6\0\0\100\2\0\1\0\61\6\0\0\100\2\0\0\0'
+    printf '\6\70\0\1\61\6\0\1\100\2\0\0\0\45\53\0'
+    printf '\50\16\0\100\2\0\0\0\61\6\0\0\100\2\0\1\0'
+    printf '\51\27\0\100\2\0\77\0\61\6\0\0\100\2\0\0\0\61\6\0\0\100\2\0\1\0'
+}
+gives 'phases' $'phase 3 0\ncphase 2 1 0\nif 0 1 cphasedg 63 0 1\nif 0 1 phasedg 0 1\nend 0 0 4 6' '' "$list" < <(phases)
+gives 'a k of 64' 'end 32 5 0 1' '' "$list" < <(printf '\2\2\0\1\0\50\16\0\100\2\0\100\0\61\6\0\0\100\2\0\0\0')
+gives 'a tag past the phases' 'end 3 0 0 0' '' "$list" < <(printf '\52\0\0')
 
 # A library of 257 families of one wire: h in family 0, nothing in families 1 to 255, t in family 256; then a call of 256.
 long_library() {
@@ -173,10 +196,10 @@ said 'a full device, for the end line' '' "$writing: No space left on device"
 said 'a full device, for help' '' "$writing: No space left on device"
 "$list" <examples/bell.bytes >&- 2>"$work/message"
 said 'closed output' '' "$writing: Bad file descriptor"
-(trap '' XFSZ && ulimit -f 1 && "$list" 2 200 <examples/adder.bytes >"$work/cut" 2>"$work/message")
+(trap '' XFSZ && ulimit -f 1 && "$list" 2 100 <examples/adder.bytes >"$work/cut" 2>"$work/message")
 grep '^end' "$work/cut" >"$work/output"
 said 'a file that is full after 1,024 bytes' '' "$writing: File too large"
-head -c 1024 <("$list" 2 200 <examples/adder.bytes) | cmp - "$work/cut" >"$work/output"
+head -c 1024 <("$list" 2 100 <examples/adder.bytes) | cmp - "$work/cut" >"$work/output"
 said 'a file that is full after 1,024 bytes, up to there' '' "$writing: File too large"
 
 printf '%s passed, %s failed\n' "$passed" "$failed"

@@ -1,6 +1,6 @@
 #!/usr/bin/env bash
-# Builds and runs the adder in libquantum. Where libquantum is not installed it is installed, if that can be done; where it
-# cannot, the test is left out with a line that says so.
+# Builds and runs the adder and the Fourier transform in libquantum. Where libquantum is not installed it is installed, if that
+# can be done; where it cannot, the test is left out with a line that says so.
 # Its last line is `N passed, M failed`, and it succeeds only with M = 0.
 set -u
 cd "$(dirname "$0")/../../.." || exit 2
@@ -31,9 +31,20 @@ if ! is_there; then
     printf '0 passed, 0 failed\n'
     exit 0
 fi
-if ! cc -std=c11 -Wall -Wextra -Werror -O2 -I include tests/c/libquantum/adder.c target/staticlib/libmetaqasm.a $libraries \
-    -o "$work/adder"; then
-    printf '%s passed, %s failed\n' 0 1
-    exit 1
-fi
-OMP_NUM_THREADS=1 "$work/adder"
+
+passed=0
+failed=0
+for source in tests/c/libquantum/*.c; do
+    : >"$work/log"
+    cc -std=c11 -Wall -Wextra -Werror -O2 -I include "$source" target/staticlib/libmetaqasm.a $libraries -o "$work/program" &&
+        OMP_NUM_THREADS=1 "$work/program" >"$work/log"
+    sed '$d' "$work/log"
+    counts=$(tail -n 1 "$work/log" | sed -n 's/^\([0-9]*\) passed, \([0-9]*\) failed$/\1 \2/p')
+    [ -n "$counts" ] || printf '%s: does not build, or does not come to its end\n' "$source"
+    set -- ${counts:-0 1}
+    passed=$((passed + $1))
+    failed=$((failed + $2))
+done
+
+printf '%s passed, %s failed\n' "$passed" "$failed"
+[ "$failed" -eq 0 ]

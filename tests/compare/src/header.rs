@@ -31,6 +31,7 @@ fn value_of(line: &str, name: &str) -> Option<usize> {
 mod tests {
     use super::*;
     use generate::build::{MOST_BYTES, MOST_FAMILIES};
+    use reference::RECORD_BYTES;
 
     #[test]
     fn numbers_are_read_by_their_whole_names() {
@@ -44,6 +45,7 @@ mod tests {
     fn limits_are_those_that_programs_are_made_for() {
         assert_eq!(number("METAQASM_MOST_FAMILIES"), MOST_FAMILIES);
         assert_eq!(number("METAQASM_MOST_PROGRAM_BYTES"), MOST_BYTES);
+        assert_eq!(number("METAQASM_RECORD_BYTES"), RECORD_BYTES);
     }
 
     #[test]

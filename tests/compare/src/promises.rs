@@ -2,12 +2,12 @@
 
 use crate::ask::{untouched, Answer, Call, Question};
 use crate::openqasm;
-use reference::TextOutcome;
+use reference::{TextOutcome, RECORD_BYTES};
 
 /// Tests what holds of every answer, whoever gives it.
 pub fn promises(question: &Question, answer: &Answer) -> Result<(), String> {
     let outcome = &answer.outcome;
-    let fits = written(8, outcome.records, &answer.output).is_some();
+    let fits = written(RECORD_BYTES, outcome.records, &answer.output).is_some();
     let printed = written(1, outcome.length, &answer.text).is_some();
     let rules = [
         (answer.guarded, "bytes around output or text were changed"),
@@ -29,8 +29,9 @@ pub fn promises(question: &Question, answer: &Answer) -> Result<(), String> {
 /// Tests what holds of the bytes of output and text.
 fn bytes_hold(question: &Question, answer: &Answer) -> Result<(), String> {
     let outcome = &answer.outcome;
-    let (records, rest) = answer.output.split_at(8 * outcome.records as usize);
-    if !records.chunks_exact(8).all(sound_record) {
+    let length = RECORD_BYTES * outcome.records as usize;
+    let (records, rest) = answer.output.split_at(length);
+    if !records.chunks_exact(RECORD_BYTES).all(sound_record) {
         return Err("a record has bytes that no record can have".into());
     }
     if !untouched(answer.output.len()).ends_with(rest) {
@@ -55,7 +56,8 @@ fn read_back(question: &Question, text: &[u8], records: &[u8]) -> Result<(), Str
         Call::Run => (list.wires, list.bits) == declared(question.program),
         _ => list.bits == 0,
     };
-    let lines = 2 + u64::from(list.wires > 0) + list.bits + list.records.len() as u64 / 8;
+    let operations = (list.records.len() / RECORD_BYTES) as u64;
+    let lines = 2 + u64::from(list.wires > 0) + list.bits + operations;
     let rules = [
         (list.records == records, "the text is another list"),
         (laid_out, "the text is over other wires or bits"),
@@ -101,7 +103,7 @@ fn known(question: &Question, outcome: &TextOutcome) -> bool {
     match outcome.number {
         0..=13 | 31 => true,
         20..=23 => matches!(question.call, Call::Instance { .. }),
-        24..=27 => question.call != Call::Check,
+        24..=27 | 32 => question.call != Call::Check,
         30 => prints(question),
         _ => false,
     }
@@ -117,7 +119,7 @@ fn place_fits(question: &Question, outcome: &TextOutcome) -> bool {
 
 /// Whether an answer given before the first step has no counts.
 fn counts_fit(question: &Question, outcome: &TextOutcome) -> bool {
-    let ran = question.call != Call::Check && matches!(outcome.number, 0 | 24..=27 | 30);
+    let ran = question.call != Call::Check && matches!(outcome.number, 0 | 24..=27 | 30 | 32);
     ran || (outcome.records == 0 && outcome.steps == 0)
 }
 
@@ -131,15 +133,19 @@ fn prints(question: &Question) -> bool {
     question.call != Call::Check && question.text.is_some()
 }
 
-/// Whether eight bytes can be a record.
+/// Whether the bytes of a record can be one.
 fn sound_record(record: &[u8]) -> bool {
-    let second = record[4] != 0 || record[5] != 0;
-    let bit = record[6] != 0 || record[7] != 0;
+    let number = |place| u16::from_le_bytes([record[place], record[place + 1]]);
+    let [second, bit, k, last] = [number(4), number(6), number(8), number(10)];
     let [op, condition] = [record[0], record[1]];
-    let pair = op == 4 || op == 5;
-    (1..=6).contains(&op)
+    let pair = matches!(op, 4 | 5 | 9 | 10);
+    let phase = (7..=10).contains(&op);
+    (1..=10).contains(&op)
         && condition <= 2
-        && (pair || !second)
-        && (condition != 0 || !bit)
-        && (condition == 0 || op <= 4)
+        && (pair || second == 0)
+        && (condition != 0 || bit == 0)
+        && (condition == 0 || !matches!(op, 5 | 6))
+        && (phase || k == 0)
+        && k <= 63
+        && last == 0
 }

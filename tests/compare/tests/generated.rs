@@ -4,6 +4,7 @@ use compare::harness::{reference_answer, whole_text};
 use compare::{compared, promises, Call, Question, Tally};
 use generate::build::*;
 use generate::{case, libraries, library, Case};
+use reference::RECORD_BYTES;
 use std::collections::BTreeSet;
 
 /// How many seeds each call is compared on.
@@ -127,8 +128,8 @@ fn ask_text(tally: &mut Tally, program: &[u8]) -> Result<(), String> {
         program,
         call: Call::Run,
         limit: 200,
-        length: 400,
-        text: Some(1_000),
+        length: RECORD_BYTES * 50,
+        text: Some(1_500),
     })
 }
 
@@ -138,7 +139,26 @@ fn small_programs() -> Vec<Vec<u8>> {
     let mut programs: Vec<Vec<u8>> = seeds.filter(|bytes| bytes.len() < 120).take(25).collect();
     programs.push(program(&library::each_cell()));
     programs.push(program(&library::nested_loops()));
+    programs.push(program(&phases()));
     programs
+}
+
+/// Phases in a family, a loop, a reversal and a condition, with k of all kinds.
+fn phases() -> Vec<Field> {
+    let turn = cphase(plus(1, 1), element(0, variable(1)), whole(1));
+    let body = vec![
+        phase(product(literal(2), variable(0)), whole(1)),
+        repeat(literal(0), minus(0, 1), vec![turn]),
+    ];
+    let down = phase(difference(literal(63), variable(0)), at(0, 1));
+    let looped = repeat(literal(0), literal(2), vec![down]);
+    vec![
+        family(1, vec![qbits(variable(0)), qbit()], body),
+        qreg(3),
+        creg(1),
+        reverse(vec![call(0, vec![literal(2)], vec![whole(0), at(0, 2)])]),
+        when(1, at(1, 0), vec![looped]),
+    ]
 }
 
 /// Asks about every small program with any one byte changed.
@@ -210,18 +230,28 @@ fn beginnings(tally: &mut Tally) -> Result<(), String> {
     Ok(())
 }
 
-/// What a line of a text is about: the value of its condition, and its first word.
+/// What a line of a text is about: the value of its condition, and its first word up to
+/// a number behind a stroke.
 fn kind(line: &str) -> (Option<&str>, &str) {
     let (condition, rest) = match line.split_once(") ") {
-        Some((condition, rest)) => (condition.split("==").nth(1), rest),
-        None => (None, line),
+        Some((condition, rest)) if line.starts_with("if(") => (condition.split("==").nth(1), rest),
+        _ => (None, line),
     };
-    (condition, rest.split(' ').next().unwrap_or(rest))
+    (condition, rest.split([' ', '/']).next().unwrap_or(rest))
 }
 
 /// All kinds of lines that a text can have.
 fn kinds() -> BTreeSet<(Option<&'static str>, &'static str)> {
-    let gates = ["h", "t", "tdg", "cx"];
+    let gates = [
+        "h",
+        "t",
+        "tdg",
+        "cx",
+        "u1(2*pi",
+        "u1(-2*pi",
+        "cu1(2*pi",
+        "cu1(-2*pi",
+    ];
     let others = ["OPENQASM", "include", "qreg", "creg", "measure", "reset"];
     let conditions = [None, Some("0"), Some("1")];
     let conditioned = conditions

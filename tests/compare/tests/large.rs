@@ -5,7 +5,7 @@ use compare::{ask, compared, slow, Call, Question, Tally, Who};
 use generate::build::*;
 use generate::library;
 use generate::shapes::{Shape, SHAPES};
-use reference::TextOutcome;
+use reference::{TextOutcome, RECORD_BYTES};
 
 compared!(deepest_calls_checked, has_check, deepest_checked);
 compared!(deepest_calls_of_an_instance, has_instance, deepest_instance);
@@ -17,6 +17,8 @@ compared!(lists_of_10000_of_a_run, has_run, long_run);
 compared!(loops_from_the_smallest_number, has_run, far_loops);
 compared!(a_hundred_million_steps, has_run, many_steps);
 compared!(the_adder_at_8000_bits, has_instance, large_adder);
+compared!(fourier_of_64_wires, has_instance, small_transforms);
+compared!(fourier_of_5062_wires, has_instance, large_transforms);
 compared!(a_full_library_of_families, has_check, full_library);
 compared!(a_library_of_4000_families, has_check, small_families);
 compared!(the_slowest_check, has_check, slowest_check);
@@ -48,7 +50,7 @@ fn instance<'a>(program: &'a [u8], family: u32, sizes: &'a [u8]) -> Question<'a>
         program,
         call: Call::Instance { family, sizes },
         limit: 1_000_000,
-        length: 100_000,
+        length: 150_000,
         text: None,
     }
 }
@@ -59,7 +61,7 @@ fn other<'a>(program: &'a [u8], call: Call<'a>) -> Question<'a> {
         program,
         call,
         limit: 1_000_000,
-        length: 100_000,
+        length: 150_000,
         text: None,
     }
 }
@@ -215,7 +217,7 @@ fn large_adder(tally: &mut Tally) -> Result<(), String> {
     let gates = 17 + 7_999 * 35;
     for family in [2, 3] {
         let full = Question {
-            length: 8 * gates as usize,
+            length: RECORD_BYTES * gates as usize,
             ..instance(&program, family, &sizes)
         };
         tally.question(&full)?;
@@ -223,6 +225,48 @@ fn large_adder(tally: &mut Tally) -> Result<(), String> {
         if answer.outcome.number != 0 || answer.outcome.records != gates {
             return Err(format!("{:?}, due are {gates} gates", answer.outcome));
         }
+    }
+    Ok(())
+}
+
+/// Unrolls the Fourier transform and its inverse at a size.
+fn transform(tally: &mut Tally, wires: u32, expected: [[u64; 4]; 2]) -> Result<(), String> {
+    let program = program(&library::fourier());
+    let sizes = sizes(&[wires]);
+    let [there, back] = expected;
+    due(tally, &instance(&program, 0, &sizes), there)?;
+    due(tally, &instance(&program, 1, &sizes), back)
+}
+
+/// The Fourier transform of 63 wires, and of 64, which ends at the largest k.
+fn small_transforms(tally: &mut Tally) -> Result<(), String> {
+    // The outer loop; for each wire a round, its gate and a loop; for each pair a round
+    // and its phase. Backward, a reversal and a call come before.
+    let pairs = 63 * 62 / 2;
+    let (records, steps) = (63 + pairs, 1 + 3 * 63 + 2 * pairs);
+    let whole = [[0, 0, records, steps], [0, 0, records, steps + 2]];
+    transform(tally, 63, whole)?;
+    // The phase stands at 70. Forward, the first wire's gate and 62 phases come before;
+    // backward, all that the other wires have, a round, a loop and its round.
+    let there = [32, 70, 1 + 62, 4 + 2 * 63];
+    let back = [32, 70, records, steps + 2 + 4];
+    transform(tally, 64, [there, back])
+}
+
+/// The Fourier transform of 5,062 wires without the smallest parts, and its inverse.
+fn large_transforms(tally: &mut Tally) -> Result<(), String> {
+    let program = program(&library::approximate_fourier());
+    let sizes = sizes(&[5_000]);
+    // Two loops. 5,000 wires have 62 phases each; the last 62 have one for each pair.
+    let last = 62 * 61 / 2;
+    let records = 5_000 * 63 + 62 + last;
+    let steps = 2 + 5_000 * (3 + 2 * 62) + 3 * 62 + 2 * last;
+    for (family, steps) in [(0, steps), (1, steps + 2)] {
+        let question = Question {
+            length: RECORD_BYTES * records as usize,
+            ..instance(&program, family, &sizes)
+        };
+        due(tally, &question, [0, 0, records, steps])?;
     }
     Ok(())
 }

@@ -4,6 +4,7 @@ use compare::harness::{reference_answer, whole_text};
 use compare::{compared, Call, Question, Tally};
 use generate::build::{self, *};
 use generate::{case, library};
+use reference::RECORD_BYTES;
 
 compared!(every_limit_of_an_instance, has_instance, instance_limits);
 compared!(every_limit_of_a_run, has_run, run_limits);
@@ -29,7 +30,7 @@ compared!(family_numbers_to_the_last, has_instance, family_numbers);
 /// More steps than any program here takes.
 const ENOUGH: u64 = 100_000;
 /// More output than any program here fills.
-const ROOM: usize = 40_000;
+const ROOM: usize = 60_000;
 
 /// A program with a family and its sizes.
 type Small = (Vec<u8>, u32, Vec<u8>);
@@ -37,11 +38,14 @@ type Small = (Vec<u8>, u32, Vec<u8>);
 /// Small programs for instances.
 fn instances() -> Vec<Small> {
     let adder = program(&library::reversed_adder());
+    let fourier = program(&library::fourier());
     let mut list = vec![
         (program(&library::each_cell()), 0, build::sizes(&[3])),
         (program(&library::nested_loops()), 0, build::sizes(&[3])),
         (adder.clone(), 2, build::sizes(&[1])),
         (adder, 3, build::sizes(&[2])),
+        (fourier.clone(), 1, build::sizes(&[5])),
+        (fourier, 0, build::sizes(&[64])),
         (
             program(&library::deep_loops(9, 2, 1)),
             8,
@@ -122,7 +126,7 @@ fn limits(tally: &mut Tally, full: Question) -> Result<(), String> {
         } else {
             cut == whole
         };
-        let records = 8 * cut.outcome.records as usize;
+        let records = RECORD_BYTES * cut.outcome.records as usize;
         if !due || cut.output[..records] != whole.output[..records] {
             return Err(format!(
                 "limit {limit} of {:?}: {:?}",
@@ -136,17 +140,17 @@ fn limits(tally: &mut Tally, full: Question) -> Result<(), String> {
 /// Asks with every output length up to past the last record.
 fn lengths(tally: &mut Tally, full: Question) -> Result<(), String> {
     let whole = reference_answer(&full)?;
-    let last = 8 * whole.outcome.records as usize;
-    for length in 0..last + 10 {
+    let last = RECORD_BYTES * whole.outcome.records as usize;
+    for length in 0..last + RECORD_BYTES + 2 {
         let question = Question { length, ..full };
         tally.question(&question)?;
         let cut = reference_answer(&question)?;
         let due = if length < last {
-            cut.outcome.number == 27 && cut.outcome.records == length as u64 / 8
+            cut.outcome.number == 27 && cut.outcome.records as usize == length / RECORD_BYTES
         } else {
             cut.outcome == whole.outcome
         };
-        let records = 8 * cut.outcome.records as usize;
+        let records = RECORD_BYTES * cut.outcome.records as usize;
         if !due || cut.output[..records] != whole.output[..records] {
             return Err(format!(
                 "length {length} of {:?}: {:?}",
@@ -163,7 +167,7 @@ fn rooms(tally: &mut Tally, full: Question) -> Result<(), String> {
     let last = whole_text(&full).len();
     for room in 0..last + 10 {
         let question = Question {
-            length: 8 * listed.records as usize,
+            length: RECORD_BYTES * listed.records as usize,
             text: Some(room),
             ..full
         };

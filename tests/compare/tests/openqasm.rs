@@ -1,7 +1,7 @@
 //! The reader of OpenQASM 2.0 on programs that no printer here would write.
 
 use compare::openqasm::{
-    list, read, Action, Bit, Condition, Kind, List, Operation, Program, Qubit, Register,
+    list, read, Action, Angle, Bit, Condition, Kind, List, Operation, Program, Qubit, Register,
 };
 
 /// Several registers, comments and odd white space.
@@ -19,6 +19,9 @@ measure left[1]->seen[2] ; measure right_2[0]
 ->cOpy[0];
 if ( seen == 5 ) reset right_2[2];
 if(cOpy==0)measure left[0] -> seen[0];
+u1 ( - 2 * pi / 4 ) left[0];u1(pi)left[1];
+if(cOpy==1)cu1(3*-pi/
+6)right_2[0],left[0];
 if(cOpy==1) cx left[0],left[1]; // the end, without a line feed";
 
 /// A register.
@@ -55,6 +58,20 @@ fn cx(control: u64, target: u64) -> Action {
     }
 }
 
+/// A fraction of pi.
+fn angle(above: i128, below: i128) -> Angle {
+    Angle { above, below }
+}
+
+/// A cu1 by its qubits' numbers.
+fn cu1(angle: Angle, control: u64, target: u64) -> Action {
+    Action::Cu1 {
+        angle,
+        control: Qubit(control),
+        target: Qubit(target),
+    }
+}
+
 #[test]
 fn registers_comments_and_white_space_are_read() {
     let due = Program {
@@ -74,6 +91,9 @@ fn registers_comments_and_white_space_are_read() {
             always(Action::Measure(Qubit(2), Bit(3))),
             when(1, 5, Action::Reset(Qubit(4))),
             when(3, 0, Action::Measure(Qubit(0), Bit(0))),
+            always(Action::U1(angle(-1, 2), Qubit(0))),
+            always(Action::U1(angle(1, 1), Qubit(1))),
+            when(3, 1, cu1(angle(-1, 2), 2, 0)),
             when(3, 1, cx(0, 1)),
         ],
     };
@@ -106,7 +126,7 @@ const REFUSED: &[(&str, &str)] = &[
     ("qreg if[1];", "line 3: a register cannot be named if"),
     ("qreg q[01];", "line 3: 01 is no number"),
     ("qreg q[1.0];", "line 3: a number is due, not 1.0"),
-    ("qreg q[-1];", "line 3: '-' is no sign that is read here"),
+    ("qreg q[-1];", "line 3: a number is due, not -"),
     (
         "qreg q[18446744073709551616];",
         "line 3: 18446744073709551616 is too large",
@@ -129,7 +149,7 @@ const REFUSED: &[(&str, &str)] = &[
     ),
     (
         "qreg q[2];creg c[1];\nmeasure q[0] - > c[0];",
-        "line 4: '-' is no sign that is read here",
+        "line 4: -> is due, not -",
     ),
     (
         "qreg q[2];creg c[1];\nif(c=1) h q[0];",
@@ -176,7 +196,33 @@ const REFUSED: &[(&str, &str)] = &[
         "qreg q[2];\nh q[0];\n\0",
         "line 5: '\\0' is no sign that is read here",
     ),
-    ("/ a comment", "line 3: '/' is no sign that is read here"),
+    ("/ a comment", "line 3: a statement is due, not /"),
+    ("+ a sum", "line 3: '+' is no sign that is read here"),
+    ("qreg q[2];\nu1 q[0];", "line 4: ( is due, not q"),
+    ("qreg q[2];\nu1() q[0];", "line 4: an angle is due, not )"),
+    ("qreg q[2];\nu1(2) q[0];", "line 4: an angle has one pi"),
+    ("qreg q[2];\nu1(pi*pi) q[0];", "line 4: an angle has one pi"),
+    ("qreg q[2];\nu1(2/pi) q[0];", "line 4: an angle has one pi"),
+    (
+        "qreg q[2];\nu1(pi/0) q[0];",
+        "line 4: an angle is out of range",
+    ),
+    ("qreg q[2];\nu1(2 pi) q[0];", "line 4: ) is due, not pi"),
+    ("qreg q[2];\nu1(pi q[0];", "line 4: ) is due, not q"),
+    (
+        "qreg q[2];\nu1(2**pi) q[0];",
+        "line 4: an angle is due, not *",
+    ),
+    (
+        "qreg q[2];\nu1(pi/18446744073709551616) q[0];",
+        "line 4: 18446744073709551616 is too large",
+    ),
+    ("qreg q[2];\nu1(pi) q[0],q[1];", "line 4: ; is due, not ,"),
+    ("qreg q[2];\ncu1(pi) q[0];", "line 4: , is due, not ;"),
+    (
+        "qreg q[2];\ncu1(pi) q[1],q[1];",
+        "line 4: both qubits of a cu1 are the same",
+    ),
     (
         "include \"other.inc\";",
         "line 3: \"qelib1.inc\" is due, not \"other.inc\"",
@@ -232,19 +278,26 @@ fn listed(rest: &str) -> Result<List, String> {
 fn programs_over_q_and_bits_are_lists() {
     let text = "qreg q[300]; creg c0[1]; creg c1[1];
         h q[0]; t q[1]; tdg q[2]; cx q[3],q[299]; measure q[256] -> c1[0]; reset q[5];
-        if(c0==0) h q[6]; if(c1==1) cx q[258],q[1];";
+        if(c0==0) h q[6]; if(c1==1) cx q[258],q[1];
+        u1(2*pi/1) q[0]; u1(-2*pi/8) q[1]; cu1(pi) q[2],q[256]; u1(2*pi/-4) q[0];
+        if(c1==0) cu1(-2*pi/9223372036854775808) q[3],q[4];";
     let due = List {
         wires: 300,
         bits: 2,
         records: [
-            [1, 0, 0, 0, 0, 0, 0, 0],
-            [2, 0, 1, 0, 0, 0, 0, 0],
-            [3, 0, 2, 0, 0, 0, 0, 0],
-            [4, 0, 3, 0, 43, 1, 0, 0],
-            [5, 0, 0, 1, 1, 0, 0, 0],
-            [6, 0, 5, 0, 0, 0, 0, 0],
-            [1, 1, 6, 0, 0, 0, 0, 0],
-            [4, 2, 2, 1, 1, 0, 1, 0],
+            [1, 0, 0, 0, 0, 0, 0, 0, 0, 0, 0, 0],
+            [2, 0, 1, 0, 0, 0, 0, 0, 0, 0, 0, 0],
+            [3, 0, 2, 0, 0, 0, 0, 0, 0, 0, 0, 0],
+            [4, 0, 3, 0, 43, 1, 0, 0, 0, 0, 0, 0],
+            [5, 0, 0, 1, 1, 0, 0, 0, 0, 0, 0, 0],
+            [6, 0, 5, 0, 0, 0, 0, 0, 0, 0, 0, 0],
+            [1, 1, 6, 0, 0, 0, 0, 0, 0, 0, 0, 0],
+            [4, 2, 2, 1, 1, 0, 1, 0, 0, 0, 0, 0],
+            [7, 0, 0, 0, 0, 0, 0, 0, 0, 0, 0, 0],
+            [8, 0, 1, 0, 0, 0, 0, 0, 3, 0, 0, 0],
+            [9, 0, 2, 0, 0, 1, 0, 0, 1, 0, 0, 0],
+            [8, 0, 0, 0, 0, 0, 0, 0, 2, 0, 0, 0],
+            [10, 1, 3, 0, 4, 0, 1, 0, 63, 0, 0, 0],
         ]
         .concat(),
     };
@@ -262,6 +315,12 @@ fn other_programs_are_no_lists() {
         "creg c0[2];",
         "qreg q[1]; creg c0[1]; if(c0==2) h q[0];",
         "qreg q[65537]; h q[65536];",
+        "qreg q[1]; u1(0*pi) q[0];",
+        "qreg q[1]; u1(3*pi) q[0];",
+        "qreg q[1]; u1(4*pi) q[0];",
+        "qreg q[1]; u1(2*pi/3) q[0];",
+        "qreg q[1]; u1(2*pi/6) q[0];",
+        "qreg q[1]; u1(pi/9223372036854775808) q[0];",
     ];
     for text in refused {
         assert!(listed(text).is_err(), "{text}");

@@ -3,20 +3,20 @@
 use compare::ask::{Answer, Call, Question};
 use compare::harness::reference_answer;
 use compare::promises;
-use generate::build::program;
+use generate::build::{at, cphase, literal, phase, program, qreg, Field};
 use generate::library;
 
 /// A change to an answer, and how the refusal of what it makes begins.
 type Damage = (fn(&mut Answer), &'static str);
 
-/// Tests that the reference's answer about Bell holds, and no damaged one.
-fn hold(text: Option<usize>, table: &[Damage]) {
-    let bytes = program(&library::bell());
+/// Tests that the reference's answer about a program holds, and no damaged one.
+fn hold(fields: &[Field], text: Option<usize>, table: &[Damage]) {
+    let bytes = program(fields);
     let question = Question {
         program: &bytes,
         call: Call::Run,
         limit: 10,
-        length: 20,
+        length: 28,
         text,
     };
     let sound = reference_answer(&question).expect("the reference has every call");
@@ -57,7 +57,7 @@ const LIST: &[Damage] = &[
         "a number that means nothing",
     ),
     (
-        |answer| answer.outcome.number = 32,
+        |answer| answer.outcome.number = 33,
         "a number that means nothing",
     ),
     (
@@ -71,9 +71,11 @@ const LIST: &[Damage] = &[
         |answer| answer.outcome.length = 1,
         "more text than there is room",
     ),
-    (|answer| answer.output[0] = 7, "a record has bytes"),
+    (|answer| answer.output[0] = 11, "a record has bytes"),
+    (|answer| answer.output[8] = 1, "a record has bytes"),
+    (|answer| answer.output[22] = 1, "a record has bytes"),
     (
-        |answer| answer.output[16] ^= 1,
+        |answer| answer.output[24] ^= 1,
         "output past the last record",
     ),
 ];
@@ -95,6 +97,10 @@ const TEXT: &[Damage] = &[
     ),
     (
         |answer| answer.outcome.number = 27,
+        "a wrong length of text",
+    ),
+    (
+        |answer| answer.outcome.number = 32,
         "a wrong length of text",
     ),
     (|answer| refuse(answer, 30, 5), "a place that cannot be"),
@@ -126,10 +132,36 @@ fn refuse(answer: &mut Answer, number: u32, place: u32) {
 
 #[test]
 fn broken_promises_about_a_list_are_noticed() {
-    hold(None, LIST);
+    hold(&library::bell(), None, LIST);
 }
 
 #[test]
 fn broken_promises_about_a_text_are_noticed() {
-    hold(Some(80), TEXT);
+    hold(&library::bell(), Some(80), TEXT);
+}
+
+/// A phase by 5 and a cphase by 63.
+fn phases() -> Vec<Field> {
+    let pair = cphase(literal(63), at(0, 0), at(0, 1));
+    vec![qreg(2), phase(literal(5), at(0, 1)), pair]
+}
+
+/// Damage to the answer about phases, with their text.
+const PHASES: &[Damage] = &[
+    (|answer| answer.output[4] = 1, "a record has bytes"),
+    (|answer| answer.output[8] = 64, "a record has bytes"),
+    (|answer| answer.output[9] = 1, "a record has bytes"),
+    (|answer| answer.output[10] = 1, "a record has bytes"),
+    (|answer| answer.output[11] = 1, "a record has bytes"),
+    (|answer| answer.output[6] = 1, "a record has bytes"),
+    (|answer| answer.output[8] = 4, "the text is another list"),
+    (|answer| answer.output[0] = 8, "the text is another list"),
+    (|answer| answer.output[12] = 10, "the text is another list"),
+    (|answer| answer.text[55] = b' ', "the text is another list"),
+    (|answer| answer.text[56] = b'3', "Angle"),
+];
+
+#[test]
+fn broken_promises_about_phases_are_noticed() {
+    hold(&phases(), Some(200), PHASES);
 }

@@ -1,10 +1,11 @@
 //! Texts that are long, or have every number in them.
 
 use compare::harness::{reference_answer, whole_text};
+use compare::header;
 use compare::{compared, Call, Question, Tally};
 use generate::build::{family, literal, program, qbits, qreg, Field};
 use generate::{library, texts};
-use reference::TextOutcome;
+use reference::{TextOutcome, RECORD_BYTES};
 
 compared!(all_bits_declared, has_run_text, most_bits);
 compared!(all_qubits_and_bits, has_run_text, most_locations);
@@ -14,6 +15,8 @@ compared!(every_gate_on_every_wire, has_run_text, every_wire);
 compared!(every_wire_measured_and_reset, has_run_text, wires_measured);
 compared!(every_bit_measured_and_tested, has_run_text, every_bit);
 compared!(long_lists, has_run_text, long_lists_printed);
+compared!(every_k_of_phases, has_run_text, every_k);
+compared!(the_longest_lines, has_run_text, longest_lines);
 compared!(the_adder_at_8000_bits, has_instance_text, large_adder);
 
 /// A question about the run of a program that writes so many records.
@@ -22,7 +25,7 @@ fn run(program: &[u8], records: usize) -> Question<'_> {
         program,
         call: Call::Run,
         limit: u64::MAX,
-        length: 8 * records,
+        length: RECORD_BYTES * records,
         text: None,
     }
 }
@@ -135,7 +138,43 @@ fn long_lists_printed(tally: &mut Tally) -> Result<(), String> {
     filled(tally, &texts::far_pairs(), 2 * 55_534)?;
     filled(tally, &texts::near_gates(), 100_000)?;
     filled(tally, &texts::conditioned(), 100_000)?;
-    filled(tally, &texts::measured(), 3_000)
+    filled(tally, &texts::measured(), 3_000)?;
+    filled(tally, &texts::turned(), 51_200)
+}
+
+/// The decimal digits of 2 to the k for all k up to 63: 64 numbers, of which the first
+/// four have one digit, those below 2 to the 7 two, and so on up to nineteen.
+fn digits_of_powers() -> usize {
+    let firsts = [
+        0, 4, 7, 10, 14, 17, 20, 24, 27, 30, 34, 37, 40, 44, 47, 50, 54, 57, 60,
+    ];
+    firsts.iter().map(|first| 64 - first).sum()
+}
+
+/// Every k, on one wire and on two, as it is and reversed.
+fn every_k(tally: &mut Tally) -> Result<(), String> {
+    let program = program(&texts::every_k());
+    // `u1(2*pi/D) q[7];` and `cu1(2*pi/D) q[65534],q[65533];` have 16 and 30 bytes
+    // without D, each with its line feed, and one more with a minus.
+    let lines = 64 * (16 + 30 + 17 + 31) + 4 * digits_of_powers();
+    long(tally, &run(&program, 4 * 64), 36 + 15 + lines)
+}
+
+/// The bytes of the longest line that a list can have, with its line feed.
+const LONGEST: usize = 64;
+
+/// A thousand of the longest lines, over all qubits and bits.
+fn longest_lines(tally: &mut Tally) -> Result<(), String> {
+    let program = program(&texts::longest_lines());
+    let length = most_bits_text() + 15 + 1_000 * LONGEST;
+    long(tally, &run(&program, 1_000), length)
+}
+
+#[test]
+fn the_header_has_room_for_the_longest_line() {
+    let line = "if(c65534==1) cu1(-2*pi/9223372036854775808) q[65534],q[65533];\n";
+    assert_eq!(line.len(), LONGEST);
+    assert!(header::number("METAQASM_MOST_RECORD_LINE_BYTES") >= LONGEST);
 }
 
 /// The adder and its reverse at 8,000 bits.

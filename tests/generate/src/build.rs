@@ -155,6 +155,16 @@ pub fn cx(control: Field, target: Field) -> Field {
     Field::new(35, &[], vec![control, target])
 }
 
+/// A part of a turn, one by 2 to the k.
+pub fn phase(k: Field, wire: Field) -> Field {
+    Field::new(40, &[], vec![k, wire])
+}
+
+/// Such a part of a turn under a control.
+pub fn cphase(k: Field, control: Field, target: Field) -> Field {
+    Field::new(41, &[], vec![k, control, target])
+}
+
 /// A call of a family, with a number of one byte where that is enough.
 pub fn call(family: u16, sizes: Vec<Field>, operands: Vec<Field>) -> Field {
     match u8::try_from(family) {

@@ -4,6 +4,7 @@ use crate::build::{program, sizes};
 use crate::random::Random;
 use crate::typed::{Signature, Written};
 use crate::{damage, targeted, typed};
+use reference::RECORD_BYTES;
 
 /// One program with arguments for all calls.
 #[derive(Clone, Debug, PartialEq, Eq)]
@@ -41,7 +42,10 @@ fn damaged_tree(random: &mut Random) -> Case {
         mut fields,
         families,
     } = typed::program(random);
-    damage::tree(&mut fields, random);
+    match random.percent(15) {
+        true => damage::some_phase(&mut fields, random),
+        false => damage::tree(&mut fields, random),
+    }
     arguments(program(&fields), &families, random)
 }
 
@@ -109,7 +113,7 @@ fn some_limit(random: &mut Random) -> u64 {
 fn some_length(random: &mut Random) -> usize {
     match random.below(100) {
         0..=19 => random.below(100),
-        20..=24 => 8 * random.below(50),
-        _ => 10_000,
+        20..=24 => RECORD_BYTES * random.below(50),
+        _ => RECORD_BYTES * 1_250,
     }
 }

@@ -1,15 +1,19 @@
 //! Damage: small changes to a program's tree or to its bytes.
 
-use crate::build::{difference, families, headers, literal, product, program, reverse, sum, Field};
+use crate::build::*;
 use crate::random::Random;
 
 /// All tags that mean something, and two that do not.
-const TAGS: [u8; 25] = [
-    1, 2, 3, 4, 5, 6, 16, 17, 32, 33, 34, 35, 36, 37, 38, 39, 48, 49, 64, 65, 66, 67, 68, 0, 40,
+const TAGS: [u8; 27] = [
+    1, 2, 3, 4, 5, 6, 16, 17, 32, 33, 34, 35, 36, 37, 38, 39, 40, 41, 48, 49, 64, 65, 66, 67, 68,
+    0, 42,
 ];
 /// The tags of calls with a family number of one byte and of two.
 const CALL: u8 = 36;
 const WIDE_CALL: u8 = 39;
+/// The tags of phases on one wire and on two.
+const PHASE: u8 = 40;
+const CPHASE: u8 = 41;
 
 /// Changes the tree in one to three places, so that all lengths stay right.
 pub fn tree(fields: &mut Vec<Field>, random: &mut Random) {
@@ -73,6 +77,49 @@ pub fn call(field: &mut Field, in_scope: u16, random: &mut Random) {
         9 => field.head.truncate(random.below(2)),
         10 => field.tail.push(random.byte()),
         _ => field.parts.truncate(field.parts.len().saturating_sub(1)),
+    }
+}
+
+/// Changes one phase of a program that has any.
+pub fn some_phase(fields: &mut [Field], random: &mut Random) {
+    let is_phase = |field: &Field| matches!(field.tag, PHASE | CPHASE);
+    if let Some(field) = some_node(fields, is_phase, random) {
+        phase_field(field, random);
+    }
+}
+
+/// Changes a phase: its tag, its parts, their order, or where its content ends.
+pub fn phase_field(field: &mut Field, random: &mut Random) {
+    let last = field.parts.len().saturating_sub(1);
+    match random.below(10) {
+        0 => field.tag = PHASE + CPHASE - field.tag,
+        1 => field.tag = random.pick(&[32, 33, 34, 35, 38, 42]),
+        2 => field.parts.truncate(random.below(last + 1)),
+        3 => {
+            field.parts.remove(0);
+        }
+        4 => field.parts.swap(0, last),
+        5 => field.tail = vec![random.byte(); 1 + random.below(4)],
+        6 => field.parts.push(field.parts[random.below(2)].clone()),
+        _ => k_field(&mut field.parts[0], random),
+    }
+}
+
+/// Changes the k of a phase: below 0, of another kind, cut off or too deep.
+fn k_field(k: &mut Field, random: &mut Random) {
+    let before = k.clone();
+    match random.below(8) {
+        0 => *k = difference(literal(random.below(3) as u16), before),
+        1 => *k = difference(before, literal(1 + random.below(64) as u16)),
+        2 => *k = product(before.clone(), before),
+        3 => *k = product(largest(), before),
+        4 => k.tag = random.pick(&[16, 48, 49, 63, 69, 65, 66]),
+        5 => *k = variable(random.below(14) as u8),
+        6 => {
+            k.head.pop();
+            k.parts.pop();
+        }
+        _ => wrap(k, random),
     }
 }
 
@@ -210,7 +257,7 @@ fn wrap(field: &mut Field, random: &mut Random) {
     for _ in 0..times {
         let inner = field.clone();
         *field = match inner.tag {
-            32..=39 => reverse(vec![inner]),
+            32..=41 => reverse(vec![inner]),
             64..=68 => match random.below(4) {
                 0 => sum(inner, literal(0)),
                 1 => sum(literal(0), inner),

@@ -1,14 +1,17 @@
 //! Counts of the answers that the reference gives to generated cases.
 
 use crate::case::{case, Case};
-use reference::Outcome;
+use reference::{Outcome, RECORD_BYTES};
 use std::collections::BTreeMap;
 use std::ops::Range;
 
 /// All numbers that an input can be turned down with.
 pub fn all_numbers() -> impl Iterator<Item = u32> {
-    (1..=13).chain(20..=27).chain([31])
+    (1..=13).chain(20..=27).chain([31, 32])
 }
+
+/// All ops that a record can have.
+pub const ALL_OPS: std::ops::RangeInclusive<u8> = 1..=10;
 
 /// How often check, instance and run gave each number, and what they wrote.
 #[derive(Default)]
@@ -21,6 +24,8 @@ pub struct Histogram {
     pub listed: u64,
     pub records: u64,
     pub longest: u64,
+    /// By op: how many records have it.
+    pub ops: BTreeMap<u8, u64>,
 }
 
 impl Histogram {
@@ -44,7 +49,9 @@ impl Histogram {
             case.limit,
             &mut output,
         );
+        self.count_ops(&output, unrolled);
         let ran = reference::run(&case.program, case.limit, &mut output);
+        self.count_ops(&output, ran);
         self.cases += 1;
         self.accepted += u64::from(checked.number == 0);
         self.listed += u64::from(unrolled.records + ran.records > 0);
@@ -58,6 +65,19 @@ impl Histogram {
         for (call, answer) in answers.iter().enumerate() {
             self.counts.entry(answer.number).or_default()[call] += 1;
         }
+    }
+
+    /// Counts the ops of the records that a call wrote.
+    fn count_ops(&mut self, output: &[u8], answer: Outcome) {
+        let records = output.chunks_exact(RECORD_BYTES);
+        for record in records.take(answer.records as usize) {
+            *self.ops.entry(record[0]).or_default() += 1;
+        }
+    }
+
+    /// The ops that no record had.
+    pub fn missing_ops(&self) -> Vec<u8> {
+        ALL_OPS.filter(|op| !self.ops.contains_key(op)).collect()
     }
 
     /// The numbers that did not occur.

@@ -1,4 +1,4 @@
-//! Named programs: the paper's adder, and programs at the limits.
+//! Named programs: the paper's adder, Fourier transforms, and programs at the limits.
 
 use crate::build::*;
 
@@ -68,6 +68,54 @@ pub fn reversed_adder() -> Vec<Field> {
     let types = vec![qbits(plus(0, 1)); 4];
     fields.push(family(1, types, vec![reverse(vec![same])]));
     fields
+}
+
+/// A family over a size and a register, and one that runs it backward.
+fn with_inverse(size: Field, body: Vec<Field>) -> Vec<Field> {
+    let types = vec![qbits(size)];
+    let inverse = reverse(vec![call(0, vec![variable(0)], vec![whole(0)])]);
+    vec![
+        family(1, types.clone(), body),
+        family(1, types, vec![inverse]),
+    ]
+}
+
+/// The Fourier transform of n wires, without the exchange of wires at its end; behind
+/// it its inverse. Its largest k is n, so that it runs for up to 63 wires.
+pub fn fourier() -> Vec<Field> {
+    let (i, j) = (|| variable(1), || variable(2));
+    let k = sum(difference(j(), i()), literal(1));
+    let turn = cphase(k, element(0, j()), element(0, i()));
+    let round = vec![
+        h(element(0, i())),
+        repeat(plus(1, 1), minus(0, 1), vec![turn]),
+    ];
+    let body = vec![repeat(literal(0), minus(0, 1), round)];
+    with_inverse(variable(0), body)
+}
+
+/// The Fourier transform of n + 62 wires that leaves out every k above 63; behind it
+/// its inverse.
+pub fn approximate_fourier() -> Vec<Field> {
+    let (n, i, j) = (|| variable(0), || variable(1), || variable(2));
+    let ahead = element(0, sum(i(), j()));
+    let first = vec![
+        h(element(0, i())),
+        repeat(
+            literal(1),
+            literal(62),
+            vec![cphase(plus(2, 1), ahead, element(0, i()))],
+        ),
+    ];
+    let behind = |index| element(0, sum(n(), index));
+    let k = sum(difference(j(), i()), literal(1));
+    let turn = cphase(k, behind(j()), behind(i()));
+    let last = vec![h(behind(i())), repeat(plus(1, 1), literal(61), vec![turn])];
+    let body = vec![
+        repeat(literal(0), minus(0, 1), first),
+        repeat(literal(0), literal(61), last),
+    ];
+    with_inverse(plus(0, 62), body)
 }
 
 /// Two loops over a register, one inside the other, with a gate inside.

@@ -156,11 +156,16 @@ impl Shape {
         call(number, sizes, operands)
     }
 
-    /// What the first family has at the bottom: a gate, or gates with indexes of 16 levels.
+    /// What the first family has at the bottom: gates, on elements with indexes of 16
+    /// levels.
     fn gates(&self) -> Vec<Field> {
         match self.parameters {
-            Wires(_) => vec![t(whole(0))],
-            Registers { .. } => vec![t(element(0, left_deep())), t(element(0, right_deep()))],
+            Wires(_) => vec![t(whole(0)), phase(literal(0), whole(0))],
+            Registers { .. } => vec![
+                t(element(0, left_deep())),
+                t(element(0, right_deep())),
+                phase(left_deep(), element(0, right_deep())),
+            ],
         }
     }
 
@@ -199,8 +204,8 @@ impl Shape {
         sizes(&vec![0; usize::from(self.parameters.indexes())])
     }
 
-    /// Families of which the last one has the deepest indexes at the bottom, in calls
-    /// with a number of one byte and of two.
+    /// Families of which the last one has the deepest indexes at the bottom: in calls
+    /// with a number of one byte and of two, in a cx and in phases.
     pub fn deepest_indexes(&self) -> Vec<Field> {
         let small = family(1, vec![qbit()], vec![]);
         let mut fields = vec![small; 256];
@@ -212,6 +217,8 @@ impl Shape {
             call(255, vec![right_deep()], vec![wire(left_deep())]),
             call(256, sizes, operands),
             cx(wire(left_deep()), wire(right_deep())),
+            phase(right_deep(), wire(left_deep())),
+            cphase(left_deep(), wire(left_deep()), wire(right_deep())),
         ];
         fields.push(self.family(statements));
         fields

@@ -1,16 +1,19 @@
 //! Programs near one limit or one rule each, for answers that chance misses.
 
+mod phases;
+
 use crate::build::*;
 use crate::case::Case;
 use crate::damage;
 use crate::library;
 use crate::random::Random;
+use reference::RECORD_BYTES;
 
 /// A writer of cases near one limit.
 type Writer = fn(&mut Random) -> Case;
 
 /// The writers of short programs.
-const WRITERS: [Writer; 18] = [
+const WRITERS: [Writer; 23] = [
     statement_depth,
     index_depth,
     wide_calls,
@@ -29,6 +32,11 @@ const WRITERS: [Writer; 18] = [
     numbers,
     passed_registers,
     deep_calls,
+    phases::shown,
+    phases::read,
+    phases::ended,
+    phases::far_values,
+    phases::transforms,
 ];
 
 /// The writers of long programs, which come up less.
@@ -49,7 +57,7 @@ fn with(fields: &[Field], numbers: &[u32]) -> Case {
         family: 0,
         sizes: sizes(numbers),
         limit: 10_000,
-        output: 4_000,
+        output: RECORD_BYTES * 500,
     }
 }
 
@@ -70,7 +78,7 @@ fn full_length(random: &mut Random) -> Case {
 /// Statements nested about 16 deep, in a family, at the top or in an if.
 fn statement_depth(random: &mut Random) -> Case {
     let levels = 13 + random.below(5);
-    let tag = random.pick(&[5, 6, 32, 37, 38, 48]);
+    let tag = random.pick(&[5, 6, 32, 37, 38, 40, 41, 42, 48]);
     let innermost = match random.percent(80) {
         true => h(at(0, 0)),
         false => Field::new(tag, &[], vec![]),
@@ -92,14 +100,15 @@ fn wrapped_index(times: usize, random: &mut Random) -> Field {
     })
 }
 
-/// Indexes nested about 16 deep, in an operand, type, call or loop.
+/// Indexes nested about 16 deep, in an operand, type, call, loop or phase.
 fn index_depth(random: &mut Random) -> Case {
     let times = 13 + random.below(5);
     let deep = wrapped_index(times, random);
-    let body = match random.below(4) {
+    let body = match random.below(5) {
         0 => vec![h(element(0, deep))],
         1 => vec![repeat(deep, literal(1), vec![h(at(0, 0))])],
         2 => vec![call(0, vec![deep], vec![whole(0), at(0, 0)])],
+        3 => vec![phase(deep, at(0, 0))],
         _ => {
             let types = vec![qbits(sum(literal(1), deep))];
             return with(&[family(0, types, vec![h(at(0, 0))])], &[]);
@@ -441,6 +450,6 @@ fn deep_calls(random: &mut Random) -> Case {
     };
     case.family = (families - 1) as u32;
     case.limit = random.pick(&[10_000, 10, 100]);
-    case.output = random.pick(&[0, 7, 8, 100]);
+    case.output = random.pick(&[0, RECORD_BYTES - 1, RECORD_BYTES, 100]);
     case
 }

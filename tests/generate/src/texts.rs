@@ -50,6 +50,32 @@ pub fn measured() -> Vec<Field> {
     fields
 }
 
+/// Every k that a run takes, in phases on one wire and on two and in their inverses.
+pub fn every_k() -> Vec<Field> {
+    let (k, far) = (|| variable(0), MOST - 1);
+    let pair = cphase(k(), at(0, far), at(0, far - 1));
+    let turns = vec![phase(k(), at(0, 7)), pair];
+    let backward = reverse(turns.clone());
+    let both = [turns, vec![backward]].concat();
+    vec![qreg(MOST), repeat(literal(0), literal(63), both)]
+}
+
+/// 51,200 phases: for every k, on one wire and, reversed, on two.
+pub fn turned() -> Vec<Field> {
+    let pair = cphase(variable(0), at(0, 1), at(0, 2));
+    let turns = vec![phase(variable(0), at(0, 3)), reverse(vec![pair])];
+    let inner = repeat(literal(1), literal(400), turns);
+    vec![qreg(10), repeat(literal(0), literal(63), vec![inner])]
+}
+
+/// A thousand times the longest line that a list can have.
+pub fn longest_lines() -> Vec<Field> {
+    let turn = cphase(literal(63), at(0, MOST - 1), at(0, MOST - 2));
+    let turns = repeat(literal(1), literal(1_000), vec![reverse(vec![turn])]);
+    let condition = when(1, at(1, MOST - 1), vec![turns]);
+    vec![qreg(MOST), creg(MOST), condition]
+}
+
 /// All bits that a program may have, and nothing else.
 pub fn most_bits() -> Vec<Field> {
     vec![creg(MOST)]

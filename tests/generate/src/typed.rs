@@ -5,6 +5,7 @@
 //! unfit on purpose, so that near misses are among the programs too.
 
 mod libraries;
+mod phases;
 
 pub use libraries::library;
 
@@ -245,12 +246,12 @@ impl Writer<'_> {
             }
         }
         if self.random.percent(35) {
-            if let Some(written) = self.pair(scope) {
-                return Some(written);
+            if let Some(wires) = self.pair(scope) {
+                return Some(self.on_pair(scope, wires));
             }
         }
-        let gate = self.random.pick(&[h, h, t, tdg]);
-        self.wire(scope).map(gate)
+        let wire = self.wire(scope)?;
+        Some(self.on_wire(scope, wire))
     }
 
     /// Writes a loop and its body.
@@ -348,8 +349,8 @@ impl Writer<'_> {
         }
     }
 
-    /// Writes a cx on two wires that are mostly different.
-    fn pair(&mut self, scope: &Scope) -> Option<Field> {
+    /// Writes two wires that are mostly different, if they are found.
+    fn pair(&mut self, scope: &Scope) -> Option<[Field; 2]> {
         let first = self.choose(scope)?;
         let found = (0..LOOKS)
             .filter_map(|_| self.choose(scope))
@@ -359,7 +360,7 @@ impl Writer<'_> {
             None if self.random.percent(10) => self.choose(scope)?,
             None => return None,
         };
-        Some(cx(self.chosen(first), self.chosen(second)))
+        Some([first, second].map(|wire| self.chosen(wire)))
     }
 
     /// Writes an operand that is one bit, if there is one.

@@ -6,6 +6,7 @@ use generate::histogram::Histogram;
 fn every_number_occurs_and_most_programs_are_accepted() {
     let histogram = Histogram::of(0..6_000);
     assert_eq!(histogram.missing(), []);
+    assert_eq!(histogram.missing_ops(), []);
     assert!(histogram.accepted * 2 > histogram.cases, "half accepted");
     assert!(
         histogram.listed * 3 > histogram.cases,

@@ -1,6 +1,14 @@
 //! Checks that the examples' lists do what they are meant to do.
 
+mod fourier;
+
+pub use fourier::{
+    fourier_adder_adds, fourier_and_back_is_no_change, fourier_run_adds_one_and_one,
+    fourier_transforms,
+};
+
 use crate::{branches, play, records, Branch, Calls, Complex, Outcome, Record, State};
+use reference::RECORD_BYTES;
 use std::f64::consts::FRAC_1_SQRT_2;
 
 const BELL: &str = include_str!("../../../examples/bell.mq");
@@ -15,6 +23,7 @@ const CTRLADD_PRINTED: &str = include_str!("../../../examples/ctrladd-printed.mq
 const LOOP_DOWN: &str = include_str!("../../../examples/loop-down.mq");
 const THERE_AND_BACK: &str = include_str!("../../../examples/there-and-back.mq");
 const LIBRARY: &str = include_str!("../../../examples/library.mq");
+const QFT: &str = include_str!("../../../examples/qft.mq");
 
 /// What a check answers: nothing, or what went wrong.
 pub type Answer = Result<(), String>;
@@ -23,7 +32,7 @@ pub type Answer = Result<(), String>;
 pub type Check = fn(&Calls) -> Answer;
 
 /// Every check by its name.
-pub const ALL: [(&str, Check); 13] = [
+pub const ALL: [(&str, Check); 17] = [
     ("bell_pair_agrees", bell_pair_agrees),
     ("coin_is_put_back", coin_is_put_back),
     ("teleport_moves_the_state", teleport_moves_the_state),
@@ -38,6 +47,13 @@ pub const ALL: [(&str, Check); 13] = [
     ),
     ("there_and_back_is_no_change", there_and_back_is_no_change),
     ("library_flips_what_it_names", library_flips_what_it_names),
+    ("fourier_transforms", fourier_transforms),
+    (
+        "fourier_and_back_is_no_change",
+        fourier_and_back_is_no_change,
+    ),
+    ("fourier_adder_adds", fourier_adder_adds),
+    ("fourier_run_adds_one_and_one", fourier_run_adds_one_and_one),
     ("reversed_lists_are_mirrored", reversed_lists_are_mirrored),
     ("lists_of_both_calls_agree", lists_of_both_calls_agree),
 ];
@@ -53,7 +69,7 @@ fn done(outcome: Outcome, output: &[u8]) -> Result<Vec<Record>, String> {
     }
     let length = usize::try_from(outcome.records)
         .unwrap_or(usize::MAX)
-        .saturating_mul(8);
+        .saturating_mul(RECORD_BYTES);
     match output.get(..length) {
         Some(bytes) => records(bytes),
         None => Err(format!("more records than the output holds: {outcome:?}")),
@@ -302,6 +318,8 @@ pub fn reversed_lists_are_mirrored(calls: &Calls) -> Answer {
         (THERE_AND_BACK, "there", "back"),
         (ADDER_REVERSED, "add", "unadd"),
         (LOOP_DOWN, "down", "down_reversed"),
+        (QFT, "qft", "unqft"),
+        (QFT, "add", "sub"),
     ];
     for (text, forward, backward) in pairs {
         for n in 0..12 {

@@ -1,5 +1,6 @@
 //! Complex numbers, as far as the simulator needs them.
 
+use std::f64::consts::TAU;
 use std::ops::{Add, Mul, Sub};
 
 /// A complex number.
@@ -15,6 +16,12 @@ impl Complex {
 
     pub fn new(re: f64, im: f64) -> Self {
         Complex { re, im }
+    }
+
+    /// 1, turned by a part of a full turn.
+    pub fn turned(part: f64) -> Self {
+        let (sin, cos) = (TAU * part).sin_cos();
+        Complex::new(cos, sin)
     }
 
     /// The number with its imaginary part turned round.

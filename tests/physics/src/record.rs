@@ -1,6 +1,8 @@
-//! Records of 8 bytes, and what they do to a state.
+//! Records of a list, and what they do to a state.
 
 use crate::state::State;
+use programs::MOST_K;
+use reference::RECORD_BYTES;
 
 /// What a record does.
 #[derive(Clone, Copy, Debug, PartialEq, Eq)]
@@ -11,6 +13,11 @@ pub enum Op {
     Cx,
     Measure,
     Reset,
+    /// One turn divided by 2 to the k.
+    Phase(u16),
+    PhaseDg(u16),
+    Cphase(u16),
+    CphaseDg(u16),
 }
 
 /// A record: an op on wires or bits, and its condition.
@@ -25,52 +32,84 @@ pub struct Record {
 
 /// Reads records from output bytes.
 pub fn records(bytes: &[u8]) -> Result<Vec<Record>, String> {
-    bytes.chunks(8).map(record).collect()
+    match bytes.as_chunks::<RECORD_BYTES>() {
+        (whole, []) => whole.iter().map(record).collect(),
+        (_, rest) => Err(format!("a record of {} bytes", rest.len())),
+    }
 }
 
 /// Reads one record.
-fn record(bytes: &[u8]) -> Result<Record, String> {
-    let &[op, condition, first, first_high, second, second_high, bit, bit_high] = bytes else {
-        return Err(format!("a record of {} bytes", bytes.len()));
-    };
-    let two = |low, high| usize::from(u16::from_le_bytes([low, high]));
-    let op = match op {
-        1 => Op::H,
-        2 => Op::T,
-        3 => Op::Tdg,
-        4 => Op::Cx,
-        5 => Op::Measure,
-        6 => Op::Reset,
-        other => return Err(format!("no op {other}")),
-    };
-    let condition = match condition {
+fn record(bytes: &[u8; RECORD_BYTES]) -> Result<Record, String> {
+    let two = |at: usize| u16::from_le_bytes([bytes[at], bytes[at + 1]]);
+    let condition = match bytes[1] {
         0 => None,
-        1 | 2 => Some((two(bit, bit_high), condition == 2)),
+        value @ (1 | 2) => Some((usize::from(two(6)), value == 2)),
         other => return Err(format!("no condition {other}")),
     };
+    if two(10) != 0 {
+        return Err(format!("{bytes:?} does not end in two bytes of 0"));
+    }
     Ok(Record {
-        op,
+        op: op(bytes[0], two(8))?,
         condition,
-        first: two(first, first_high),
-        second: two(second, second_high),
+        first: usize::from(two(2)),
+        second: usize::from(two(4)),
     })
+}
+
+/// What a record does, by its op and k; ops without a k have 0 there.
+fn op(number: u8, k: u16) -> Result<Op, String> {
+    Ok(match (number, k) {
+        (1, 0) => Op::H,
+        (2, 0) => Op::T,
+        (3, 0) => Op::Tdg,
+        (4, 0) => Op::Cx,
+        (5, 0) => Op::Measure,
+        (6, 0) => Op::Reset,
+        (7, 0..=MOST_K) => Op::Phase(k),
+        (8, 0..=MOST_K) => Op::PhaseDg(k),
+        (9, 0..=MOST_K) => Op::Cphase(k),
+        (10, 0..=MOST_K) => Op::CphaseDg(k),
+        _ => return Err(format!("no op {number} with k {k}")),
+    })
+}
+
+impl Op {
+    /// The op that undoes this one, if it is a gate.
+    fn undone(self) -> Option<Op> {
+        Some(match self {
+            Op::H | Op::Cx => self,
+            Op::T => Op::Tdg,
+            Op::Tdg => Op::T,
+            Op::Phase(k) => Op::PhaseDg(k),
+            Op::PhaseDg(k) => Op::Phase(k),
+            Op::Cphase(k) => Op::CphaseDg(k),
+            Op::CphaseDg(k) => Op::Cphase(k),
+            Op::Measure | Op::Reset => return None,
+        })
+    }
+
+    /// Whether it has two wires.
+    fn has_two_wires(self) -> bool {
+        matches!(self, Op::Cx | Op::Cphase(_) | Op::CphaseDg(_))
+    }
+}
+
+/// One turn divided by 2 to the k.
+fn part(k: u16) -> f64 {
+    0.5f64.powi(i32::from(k))
 }
 
 impl Record {
     /// The record that undoes this one, if it is a gate.
     pub fn undone(self) -> Option<Record> {
-        let op = match self.op {
-            Op::H | Op::Cx => self.op,
-            Op::T => Op::Tdg,
-            Op::Tdg => Op::T,
-            Op::Measure | Op::Reset => return None,
-        };
+        let op = self.op.undone()?;
         Some(Record { op, ..self })
     }
 
     /// Whether the state has all the wires that are named.
     fn fits(&self, state: &State) -> bool {
-        let second = self.op != Op::Cx || self.second < state.wires();
+        let second = !self.op.has_two_wires() || self.second < state.wires();
         self.first < state.wires() && second
     }
 
@@ -79,12 +118,19 @@ impl Record {
         if !self.fits(state) {
             return Err(format!("{self:?} is past the wires"));
         }
+        let (one, both) = ([self.first], [self.first, self.second]);
+        if self.op.has_two_wires() && self.first == self.second {
+            return Err(format!("{self:?} on one wire"));
+        }
         match self.op {
             Op::H => state.h(self.first),
-            Op::T => state.turn(self.first, 1.0),
-            Op::Tdg => state.turn(self.first, -1.0),
-            Op::Cx if self.first == self.second => return Err(format!("{self:?} on one wire")),
+            Op::T => state.turn(&one, part(3)),
+            Op::Tdg => state.turn(&one, -part(3)),
             Op::Cx => state.cx(self.first, self.second),
+            Op::Phase(k) => state.turn(&one, part(k)),
+            Op::PhaseDg(k) => state.turn(&one, -part(k)),
+            Op::Cphase(k) => state.turn(&both, part(k)),
+            Op::CphaseDg(k) => state.turn(&both, -part(k)),
             Op::Measure | Op::Reset => return Err(format!("{self:?} is no gate")),
         }
         Ok(())

@@ -27,6 +27,15 @@ impl State {
         State { wires, amplitudes }
     }
 
+    /// The state with these amplitudes, by setting.
+    pub fn with(wires: usize, amplitude: impl Fn(usize) -> Complex) -> Self {
+        let settings = 0..1 << wires;
+        State {
+            wires,
+            amplitudes: settings.map(|one| (one, amplitude(one))).collect(),
+        }
+    }
+
     /// Wire 0 with two amplitudes, and the other wires 0.
     pub fn first_wire(wires: usize, zero: Complex, one: Complex) -> Self {
         let amplitudes = BTreeMap::from([(0, zero), (1, one)]);
@@ -88,11 +97,11 @@ impl State {
         self.amplitudes = after;
     }
 
-    /// An eighth of a turn where the wire is 1; forward for 1.0, back for -1.0.
-    pub fn turn(&mut self, wire: usize, sign: f64) {
-        let factor = Complex::new(FRAC_1_SQRT_2, sign * FRAC_1_SQRT_2);
+    /// A part of a turn where all of some wires are 1; forward above 0, back below.
+    pub fn turn(&mut self, wires: &[usize], part: f64) {
+        let factor = Complex::turned(part);
         for (setting, amplitude) in &mut self.amplitudes {
-            if (setting >> wire) & 1 == 1 {
+            if wires.iter().all(|wire| (setting >> wire) & 1 == 1) {
                 *amplitude = *amplitude * factor;
             }
         }

@@ -1,24 +1,59 @@
 //! The checks notice unrollers that are wrong in ways that look finished.
 
 use physics::{checks, Calls, Outcome, REFERENCE};
+use reference::RECORD_BYTES;
 
-/// Changes the ops of all records written.
-fn change_ops(outcome: Outcome, output: &mut [u8], change: fn(u8) -> u8) -> Outcome {
+/// The bytes of a record.
+type Record = [u8; RECORD_BYTES];
+
+/// Changes all records written.
+fn change(outcome: Outcome, output: &mut [u8], change: fn(&mut Record)) -> Outcome {
     let records = usize::try_from(outcome.records).unwrap();
-    for record in output.chunks_exact_mut(8).take(records) {
-        record[0] = change(record[0]);
-    }
+    let (whole, _) = output.as_chunks_mut::<RECORD_BYTES>();
+    whole.iter_mut().take(records).for_each(change);
     outcome
 }
 
+/// The reference, but every record of a family's list is changed.
+macro_rules! changed {
+    ($change:expr) => {
+        Calls {
+            instance: |program, family, sizes, limit, output| {
+                let outcome = (REFERENCE.instance)(program, family, sizes, limit, output);
+                change(outcome, output, $change)
+            },
+            run: REFERENCE.run,
+        }
+    };
+}
+
 /// The reference, but tdg is written as t.
-const NO_TDG: Calls = Calls {
-    instance: |program, family, sizes, limit, output| {
-        let outcome = (REFERENCE.instance)(program, family, sizes, limit, output);
-        change_ops(outcome, output, |op| if op == 3 { 2 } else { op })
-    },
-    run: REFERENCE.run,
-};
+const NO_TDG: Calls = changed!(|record| record[0] -= u8::from(record[0] == 3));
+
+/// The reference, but phasedg is written as phase, and cphasedg as cphase.
+const NO_INVERSE_PHASES: Calls = changed!(|record| {
+    record[0] -= u8::from(matches!(record[0], 8 | 10));
+});
+
+/// The reference, but k is one more.
+const LARGER_K: Calls = changed!(|record| record[8] += u8::from(record[0] >= 7));
+
+/// The reference, but k is one less where it is 3.
+const SMALLER_K: Calls = changed!(|record| record[8] -= u8::from(record[8] == 3));
+
+/// The reference, but a cphase on wires 0 and 2 is on 1 and 2.
+const OTHER_PAIR: Calls = changed!(|record| {
+    let pair = record[0] >= 9 && record[2] == 0 && record[4] == 2;
+    record[2] += u8::from(pair);
+});
+
+/// The reference, but the wires of a cphase are exchanged, which is the same gate.
+const SAME_PAIR: Calls = changed!(|record| {
+    if record[0] >= 9 {
+        record.swap(2, 4);
+        record.swap(3, 5);
+    }
+});
 
 /// The reference, but the last record is missing.
 const ONE_SHORT: Calls = Calls {
@@ -39,10 +74,7 @@ const UNCONDITIONAL: Calls = Calls {
     instance: REFERENCE.instance,
     run: |program, limit, output| {
         let outcome = (REFERENCE.run)(program, limit, output);
-        for record in output.chunks_exact_mut(8) {
-            record[1] = 0;
-        }
-        outcome
+        change(outcome, output, |record| record[1] = 0)
     },
 };
 
@@ -93,6 +125,35 @@ fn tdg_written_as_t_is_noticed() {
     assert!(failed.contains(&"reversed_lists_are_mirrored"));
 }
 
+/// The checks of the Fourier transform's families.
+const FOURIER: [&str; 3] = [
+    "fourier_transforms",
+    "fourier_and_back_is_no_change",
+    "fourier_adder_adds",
+];
+
+#[test]
+fn inverse_phases_that_are_not_exchanged_are_noticed() {
+    let due = [&FOURIER[1..], &["reversed_lists_are_mirrored"]].concat();
+    assert_eq!(failing(&NO_INVERSE_PHASES), due);
+}
+
+#[test]
+fn a_k_that_is_one_off_is_noticed() {
+    assert_eq!(failing(&LARGER_K), [FOURIER[0], FOURIER[2]]);
+    assert_eq!(failing(&SMALLER_K), [FOURIER[0], FOURIER[2]]);
+}
+
+#[test]
+fn a_phase_on_another_pair_of_wires_is_noticed() {
+    assert_eq!(failing(&OTHER_PAIR), [FOURIER[0], FOURIER[2]]);
+}
+
+#[test]
+fn a_phase_is_the_same_with_its_wires_exchanged() {
+    assert!(failing(&SAME_PAIR).is_empty());
+}
+
 #[test]
 fn a_missing_record_is_noticed() {
     let failed = failing(&ONE_SHORT);
@@ -104,6 +165,10 @@ fn a_missing_record_is_noticed() {
         "ctrladd_adds_under_control",
         "there_and_back_is_no_change",
         "library_flips_what_it_names",
+        "fourier_transforms",
+        "fourier_and_back_is_no_change",
+        "fourier_adder_adds",
+        "fourier_run_adds_one_and_one",
     ] {
         assert!(failed.contains(&name), "{name}");
     }

@@ -25,6 +25,10 @@ with_the_reference! {
     ctrladd_as_printed_adds_two_cells_only
     there_and_back_is_no_change
     library_flips_what_it_names
+    fourier_transforms
+    fourier_and_back_is_no_change
+    fourier_adder_adds
+    fourier_run_adds_one_and_one
     reversed_lists_are_mirrored
     lists_of_both_calls_agree
 }

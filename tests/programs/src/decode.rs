@@ -36,9 +36,9 @@ impl Class {
     /// Whether a field with this tag may stand there.
     fn allows(self, tag: u8) -> bool {
         match self {
-            Class::Top => matches!(tag, 1..=6 | 32..=39),
-            Class::Statement => matches!(tag, 32..=39),
-            Class::Type => matches!(tag, 16 | 17),
+            Class::Top => tags::at_top_only(tag) || tags::is_statement(tag),
+            Class::Statement => tags::is_statement(tag),
+            Class::Type => matches!(tag, tags::QBIT | tags::QBITS),
             Class::Operand => tags::is_operand(tag),
             Class::Index => tags::is_index(tag),
             Class::Argument => Class::Operand.allows(tag) || Class::Index.allows(tag),
@@ -103,6 +103,8 @@ fn parts_due(tag: u8, head: &[u8]) -> (Vec<Class>, Option<Class>) {
         tags::SUM | tags::DIFFERENCE | tags::PRODUCT => (vec![Class::Index; 2], None),
         tags::MEASURE | tags::CX => (vec![Class::Operand; 2], None),
         tags::RESET | tags::H | tags::T | tags::TDG => (vec![Class::Operand], None),
+        tags::PHASE => (vec![Class::Index, Class::Operand], None),
+        tags::CPHASE => (vec![Class::Index, Class::Operand, Class::Operand], None),
         tags::IF => (vec![Class::Operand], Some(Class::Statement)),
         tags::CALL | tags::LONG_CALL => (Vec::new(), Some(Class::Argument)),
         tags::REVERSE => (Vec::new(), Some(Class::Statement)),

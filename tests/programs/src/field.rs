@@ -20,6 +20,8 @@ pub mod tags {
     pub const REVERSE: u8 = 37;
     pub const FOR: u8 = 38;
     pub const LONG_CALL: u8 = 39;
+    pub const PHASE: u8 = 40;
+    pub const CPHASE: u8 = 41;
     pub const WHOLE: u8 = 48;
     pub const ELEMENT: u8 = 49;
     pub const LITERAL: u8 = 64;
@@ -44,6 +46,8 @@ pub mod tags {
             CALL | LONG_CALL => "call",
             REVERSE => "reverse",
             FOR => "for",
+            PHASE => "phase",
+            CPHASE => "cphase",
             _ => return None,
         })
     }
@@ -51,6 +55,11 @@ pub mod tags {
     /// Whether a field with this tag is a call.
     pub fn is_call(tag: u8) -> bool {
         matches!(tag, CALL | LONG_CALL)
+    }
+
+    /// Whether a field with this tag is a statement that may stand anywhere.
+    pub fn is_statement(tag: u8) -> bool {
+        (H..=CPHASE).contains(&tag)
     }
 
     /// Whether a field with this tag is an index.
@@ -107,6 +116,12 @@ impl Field {
     /// Whether it is a call, by a number of one byte or of two.
     pub fn is_call(&self) -> bool {
         self.tag.is_some_and(tags::is_call)
+    }
+
+    /// The operands among the fields inside it.
+    pub fn operands(&self) -> impl Iterator<Item = &Field> {
+        let is_operand = |part: &&Field| part.tag.is_some_and(tags::is_operand);
+        self.parts.iter().filter(is_operand)
     }
 
     /// The same field with the names that the text gives.

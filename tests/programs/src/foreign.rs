@@ -22,8 +22,8 @@ fn version(text: &str) -> String {
 fn openqasm(version: &str, spot: Spot) -> TextError {
     let message = format!(
         "this is OpenQASM {version}, which is not metaQASM: leave out OPENQASM and include, \
-         declare each gate that is used by h, t, tdg and cx, and write conditions on one bit, \
-         as if (c[0] == 1) {{ .. }}; 'mqasm help' shows the text form"
+         declare each gate that is used by h, t, tdg, cx, phase and cphase, and write \
+         conditions on one bit, as if (c[0] == 1) {{ .. }}; 'mqasm help' shows the text form"
     );
     TextError::new(spot, message)
 }

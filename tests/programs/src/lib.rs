@@ -27,6 +27,7 @@ pub use encode::Spots;
 pub use examples::{examples, Example};
 pub use listing::listing;
 pub use numbers::{meaning, numbers, version, Number};
+pub use operations::MOST_K;
 pub use token::{Spot, TextError};
 
 /// A program put into bytes, with what its text said about it.

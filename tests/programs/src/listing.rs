@@ -1,8 +1,8 @@
 //! Records and results as lines for people.
 
 use crate::names::clipped;
-use crate::operations::{Record, OPERATIONS, RECORD};
-use reference::Outcome;
+use crate::operations::{Record, OPERATIONS};
+use reference::{Outcome, RECORD_BYTES};
 use std::fmt::Write;
 
 /// One line for each record, then the line of the result.
@@ -19,7 +19,8 @@ pub fn listing(output: &[u8], outcome: &Outcome) -> String {
 /// The records that a run wrote.
 pub fn written<'a>(output: &'a [u8], outcome: &Outcome) -> impl Iterator<Item = Record> + 'a {
     let records = usize::try_from(outcome.records).unwrap_or(usize::MAX);
-    output.chunks_exact(RECORD).take(records).map(Record::of)
+    let (whole, _) = output.as_chunks::<RECORD_BYTES>();
+    whole.iter().take(records).map(Record::of)
 }
 
 /// The line of the result.
@@ -44,6 +45,9 @@ pub fn line(record: &Record) -> String {
         return text;
     };
     text.push_str(operation.word);
+    if operation.has_k {
+        let _ = write!(text, " {}", record.k);
+    }
     for number in record.numbers.iter().take(operation.marks.len()) {
         let _ = write!(text, " {number}");
     }
@@ -83,12 +87,20 @@ fn record(words: &[&str]) -> Option<Record> {
         }
         _ => (None, words),
     };
-    let (word, numbers) = words.split_first()?;
+    let (word, rest) = words.split_first()?;
     let operation = OPERATIONS.iter().find(|known| known.word == *word)?;
+    let (k, numbers) = match operation.has_k {
+        true => {
+            let (k, numbers) = rest.split_first()?;
+            (k.parse().ok().filter(|k| operation.takes(*k))?, numbers)
+        }
+        false => (0, rest),
+    };
     let mut record = Record {
         code: operation.code,
         condition,
         numbers: [0; 2],
+        k,
     };
     if numbers.len() != operation.marks.len() {
         return None;

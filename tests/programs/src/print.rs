@@ -42,6 +42,8 @@ impl<'a> Printer<'a> {
             tags::T => self.operands("t ", ", ", field),
             tags::TDG => self.operands("tdg ", ", ", field),
             tags::CX => self.operands("cx ", ", ", field),
+            tags::PHASE => self.phase("phase", field),
+            tags::CPHASE => self.phase("cphase", field),
             tags::CALL | tags::LONG_CALL => self.call(field),
             tags::IF => {
                 let bit = self.scope.operand(&field.parts[0]);
@@ -100,9 +102,15 @@ impl<'a> Printer<'a> {
 
     /// Writes a statement of a word and its operands.
     fn operands(&mut self, word: &str, between: &str, field: &Field) {
-        let parts = field.parts.iter();
+        let parts = field.operands();
         let names: Vec<_> = parts.map(|part| self.scope.operand(part)).collect();
         self.line(&format!("{word}{};\n", names.join(between)));
+    }
+
+    /// Writes a phase: its word, k, and the operands.
+    fn phase(&mut self, word: &str, field: &Field) {
+        let k = self.scope.index(&field.parts[0]);
+        self.operands(&format!("{word}({k}) "), ", ", field);
     }
 
     fn call(&mut self, field: &Field) {

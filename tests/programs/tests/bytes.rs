@@ -51,6 +51,37 @@ fn gates_on_whole_operands() {
 }
 
 #[test]
+fn phases() {
+    let q = "02 02 00 02 00";
+    let wire = |number: &str| format!("31 06 00 00 40 02 00 {number} 00");
+    let (zero, one) = (wire("00"), wire("01"));
+    let phase = format!("{q} 28 0e 00 40 02 00 03 00 {one}");
+    gives("qreg q[2]; phase(3) q[1];", &phase);
+    gives("qreg q[2]; phase (3)(q[1]);", &phase);
+    let cphase = format!("{q} 29 17 00 40 02 00 3f 00 {one} {zero}");
+    gives("qreg q[2]; cphase(63) q[1], q[0];", &cphase);
+    gives("qreg q[2]; reverse { cphase(63)(q[1], q[0]) }", {
+        &format!("{q} 25 1a 00 29 17 00 40 02 00 3f 00 {one} {zero}")
+    });
+}
+
+#[test]
+fn k_is_an_index() {
+    gives(
+        "for i = 0..1 { for j = i..1 { cphase(j-i+1) #0, #1[i]; } }",
+        "26 38 00 40 02 00 00 00 40 02 00 01 00 \
+         26 2b 00 41 01 00 00 40 02 00 01 00 \
+         29 1f 00 42 10 00 43 08 00 41 01 00 01 41 01 00 00 40 02 00 01 00 \
+         30 01 00 00 31 05 00 01 41 01 00 00",
+    );
+    gives(
+        "family(n) f(x: Qbit) { phase((n)) x; phase(2*n) (x); }",
+        "01 23 00 01 01 10 00 00 28 08 00 41 01 00 00 30 01 00 00 \
+         28 10 00 44 09 00 40 02 00 02 00 41 01 00 00 30 01 00 00",
+    );
+}
+
+#[test]
 fn gate_is_a_family_without_variables() {
     let bytes = "01 05 00 00 01 10 00 00";
     gives("gate g(a: Qbit) {}", bytes);
@@ -161,6 +192,7 @@ fn families_from_256_on_are_called_by_two_bytes() {
 fn what_the_checker_refuses_can_be_written() {
     gives("h #7;", "20 04 00 30 01 00 07");
     gives("h #7[#9];", "20 08 00 31 05 00 07 41 01 00 09");
+    gives("phase(#9) #7;", "28 08 00 41 01 00 09 30 01 00 07");
     gives("#3(1)(#0);", "24 0a 00 03 40 02 00 01 00 30 01 00 00");
     gives("#255(); #256();", "24 01 00 ff 27 02 00 00 01");
     gives("##3(1)(#0);", "27 0b 00 03 00 40 02 00 01 00 30 01 00 00");

@@ -27,7 +27,7 @@ fn the_examples_drawings() {
         gives(&words, "", 0, drawing, "");
         count += 1;
     }
-    assert!(count >= 4);
+    assert!(count >= 6);
 }
 
 #[test]
@@ -41,6 +41,24 @@ q[1] ───────────●──M────H──⊕─
                    ║    ║  ║
 c[0] ══════════════╩════○══●═
 end 0 0 8 10
+";
+    assert_eq!(drawn(text, &[]), drawing);
+}
+
+#[test]
+fn phases_are_drawn_with_their_k() {
+    let text = "qreg q[3]; creg c[1]; phase(3) q[0]; reverse { phase(63) q[0]; } \
+                cphase(2) q[0], q[2]; reverse { cphase(10) q[2], q[1]; } h q[0]; \
+                if (c[0] == 1) { cphase(0) q[1], q[2]; }";
+    let drawing = "\
+q[0] ─P(3)──P†(63)──●─────H────────────
+                    │
+q[1] ───────────────┼─────P†(10)──●────
+                    │     │       │
+q[2] ───────────────P(2)──●───────P(0)─
+                                  ║
+c[0] ═════════════════════════════●════
+end 0 0 6 9
 ";
     assert_eq!(drawn(text, &[]), drawing);
 }
@@ -138,10 +156,17 @@ end 0 0 14 14
     }
 }
 
+/// A record that begins with some bytes, and is 0 from there on.
+fn record(start: &[u8]) -> Vec<u8> {
+    let mut bytes = start.to_vec();
+    bytes.resize(12, 0);
+    bytes
+}
+
 #[test]
 fn records_and_lists_are_drawn() {
     let drawing = "wire 0 ─H──●─\n           │\nwire 1 ────⊕─\n";
-    let records = [1, 0, 0, 0, 0, 0, 0, 0, 4, 0, 0, 0, 1, 0, 0, 0];
+    let records = [record(&[1]), record(&[4, 0, 0, 0, 1])].concat();
     let words = ["draw", "--records", "-"];
     assert_eq!(wrote(&tool(&words, &records)), drawing);
     let list = "h 0\ncx 0 1\nend 0 0 2 2\n";
@@ -153,12 +178,25 @@ fn records_and_lists_are_drawn() {
 }
 
 #[test]
+fn records_and_lists_of_phases_are_drawn() {
+    let drawing = "wire 0 ─P(63)──●─────\n               │\nwire 1 ────────P†(0)─\n";
+    let records = [
+        record(&[7, 0, 0, 0, 0, 0, 0, 0, 63]),
+        record(&[10, 0, 0, 0, 1]),
+    ];
+    let words = ["draw", "--records", "-"];
+    assert_eq!(wrote(&tool(&words, &records.concat())), drawing);
+    let list = "phase 63 0\ncphasedg 0 0 1\nend 0 0 2 2\n";
+    gives(&["draw", "--listing", "-"], list, 0, drawing, "");
+}
+
+#[test]
 fn every_examples_list_draws_as_its_program_does() {
     let rows = |drawing: &str| -> Vec<String> {
         let lines = drawing.lines().filter(|line| !line.starts_with("end "));
         let marks = |line: &str| {
             line.chars()
-                .filter(|c| "●⊕HTM╩○†┼╫╬│║".contains(*c))
+                .filter(|c| "●⊕HTPM╩○†┼╫╬│║".contains(*c))
                 .collect()
         };
         lines
@@ -166,7 +204,7 @@ fn every_examples_list_draws_as_its_program_does() {
             .filter(|line: &String| !line.is_empty())
             .collect()
     };
-    for name in ["bell", "teleport", "coin", "toffoli", "ctrladd"] {
+    for name in ["bell", "teleport", "coin", "toffoli", "ctrladd", "qft"] {
         let program = wrote(&tool(
             &["draw", &format!("{name}.mq"), "--width=10000"],
             b"",
@@ -180,48 +218,78 @@ fn every_examples_list_draws_as_its_program_does() {
     }
 }
 
+/// Shows that an input is not drawn, and what is said of it.
+fn not_drawn(words: &[&str], input: &[u8], message: &str) {
+    let found = tool(words, input);
+    assert_eq!(said(&found), format!("mqasm: standard input: {message}\n"));
+    assert_eq!(wrote(&found), "");
+    assert_eq!(found.status.code(), Some(1));
+}
+
 #[test]
-fn records_and_lists_that_cannot_be_drawn() {
-    let says = |words: &[&str], input: &[u8], message: &str| {
-        let found = tool(words, input);
-        assert_eq!(said(&found), format!("mqasm: standard input: {message}\n"));
-        assert_eq!(wrote(&found), "");
-        assert_eq!(found.status.code(), Some(1));
+fn records_that_cannot_be_drawn() {
+    let says = |bytes: &[u8], message: &str| not_drawn(&["draw", "--records", "-"], bytes, message);
+    says(&[1, 0, 0], "3 bytes are not records of 12 bytes each");
+    let none = "record 0 cannot be drawn, as it is none of a list:";
+    says(&record(&[11]), &format!("{none} unknown 11"));
+    says(&record(&[4, 0, 1, 0, 1]), &format!("{none} cx 1 1"));
+    let cphase = record(&[9, 0, 1, 0, 1, 0, 0, 0, 5]);
+    says(&cphase, &format!("{none} cphase 5 1 1"));
+    says(&record(&[1, 3, 1]), &format!("{none} if 0 2 h 1"));
+}
+
+#[test]
+fn lists_that_cannot_be_drawn() {
+    let says = |list: &str, message: &str| {
+        not_drawn(&["draw", "--listing", "-"], list.as_bytes(), message);
     };
-    let records = ["draw", "--records", "-"];
+    says("h 0\ncz 0 1\n", "line 2: 'cz 0 1' is no line of a list");
+    for line in [
+        "h 0 1",
+        "phase 0",
+        "phase 64 0",
+        "phase 1 0 1",
+        "cphase 1 0",
+        "phase x 0",
+        "t 1 0",
+        "u1 1 0",
+    ] {
+        let message = format!("line 1: '{line}' is no line of a list");
+        says(&format!("{line}\n"), &message);
+    }
     says(
-        &records,
-        &[1, 0, 0],
-        "3 bytes are not records of 8 bytes each",
-    );
-    let unknown = "record 0 cannot be drawn, as it is none of a list: unknown 9";
-    says(&records, &[9, 0, 0, 0, 0, 0, 0, 0], unknown);
-    let twice = "record 0 cannot be drawn, as it is none of a list: cx 1 1";
-    says(&records, &[4, 0, 1, 0, 1, 0, 0, 0], twice);
-    let condition = "record 0 cannot be drawn, as it is none of a list: if 0 2 h 1";
-    says(&records, &[1, 3, 1, 0, 0, 0, 0, 0], condition);
-    let lists = ["draw", "--listing", "-"];
-    says(
-        &lists,
-        b"h 0\ncz 0 1\n",
-        "line 2: 'cz 0 1' is no line of a list",
-    );
-    says(&lists, b"h 0 1\n", "line 1: 'h 0 1' is no line of a list");
-    says(
-        &lists,
-        b"h 0\n",
+        "h 0\n",
         "there is no line 'end ..', so the list may be cut off",
     );
 }
 
 #[test]
-fn large_circuits_get_a_message() {
-    let says = |text: &str, message: &str| {
-        let found = tool(&["draw", "-"], text.as_bytes());
-        assert_eq!(said(&found), format!("mqasm: standard input: {message}\n"));
-        assert_eq!(wrote(&found), "");
-        assert_eq!(found.status.code(), Some(1));
+fn records_with_a_bad_end_are_refused() {
+    let says = |bytes: &[u8], number: usize, end: &str| {
+        let message = format!(
+            "record {number} is none of a list, as its last bytes are {end}; \
+             a record has 12 bytes, and had 8 before version 1.3"
+        );
+        not_drawn(&["draw", "--records", "-"], bytes, &message);
     };
+    let ending = |code: u8, end: [u8; 4]| [&[code, 0, 0, 0, 0, 0, 0, 0][..], &end].concat();
+    says(&ending(7, [64, 0, 0, 0]), 0, "[64, 0, 0, 0]");
+    says(&ending(9, [0, 1, 0, 0]), 0, "[0, 1, 0, 0]");
+    says(&ending(7, [3, 0, 1, 0]), 0, "[3, 0, 1, 0]");
+    says(&ending(1, [1, 0, 0, 0]), 0, "[1, 0, 0, 0]");
+    says(&ending(1, [0, 0, 0, 1]), 0, "[0, 0, 0, 1]");
+    says(
+        &[record(&[1]), ending(6, [2, 0, 0, 0])].concat(),
+        1,
+        "[2, 0, 0, 0]",
+    );
+    let three_of_8_bytes = [[1, 0, 0, 0, 0, 0, 0, 0]; 3].concat();
+    says(&three_of_8_bytes, 0, "[1, 0, 0, 0]");
+}
+
+#[test]
+fn large_circuits_get_a_message() {
+    let says = |text: &str, message: &str| not_drawn(&["draw", "-"], text.as_bytes(), message);
     says(
         "qreg q[101]; h q[0];",
         "there are 101 qubits and bits, and a drawing has at most 100 rows: \
@@ -263,7 +331,12 @@ fn refused_programs_have_no_drawing() {
     let found = tool(&["draw", "-"], b"qreg q[1]; ##0(q[0]);");
     assert_eq!(wrote(&found), "end 31 5 0 0\n");
     assert_eq!(found.status.code(), Some(1));
-    let found = tool(&["draw", "cx-one-wire.mq"], b"");
-    assert!(wrote(&found).ends_with("end 25 5 0 1\n"));
-    assert_eq!(found.status.code(), Some(1));
+    for (program, end) in [
+        ("cx-one-wire.mq", "q[0] ───\nend 25 5 0 1\n"),
+        ("phase-64.mq", "q[0] ─P(63)─\nend 32 22 1 2\n"),
+    ] {
+        let found = tool(&["draw", program], b"");
+        assert_eq!(wrote(&found), end);
+        assert_eq!(found.status.code(), Some(1));
+    }
 }

@@ -93,6 +93,22 @@ fn openqasm_says_what_lists_say() {
 }
 
 #[test]
+fn a_k_that_is_too_large_is_explained() {
+    let mut found = 0;
+    for seed in 0..6000 {
+        let case = case(seed);
+        let words = ["list", "--bytes", "-", "--limit=2000"];
+        let (_, list, messages) = tool(&words, &case.program);
+        if number(&list) == 32 {
+            assert!(messages.contains("\n  k is "), "{seed}: {messages}");
+            assert!(messages.contains(" above 63: "), "{seed}: {messages}");
+            found += 1;
+        }
+    }
+    assert!(found > 5, "{found}");
+}
+
+#[test]
 fn drawings_end_as_lists_do() {
     let mut drawn = 0;
     for seed in 0..3000 {
@@ -113,38 +129,43 @@ fn drawings_end_as_lists_do() {
     assert!(drawn > 1000, "{drawn}");
 }
 
-/// The marks that the lines of a list put on each row, in order.
-fn marks_of_list(list: &str) -> BTreeMap<String, Vec<&'static str>> {
-    let mut rows: BTreeMap<String, Vec<&str>> = BTreeMap::new();
-    for line in list.lines().filter(|line| !line.starts_with("end ")) {
-        let mut words: Vec<&str> = line.split(' ').collect();
-        let mut put = |row: String, mark| rows.entry(row).or_default().push(mark);
-        if words[0] == "if" {
-            let mark = if words[2] == "1" { "●" } else { "○" };
-            put(format!("bit {}", words[1]), mark);
-            words.drain(..3);
+/// The marks that the words of a list's line put, each with its row.
+fn marks_of_words(words: &[&str]) -> Vec<(String, String)> {
+    let wire = |number: &str, mark: &str| (format!("wire {number}"), mark.to_string());
+    let bit = |number: &str, mark: &str| (format!("bit {number}"), mark.to_string());
+    match words {
+        ["if", number, value, rest @ ..] => {
+            let mark = if *value == "1" { "●" } else { "○" };
+            [vec![bit(number, mark)], marks_of_words(rest)].concat()
         }
-        let wire = format!("wire {}", words[1]);
-        match words[0] {
-            "h" => put(wire, "H"),
-            "t" => put(wire, "T"),
-            "tdg" => put(wire, "T†"),
-            "reset" => put(wire, "|0⟩"),
-            "cx" => {
-                put(wire, "●");
-                put(format!("wire {}", words[2]), "⊕");
-            }
-            _ => {
-                put(wire, "M");
-                put(format!("bit {}", words[2]), "╩");
-            }
+        ["h", one] => vec![wire(one, "H")],
+        ["t", one] => vec![wire(one, "T")],
+        ["tdg", one] => vec![wire(one, "T†")],
+        ["reset", one] => vec![wire(one, "|0⟩")],
+        ["phase", k, one] => vec![wire(one, &format!("P({k})"))],
+        ["phasedg", k, one] => vec![wire(one, &format!("P†({k})"))],
+        ["cx", one, other] => vec![wire(one, "●"), wire(other, "⊕")],
+        ["cphase", k, one, other] => vec![wire(one, "●"), wire(other, &format!("P({k})"))],
+        ["cphasedg", k, one, other] => vec![wire(one, "●"), wire(other, &format!("P†({k})"))],
+        ["measure", one, number] => vec![wire(one, "M"), bit(number, "╩")],
+        _ => panic!("no line of a list: {words:?}"),
+    }
+}
+
+/// The marks that the lines of a list put on each row, in order.
+fn marks_of_list(list: &str) -> BTreeMap<String, Vec<String>> {
+    let mut rows: BTreeMap<String, Vec<String>> = BTreeMap::new();
+    for line in list.lines().filter(|line| !line.starts_with("end ")) {
+        let words: Vec<&str> = line.split(' ').collect();
+        for (row, mark) in marks_of_words(&words) {
+            rows.entry(row).or_default().push(mark);
         }
     }
     rows
 }
 
 /// The marks on each row of a drawing of one block, in order.
-fn marks_of_drawing(drawing: &str) -> BTreeMap<String, Vec<&str>> {
+fn marks_of_drawing(drawing: &str) -> BTreeMap<String, Vec<String>> {
     let mut rows = BTreeMap::new();
     let (mut wires, mut bits) = (0, 0);
     for line in drawing.lines() {
@@ -155,7 +176,8 @@ fn marks_of_drawing(drawing: &str) -> BTreeMap<String, Vec<&str>> {
         };
         let (_, line) = line.split_once(' ').unwrap();
         let marks = line.trim().split(['─', '═', '┼', '╫', '╬']);
-        let marks: Vec<&str> = marks.filter(|mark| !mark.is_empty()).collect();
+        let marks = marks.filter(|mark| !mark.is_empty());
+        let marks: Vec<String> = marks.map(String::from).collect();
         if !marks.is_empty() {
             rows.insert(format!("{row} {count}"), marks);
         }
@@ -166,7 +188,7 @@ fn marks_of_drawing(drawing: &str) -> BTreeMap<String, Vec<&str>> {
 
 #[test]
 fn every_row_has_its_marks_in_order() {
-    let mut marks = 0;
+    let (mut marks, mut phases) = (0, 0);
     for seed in 0..3000 {
         let case = case(seed);
         let words = ["list", "--bytes", "-", "--limit=2000"];
@@ -177,7 +199,8 @@ fn every_row_has_its_marks_in_order() {
             let due = marks_of_list(&list);
             assert_eq!(marks_of_drawing(&drawing), due, "{seed}");
             marks += due.values().map(Vec::len).sum::<usize>();
+            phases += list.lines().filter(|line| line.contains("phase")).count();
         }
     }
-    assert!(marks > 5000, "{marks}");
+    assert!(marks > 5000 && phases > 100, "{marks}, {phases}");
 }

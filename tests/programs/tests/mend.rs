@@ -74,6 +74,32 @@ fn sizes_below_zero() {
 }
 
 #[test]
+fn a_k_below_zero() {
+    not_shown(
+        "family(n) f(x: Qbit[n]) { for i = 0..n-1 { phase(i-1) x[i]; } }",
+        "the k i - 1 of this phase is not shown to be 0 or more: \
+         it comes to -1 with i at its low bound 0",
+    );
+    not_shown(
+        "family(n) f(x: Qbit[2]) { cphase(n-2) x[0], x[1]; }",
+        "the k n - 2 of this phase is not shown to be 0 or more: \
+         it comes to n - 2, which is -2 at n = 0",
+    );
+    mend(
+        "qreg q[1];\nreverse { phase(2-3) q[9]; }",
+        "2:18",
+        "end 12 11 0 0\n",
+        12,
+        "the k 2 - 3 of this phase is not shown to be 0 or more: it comes to -1",
+    );
+    not_shown(
+        "qreg q[2]; cphase(5) q[1], q[2];",
+        "q[2]: the index 2 is 0 or more, but is not shown to be below the size 2: \
+         size - 1 - index comes to -1",
+    );
+}
+
+#[test]
 fn registers_that_are_too_small() {
     not_shown(
         "family(n) f(x: Qbit[n+1]) {} qreg q[5]; f(5)(q);",
@@ -170,13 +196,15 @@ fn what_stands_at_the_top_only() {
     assert!(said(&found).ends_with("  'measure' stands at the top of a program only\n"));
 }
 
+/// Shows what is said of an operand of the wrong kind.
+fn kind(text: &str, details: &str) {
+    let found = tool(&["check", "-"], text.as_bytes());
+    assert!(said(&found).contains(": 9: "), "{text}");
+    assert!(said(&found).ends_with(&format!("  {details}\n")), "{text}");
+}
+
 #[test]
 fn operands_of_the_wrong_kind() {
-    let kind = |text: &str, details: &str| {
-        let found = tool(&["check", "-"], text.as_bytes());
-        assert!(said(&found).contains(": 9: "), "{text}");
-        assert!(said(&found).ends_with(&format!("  {details}\n")), "{text}");
-    };
     kind(
         "qreg q[2]; h q;",
         "h takes one qubit here, and q is a whole register of qubits: \
@@ -202,6 +230,19 @@ fn operands_of_the_wrong_kind() {
     kind(
         "creg c[2]; t c[1];",
         "t takes one qubit here, and c[1] is a bit",
+    );
+}
+
+#[test]
+fn operands_of_phases_of_the_wrong_kind() {
+    kind(
+        "qreg q[2]; cphase(1) q[0], q;",
+        "cphase takes one qubit here, and q is a whole register of qubits: \
+         write q[0], or another element",
+    );
+    kind(
+        "creg c[2]; phase(1) c[0];",
+        "phase takes one qubit here, and c[0] is a bit",
     );
 }
 
@@ -331,6 +372,13 @@ fn indexes_and_conditions() {
         "n * m: one side of a product must be a number",
     );
     mend(
+        "family(n, m) f(x: Qbit) { phase(1+n*m) x; }",
+        "1:36",
+        "end 10 19 0 0\n",
+        10,
+        "n * m: one side of a product must be a number",
+    );
+    mend(
         "creg c[1]; if (c[0] == 2) {}",
         "1:12",
         "end 13 5 0 0\n",
@@ -422,19 +470,53 @@ fn sizes_that_are_due() {
 
 #[test]
 fn runs_that_end_early() {
-    let words = ["list", "bell.mq", "--output=8"];
+    let words = ["list", "bell.mq", "--output=12"];
     let found = tool(&words, b"");
-    let details = "the output has 8 bytes, and a record takes 8: allow more with --output";
+    let details = "the output has 12 bytes, and a record takes 12: allow more with --output";
     assert!(said(&found).ends_with(&format!("{}\n  {details}\n", meaning(27))));
     let found = tool(&["list", "bell.mq", "--limit=1"], b"");
     let details = "the limit is 1: allow more steps with --limit";
     assert!(said(&found).ends_with(&format!("{}\n  {details}\n", meaning(26))));
 }
 
+/// Shows what a run lists, and what is said of its end at a place of the text.
+fn ends(text: &str, list: &str, spot: &str, number: u32, details: &str) {
+    let sentence = meaning(number);
+    let message = format!("mqasm: standard input:{spot}: {number}: {sentence}\n  {details}\n");
+    gives(&["list", "-"], text, 1, list, &message);
+}
+
+#[test]
+fn phases_that_end_a_run() {
+    ends(
+        "qreg q[2]; for i = 62..64 { phase(i) q[0]; }",
+        "phase 62 0\nphase 63 0\nend 32 18 2 7\n",
+        "1:29",
+        32,
+        "k is i here, and in this run it is above 63: choose smaller sizes, \
+         or leave out turns that are so small",
+    );
+    ends(
+        "qreg q[2];\nfor i = 0..1 { cphase(65535) q[i], q[1-i]; cphase(i) q[i], q[1]; }",
+        "end 32 18 0 3\n",
+        "2:16",
+        32,
+        "k is 65535 here, and in this run it is above 63: choose smaller sizes, \
+         or leave out turns that are so small",
+    );
+    ends(
+        "qreg q[2];\nfor i = 0..1 { cphase(64*i) q[i], q[1]; }",
+        "cphase 0 0 1\nend 25 18 1 5\n",
+        "2:16",
+        25,
+        "q[i] and q[1] stand for the same wire in this run",
+    );
+}
+
 #[test]
 fn openqasm_is_not_metaqasm() {
     let rest = "which is not metaQASM: leave out OPENQASM and include, declare each gate that is \
-                used by h, t, tdg and cx, and write conditions on one bit, as \
+                used by h, t, tdg, cx, phase and cphase, and write conditions on one bit, as \
                 if (c[0] == 1) { .. }; 'mqasm help' shows the text form\n";
     let foreign = |text: &str, start: &str| {
         for command in ["check", "list", "draw", "assemble"] {

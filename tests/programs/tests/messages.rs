@@ -86,6 +86,18 @@ fn names() {
 }
 
 #[test]
+fn phases_are_no_names() {
+    says(
+        "qreg phase[1];",
+        "1:6: 'phase' has a meaning of its own and cannot name a register",
+    );
+    says(
+        "gate cphase(a: Qbit) {}",
+        "1:6: 'cphase' has a meaning of its own and cannot name a family",
+    );
+}
+
+#[test]
 fn numbers_past_their_bytes() {
     let registers: String = (0..257)
         .map(|number| format!("qreg q{number}[0];"))
@@ -162,6 +174,45 @@ fn what_is_due() {
 }
 
 #[test]
+fn phases_without_their_parts() {
+    let k = "expected '(' (k stands before the operands, as phase(3) q[0])";
+    says("qreg q[1]; phase q[0];", &format!("1:18: {k}, found 'q'"));
+    says("qreg q[1]; cphase;", &format!("1:18: {k}, found ';'"));
+    says(
+        "qreg q[1]; phase(q[0]);",
+        "1:18: no index variable named 'q' here",
+    );
+    says(
+        "qreg q[1]; phase() q[0];",
+        "1:18: expected an index, found ')'",
+    );
+    says(
+        "qreg q[1]; phase(3, q[0]);",
+        "1:19: expected ')', found ','",
+    );
+    says(
+        "qreg q[1]; phase(3);",
+        "1:20: expected an operand, found ';'",
+    );
+    says(
+        "qreg q[1]; cphase(3) q[0];",
+        "1:26: expected ',', found ';'",
+    );
+    says(
+        "qreg q[1]; phase(3) q[0], q[0];",
+        "1:25: expected ';', found ','",
+    );
+    says(
+        "qreg q[1]; phase(0-1-) q[0];",
+        "1:22: expected an index, found ')'",
+    );
+    says(
+        "qreg q[1]; phase(65536) q[0];",
+        "1:18: the number 65536 is above 65535",
+    );
+}
+
+#[test]
 fn sizes_where_operands_are_due() {
     says(
         "family(n) f(x: Qbit[n]) {} f(3);",
@@ -225,6 +276,14 @@ fn bytes_that_do_not_read() {
         "byte 0: this field ends where an operand is due",
     );
     says_of_bytes(
+        &[1, 2, 0, 0, 1],
+        "byte 0: this field ends where a type is due",
+    );
+}
+
+#[test]
+fn calls_that_do_not_read() {
+    says_of_bytes(
         &[0x24, 9, 0, 0, 0x30, 1, 0, 0, 0x41, 1, 0, 0],
         "byte 0: this call has an index after an operand",
     );
@@ -235,9 +294,27 @@ fn bytes_that_do_not_read() {
         &[0x27, 10, 0, 0, 1, 0x30, 1, 0, 0, 0x41, 1, 0, 0],
         "byte 0: this call has an index after an operand",
     );
+}
+
+#[test]
+fn phases_that_do_not_read() {
+    for tag in [40, 41] {
+        let k_missing = "byte 0: this field ends where an index is due";
+        says_of_bytes(&[tag, 0, 0], k_missing);
+        let no_k = "byte 3: an index is due here, and tag 48 is none";
+        says_of_bytes(&[tag, 4, 0, 48, 1, 0, 0], no_k);
+    }
     says_of_bytes(
-        &[1, 2, 0, 0, 1],
-        "byte 0: this field ends where a type is due",
+        &[41, 9, 0, 64, 2, 0, 3, 0, 48, 1, 0, 0],
+        "byte 0: this field ends where an operand is due",
+    );
+    says_of_bytes(
+        &[40, 13, 0, 64, 2, 0, 3, 0, 48, 1, 0, 0, 48, 1, 0, 0],
+        "byte 0: this field has bytes left over",
+    );
+    says_of_bytes(
+        &[42, 0, 0],
+        "byte 0: a declaration or statement is due here, and tag 42 is none",
     );
 }
 

@@ -44,7 +44,7 @@ fn complete_lists_and_no_others_have_their_text() {
     let entries = fs::read_dir(common::examples()).unwrap();
     let names = entries.map(|entry| entry.unwrap().file_name().to_string_lossy().into_owned());
     let found: BTreeSet<String> = names.filter(|name| name.ends_with(".qasm")).collect();
-    assert!(found.len() >= 31);
+    assert!(found.len() >= 37);
     assert_eq!(found, due);
 }
 
@@ -67,13 +67,17 @@ fn the_tool_writes_them() {
 #[test]
 fn they_say_what_the_listings_say() {
     /// The wires of instances, reckoned by hand from their parameters.
-    const WIRES: [(&str, u32); 6] = [
+    const WIRES: [(&str, u32); 10] = [
         ("loop.n0.list", 0),
         ("loop.n3.list", 3),
         ("two-sizes.m2.n1.list", 3),
         ("ctrladd.m0.list", 6),
         ("ctrladd.m2.list", 10),
         ("adder.n1.list", 8),
+        ("qft.n3.list", 3),
+        ("qft.unqft.n3.list", 3),
+        ("qft.add.n2.list", 4),
+        ("qft.sub.n2.list", 4),
     ];
     let (mut runs, mut instances) = (0, 0);
     for example in all().iter().filter(|example| is_complete(example)) {
@@ -101,6 +105,19 @@ fn every_operation_and_both_conditions() {
     let due = "OPENQASM 2.0;\ninclude \"qelib1.inc\";\nqreg q[2];\ncreg c0[1];\ncreg c1[1];\n\
                h q[1];\nt q[1];\ntdg q[0];\ncx q[1],q[0];\nmeasure q[0] -> c1[0];\nreset q[0];\n\
                if(c1==1) h q[1];\nif(c0==0) cx q[0],q[1];\n";
+    gives(&["qasm", "-"], text, 0, due, "");
+}
+
+#[test]
+fn phases_divide_a_turn() {
+    let text = "qreg q[2]; creg c[1]; phase(0) q[1]; phase(3) q[0]; cphase(63) q[1], q[0]; \
+                reverse { phase(63) q[0]; cphase(1) q[0], q[1]; } \
+                if (c[0] == 1) { phase(2) q[1]; reverse { cphase(10) q[0], q[1]; } }";
+    let due = "OPENQASM 2.0;\ninclude \"qelib1.inc\";\nqreg q[2];\ncreg c0[1];\n\
+               u1(2*pi/1) q[1];\nu1(2*pi/8) q[0];\n\
+               cu1(2*pi/9223372036854775808) q[1],q[0];\n\
+               cu1(-2*pi/2) q[0],q[1];\nu1(-2*pi/9223372036854775808) q[0];\n\
+               if(c0==1) u1(2*pi/4) q[1];\nif(c0==1) cu1(-2*pi/1024) q[0],q[1];\n";
     gives(&["qasm", "-"], text, 0, due, "");
 }
 
@@ -137,14 +154,20 @@ fn what_is_said_of_a_list_that_is_not_complete() {
         gives(words, "", 1, "", &format!("mqasm: {message}\n"));
     };
     says(
-        &["qasm", "bell.bytes", "--output=15"],
+        &["qasm", "bell.bytes", "--output=23"],
         "bell.bytes: byte 17: 27: a record is due and the output has no room for it\n  \
-         the output has 15 bytes, and a record takes 8: allow more with --output",
+         the output has 23 bytes, and a record takes 12: allow more with --output",
     );
     says(
         &["qasm", "loop.mq", "--family=f", "--sizes=3,4"],
         "loop.mq: 21: the sizes are not exactly four bytes for each index variable of the family\n  \
          family 'f' takes 1 size (n), and 2 are given: write --sizes n=3",
+    );
+    says(
+        &["qasm", "phase-64.mq"],
+        "phase-64.mq:6:1: 32: the k of a phase is above 63\n  \
+         k is 64 here, and in this run it is above 63: choose smaller sizes, \
+         or leave out turns that are so small",
     );
     says(
         &["qasm", "loop.mq", "--family=g"],

@@ -56,16 +56,18 @@ fn statements(dice: &mut Dice, depth: usize) -> Vec<u8> {
 }
 
 fn statement(dice: &mut Dice, depth: usize) -> Vec<u8> {
-    match dice.below(if depth > 5 { 5 } else { 7 }) {
+    match dice.below(if depth > 5 { 7 } else { 9 }) {
         kind @ 0..=2 => field(32 + kind as u8, operand(dice)),
         3 => field(35, [operand(dice), operand(dice)].concat()),
-        4 => {
+        4 => field(40, [index(dice, 1), operand(dice)].concat()),
+        5 => field(41, [index(dice, 1), operand(dice), operand(dice)].concat()),
+        6 => {
             let indexes = some(dice, 2, |dice| index(dice, 1));
             let operands = some(dice, 3, operand);
             let (tag, number) = called(dice);
             field(tag, [number, indexes, operands].concat())
         }
-        5 => field(37, statements(dice, depth + 1)),
+        7 => field(37, statements(dice, depth + 1)),
         _ => {
             let (low, high) = (index(dice, 1), index(dice, 1));
             field(38, [low, high, statements(dice, depth + 1)].concat())
@@ -174,7 +176,9 @@ family(n0) f0(x0: Qbit[n0 + 1], x1: Qbit) {
         cx x0[i1], x1;
         reverse {
             t #2[#3];
+            phase(n0) x1;
         }
+        cphase(i1 + 2 * n0) x0[i1], x1;
     }
 }
 qreg q0[3];
@@ -182,6 +186,7 @@ creg c1[1];
 f0(2)(q0, q0[0]);
 measure q0[0] -> c1[0];
 reset q0[1];
+phase(0) q0[2];
 if (c1[0] == 1) {
     tdg #7;
     #1(q0);
@@ -239,8 +244,8 @@ fn damaged_texts_are_read_or_refused() {
     let mut dice = Dice(11);
     let pieces = [
         "family", "gate", "qreg", "for", "i", "=", "..", "{", "}", "(", ")", "[", "]", ";", ",",
-        "#", "##", "1", "300", "65536", "x", ":", "Qbit", "h", "cx", "->", "==", "\"", "é", "\n",
-        "/", "//", "bytes", "reverse", "if", "+", "-", "*",
+        "#", "##", "1", "300", "65536", "x", ":", "Qbit", "h", "cx", "phase", "cphase", "->", "==",
+        "\"", "é", "\n", "/", "//", "bytes", "reverse", "if", "+", "-", "*",
     ];
     for _ in 0..3000 {
         let count = dice.below(40);

@@ -184,7 +184,7 @@ fn reading_stops_at_a_limit() {
     says(&["draw", "--listing", "/dev/zero"], text);
     says(
         &["draw", "--records", "/dev/zero"],
-        "longer than 524288 bytes, which is past what can be drawn; reading stopped there",
+        "longer than 786432 bytes, which is past what can be drawn; reading stopped there",
     );
 }
 

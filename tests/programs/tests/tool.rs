@@ -69,7 +69,7 @@ fn lists_runs() {
         listing,
         "",
     );
-    let message = "mqasm: cx-one-wire.mq:4:1: 25: a cx has the same wire as control and target\n  \
+    let message = "mqasm: cx-one-wire.mq:4:1: 25: a cx or cphase has the same wire twice\n  \
         q[0] and q[0] stand for the same wire in this run\n";
     gives(
         &["list", "cx-one-wire.mq"],
@@ -103,6 +103,17 @@ fn lists_instances() {
     let message = "mqasm: loop.mq:5:5: 26: a step is due and the step limit is used up\n  \
         the limit is 1: allow more steps with --limit\n";
     gives(&words, "", 1, "end 26 12 0 1\n", message);
+}
+
+#[test]
+fn lists_phases() {
+    let text = "qreg q[2]; creg c[1]; phase(3) q[0]; cphase(2) q[1], q[0]; \
+                if (c[0] == 0) { reverse { cphase(0) q[0], q[1]; phase(63) q[1]; } }";
+    let listing = "phase 3 0\ncphase 2 1 0\nif 0 0 phasedg 63 1\nif 0 0 cphasedg 0 0 1\n\
+                   end 0 0 4 6\n";
+    gives(&["list", "-"], text, 0, listing, "");
+    let words = ["list", "qft.bytes", "--family", "0", "--sizes", "2"];
+    gives(&words, "", 0, "h 1\ncphase 2 0 1\nh 0\nend 0 0 3 9\n", "");
 }
 
 #[test]

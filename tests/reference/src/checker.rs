@@ -4,7 +4,8 @@ use crate::bytes::{refuse, Content, Field, Refusal};
 use crate::form::{Bounds, Form};
 use crate::index::{Kind, Scope};
 use crate::tree::{
-    Action, Bit, Call, Family, Gate, Loop, Parameter, Program, Register, Size, Statement, Wire,
+    Action, Bit, Call, Cphase, Family, Gate, Index, Loop, Parameter, Program, Register, Size,
+    Statement, Wire,
 };
 
 /// The most bytes a program may have.
@@ -224,7 +225,7 @@ impl Scope<'_> {
     /// Reads a statement that may stand in a body.
     fn statement(&mut self, mut field: Field, depth: u32) -> Result<Statement, Refusal> {
         let place = field.place;
-        if !(32..=39).contains(&field.tag) {
+        if !(32..=41).contains(&field.tag) {
             return refuse(3, place);
         }
         if depth > STATEMENT_NESTING {
@@ -239,7 +240,9 @@ impl Scope<'_> {
             36 => self.call(u16::from(content.byte()?), content, place)?,
             37 => Action::Reverse(self.statements(content, depth + 1)?),
             38 => self.open_loop(content, place, depth)?,
-            _ => self.call(far_family(content, place)?, content, place)?,
+            39 => self.call(far_family(content, place)?, content, place)?,
+            40 => self.phase(content)?,
+            _ => self.cphase(content)?,
         };
         Ok(Statement { place, action })
     }
@@ -259,6 +262,32 @@ impl Scope<'_> {
         Ok(Action::Cx(control, target))
     }
 
+    /// Reads the part of a turn and the operand of a phase.
+    fn phase(&self, content: &mut Content) -> Result<Action, Refusal> {
+        let (k, _) = self.natural(content)?;
+        let wire = self.wire(content)?;
+        content.end()?;
+        Ok(Action::Phase(k, wire))
+    }
+
+    /// Reads the part of a turn and the operands of a cphase.
+    fn cphase(&self, content: &mut Content) -> Result<Action, Refusal> {
+        let (k, _) = self.natural(content)?;
+        let control = self.wire(content)?;
+        let target = self.wire(content)?;
+        content.end()?;
+        let cphase = Cphase { k, control, target };
+        Ok(Action::Cphase(Box::new(cphase)))
+    }
+
+    /// Reads an index that must be shown 0 or more, at its own end.
+    fn natural(&self, content: &mut Content) -> Result<(Index, Form), Refusal> {
+        let start = content.offset();
+        let (index, form) = self.index(content)?;
+        self.show(&form, start)?;
+        Ok((index, form))
+    }
+
     /// Reads what follows the family's number in a call: sizes, arguments.
     fn call(&self, family: u16, content: &mut Content, place: u32) -> Result<Action, Refusal> {
         let Some(called) = self.families.get(usize::from(family)) else {
@@ -267,9 +296,7 @@ impl Scope<'_> {
         let mut sizes = Vec::with_capacity(called.sizes);
         let mut forms = Vec::with_capacity(called.sizes);
         for _ in 0..called.sizes {
-            let start = content.offset();
-            let (index, form) = self.index(content)?;
-            self.show(&form, start)?;
+            let (index, form) = self.natural(content)?;
             sizes.push(index);
             forms.push(form);
         }

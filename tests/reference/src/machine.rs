@@ -3,11 +3,15 @@
 use crate::bytes::{refuse, Refusal};
 use crate::form::{in_range, OutOfRange, VARIABLES};
 use crate::tree::{
-    Action, Argument, Bit, BitOperand, Call, Gate, Index, Loop, Parameter, Program, Register,
-    Statement, Wire, WireOperand,
+    Action, Argument, Bit, BitOperand, Call, Cphase, Gate, Index, Loop, Parameter, Program,
+    Register, Statement, Wire, WireOperand,
 };
 use crate::Outcome;
 
+/// The bytes of a record.
+pub const RECORD_BYTES: usize = 12;
+/// The largest k by which a turn may be divided into 2 to the k parts.
+const LARGEST_K: u16 = 63;
 /// The most wires that an instance may lay out.
 const WIRES: i64 = 65_535;
 /// The most parameters that a family may have.
@@ -34,6 +38,14 @@ impl Direction {
         match self {
             Direction::Forward => Direction::Backward,
             Direction::Backward => Direction::Forward,
+        }
+    }
+
+    /// The op of a gate forward, or of its inverse backward.
+    fn op(self, gate: u8, inverse: u8) -> u8 {
+        match self {
+            Direction::Forward => gate,
+            Direction::Backward => inverse,
         }
     }
 }
@@ -202,33 +214,48 @@ impl<'r> Machine<'r> {
         self.step(place)?;
         match &statement.action {
             Action::Gate(gate, wire) => {
-                let wire = frame.wire(wire, place)?;
-                self.record(place, gate_op(*gate, direction), wire.0, 0)
+                let wires = frame.one_wire(wire, place)?;
+                self.record(place, gate_op(*gate, direction), wires, 0)
             }
             Action::Cx(control, target) => {
-                let (control, target) = frame.two_wires(control, target, place)?;
-                self.record(place, 4, control.0, target.0)
+                let wires = frame.two_wires(control, target, place)?;
+                self.record(place, 4, wires, 0)
+            }
+            Action::Phase(k, wire) => {
+                let (wires, k) = frame.phase(k, wire, place)?;
+                self.record(place, direction.op(7, 8), wires, k)
+            }
+            Action::Cphase(cphase) => {
+                let (wires, k) = frame.cphase(cphase, place)?;
+                self.record(place, direction.op(9, 10), wires, k)
             }
             Action::Measure(wire, bit) => {
-                let wire = frame.wire(wire, place)?;
-                let bit = frame.bit(bit, place)?;
-                self.record(place, 5, wire.0, bit.0)
+                let (wire, bit) = (frame.wire(wire, place)?, frame.bit(bit, place)?);
+                self.record(place, 5, [wire.0, bit.0], 0)
             }
-            Action::Reset(wire) => {
-                let wire = frame.wire(wire, place)?;
-                self.record(place, 6, wire.0, 0)
-            }
+            Action::Reset(wire) => self.record(place, 6, frame.one_wire(wire, place)?, 0),
             Action::If(value, bit, body) => {
-                let bit = frame.bit(bit, place)?;
-                self.condition = condition(*value, bit);
-                self.list(body, frame, direction)?;
-                self.condition = 0;
-                Ok(())
+                let condition = condition(*value, frame.bit(bit, place)?);
+                self.conditioned(condition, body, frame, direction)
             }
             Action::Call(call) => self.call(call, frame, place, direction),
             Action::Reverse(body) => self.list(body, frame, direction.flipped()),
             Action::For(looped) => self.rounds(looped, frame, place, direction),
         }
+    }
+
+    /// Runs a list with a condition on its gates.
+    fn conditioned(
+        &mut self,
+        condition: u64,
+        body: &[Statement],
+        frame: &mut Frame,
+        direction: Direction,
+    ) -> Result<(), End> {
+        self.condition = condition;
+        self.list(body, frame, direction)?;
+        self.condition = 0;
+        Ok(())
     }
 
     /// Runs the rounds of a loop.
@@ -287,31 +314,60 @@ impl<'r> Machine<'r> {
     }
 
     /// Writes one record.
-    fn record(&mut self, place: u32, op: u8, first: u16, second: u16) -> Result<(), End> {
-        let start = self.records as usize * 8;
-        let Some(slot) = self.output[start..].first_chunk_mut::<8>() else {
+    fn record(&mut self, place: u32, op: u8, numbers: [u16; 2], k: u16) -> Result<(), End> {
+        let start = self.records as usize * RECORD_BYTES;
+        let Some(slot) = self.output[start..].first_chunk_mut::<RECORD_BYTES>() else {
             return refuse(27, place);
         };
-        let numbers = u64::from(first) << 16 | u64::from(second) << 32;
-        *slot = (u64::from(op) | numbers | self.condition).to_le_bytes();
+        let [first, second] = numbers.map(u64::from);
+        let front = u64::from(op) | first << 16 | second << 32 | self.condition;
+        slot[..8].copy_from_slice(&front.to_le_bytes());
+        slot[8..].copy_from_slice(&u32::from(k).to_le_bytes());
         self.records += 1;
         Ok(())
     }
 }
 
 impl Frame<'_> {
-    /// The two wires of a cx, which must not be the same.
+    /// The wire of a phase and its k, which is looked at first and last.
+    fn phase(&self, k: &Index, wire: &WireOperand, place: u32) -> Result<([u16; 2], u16), End> {
+        let k = self.k(k, place)?;
+        let wires = self.one_wire(wire, place)?;
+        Ok((wires, small(k, place)?))
+    }
+
+    /// The wires of a cphase and its k, likewise.
+    fn cphase(&self, cphase: &Cphase, place: u32) -> Result<([u16; 2], u16), End> {
+        let k = self.k(&cphase.k, place)?;
+        let wires = self.two_wires(&cphase.control, &cphase.target, place)?;
+        Ok((wires, small(k, place)?))
+    }
+
+    /// The k of a phase, which typing shows to be 0 or more.
+    fn k(&self, index: &Index, place: u32) -> Result<i64, End> {
+        match evaluate(index, &self.values, place)? {
+            ..=-1 => stuck("the k of a phase is below 0"),
+            k => Ok(k),
+        }
+    }
+
+    /// The one wire of a gate, and nothing beside it.
+    fn one_wire(&self, wire: &WireOperand, place: u32) -> Result<[u16; 2], End> {
+        Ok([self.wire(wire, place)?.0, 0])
+    }
+
+    /// The two wires of a cx or cphase, which must not be the same.
     fn two_wires(
         &self,
         control: &WireOperand,
         target: &WireOperand,
         place: u32,
-    ) -> Result<(Wire, Wire), End> {
+    ) -> Result<[u16; 2], End> {
         let control = self.wire(control, place)?;
         let target = self.wire(target, place)?;
         match control == target {
             true => refuse(25, place),
-            false => Ok((control, target)),
+            false => Ok([control.0, target.0]),
         }
     }
 
@@ -353,10 +409,18 @@ impl Frame<'_> {
 
 /// The op byte of a gate, which a backward run turns around.
 fn gate_op(gate: Gate, direction: Direction) -> u8 {
-    match (gate, direction) {
-        (Gate::H, _) => 1,
-        (Gate::T, Direction::Forward) | (Gate::Tdg, Direction::Backward) => 2,
-        (Gate::Tdg, Direction::Forward) | (Gate::T, Direction::Backward) => 3,
+    match gate {
+        Gate::H => 1,
+        Gate::T => direction.op(2, 3),
+        Gate::Tdg => direction.op(3, 2),
+    }
+}
+
+/// A k as it stands in a record, which is not for one that is too large.
+fn small(k: i64, place: u32) -> Result<u16, End> {
+    match u16::try_from(k) {
+        Ok(k @ ..=LARGEST_K) => Ok(k),
+        _ => refuse(32, place),
     }
 }
 

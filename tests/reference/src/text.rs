@@ -1,6 +1,6 @@
 //! Finished lists as OpenQASM 2.0 text.
 
-use crate::machine::Locations;
+use crate::machine::{Locations, RECORD_BYTES};
 use crate::{listed_instance, listed_run, Listed, Outcome};
 use std::fmt::{self, Write};
 
@@ -68,7 +68,7 @@ pub fn instance_text(
 fn printed(listed: Listed, output: &[u8]) -> (Outcome, String) {
     match listed {
         Ok((outcome, laid_out)) if outcome.number == 0 => {
-            let records = &output[..8 * outcome.records as usize];
+            let records = &output[..RECORD_BYTES * outcome.records as usize];
             (outcome, print(laid_out, records))
         }
         Ok((outcome, _)) | Err(outcome) => (outcome, String::new()),
@@ -109,7 +109,7 @@ fn write_list(text: &mut String, laid_out: Locations, records: &[u8]) -> fmt::Re
         writeln!(text, "creg c{bit}[1];")?;
     }
     records
-        .chunks_exact(8)
+        .chunks_exact(RECORD_BYTES)
         .try_for_each(|record| write_record(text, record))
 }
 
@@ -117,6 +117,7 @@ fn write_list(text: &mut String, laid_out: Locations, records: &[u8]) -> fmt::Re
 fn write_record(text: &mut String, record: &[u8]) -> fmt::Result {
     let number = |place| u16::from_le_bytes([record[place], record[place + 1]]);
     let [first, second, bit] = [number(2), number(4), number(6)];
+    let parts = 1_u64 << number(8);
     match record[1] {
         0 => {}
         condition => write!(text, "if(c{bit}=={}) ", condition - 1)?,
@@ -128,6 +129,10 @@ fn write_record(text: &mut String, record: &[u8]) -> fmt::Result {
         4 => writeln!(text, "cx q[{first}],q[{second}];"),
         5 => writeln!(text, "measure q[{first}] -> c{second}[0];"),
         6 => writeln!(text, "reset q[{first}];"),
+        7 => writeln!(text, "u1(2*pi/{parts}) q[{first}];"),
+        8 => writeln!(text, "u1(-2*pi/{parts}) q[{first}];"),
+        9 => writeln!(text, "cu1(2*pi/{parts}) q[{first}],q[{second}];"),
+        10 => writeln!(text, "cu1(-2*pi/{parts}) q[{first}],q[{second}];"),
         op => unreachable!("the machine writes no record with op {op}"),
     }
 }

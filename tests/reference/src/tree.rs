@@ -87,12 +87,21 @@ pub struct Statement {
 pub enum Action {
     Gate(Gate, WireOperand),
     Cx(WireOperand, WireOperand),
+    Phase(Index, WireOperand),
+    Cphase(Box<Cphase>),
     Measure(WireOperand, BitOperand),
     Reset(WireOperand),
     If(bool, BitOperand, Vec<Statement>),
     Call(Box<Call>),
     Reverse(Vec<Statement>),
     For(Box<Loop>),
+}
+
+/// A part of a turn, one by 2 to the k, on two wires.
+pub struct Cphase {
+    pub k: Index,
+    pub control: WireOperand,
+    pub target: WireOperand,
 }
 
 /// A call with its sizes and arguments.

@@ -16,7 +16,7 @@ use compare::harness::whole_text;
 use compare::{library, slow, Call, Question, Who};
 use generate::build::*;
 use generate::{library as programs, texts};
-use reference::TextOutcome;
+use reference::{TextOutcome, RECORD_BYTES};
 use std::hint::black_box;
 use std::io::Write;
 use std::process::ExitCode;
@@ -101,7 +101,7 @@ impl Workload {
                 None => Call::Check,
             },
             limit: u64::MAX,
-            length: 8 * self.records,
+            length: RECORD_BYTES * self.records,
             text: None,
         }
     }
@@ -131,6 +131,7 @@ fn printed() -> Vec<Workload> {
         Workload::text("text, a million", &texts::a_million(), 1_000_000),
         Workload::text("text, conditioned", &texts::conditioned(), 100_000),
         Workload::text("text, measured", &texts::measured(), 3_000),
+        Workload::text("text, phases", &texts::turned(), 51_200),
         Workload::text("text, 65,535 bits", &texts::most_bits(), 0),
         Workload::text("text, Bell", &bell, 2),
     ]
@@ -170,12 +171,16 @@ fn lists() -> Vec<Workload> {
     let mut backward = vec![programs::gate_list(9_000, true)];
     backward.extend(calls(0, 100));
     let short = programs::short_reversals(6);
+    let fourier = programs::approximate_fourier();
+    let turns = 5_000 * 63 + 62 + 62 * 61 / 2;
     let rounds = programs::empty_rounds();
     let slow_steps = slow::slowest_steps(1_000);
     vec![
         Workload::instance("adder, 8,000 bits", &adder, (2, &[7_999]), gates),
         Workload::instance("adder reversed", &adder, (3, &[7_999]), gates),
         Workload::instance("nested loop", &nested, (0, &[700]), 2 * 700 * 700),
+        Workload::instance("Fourier, 5,062 wires", &fourier, (0, &[5_000]), turns),
+        Workload::instance("Fourier reversed", &fourier, (1, &[5_000]), turns),
         Workload::run("deep calls", &deep, 2_000),
         Workload::run("deep lists", &lists, 500 * (254 * 15 + 1)),
         Workload::run("long list", &forward, 100 * 9_000),

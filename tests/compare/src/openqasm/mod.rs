@@ -2,14 +2,17 @@
 //! (arXiv:1707.03429) and not from any printer.
 //!
 //! It reads the header, includes of qelib1.inc, registers of any name and size,
-//! the gates h, t, tdg and cx, measure, reset and if, with comments and any white
-//! space. Gates of other names, gate declarations, barriers and operations on
-//! whole registers are refused.
+//! the gates h, t, tdg, cx, u1 and cu1, measure, reset and if, with comments and
+//! any white space. An angle is a product or quotient of whole numbers and pi, with
+//! signs. Gates of other names, gate declarations, barriers and operations on whole
+//! registers are refused.
 
+mod angle;
 mod parse;
 mod records;
 mod token;
 
+pub use angle::Angle;
 pub use parse::read;
 pub use records::{list, List};
 
@@ -64,7 +67,16 @@ pub enum Action {
     H(Qubit),
     T(Qubit),
     Tdg(Qubit),
-    Cx { control: Qubit, target: Qubit },
+    Cx {
+        control: Qubit,
+        target: Qubit,
+    },
+    U1(Angle, Qubit),
+    Cu1 {
+        angle: Angle,
+        control: Qubit,
+        target: Qubit,
+    },
     Measure(Qubit, Bit),
     Reset(Qubit),
 }

@@ -1,7 +1,8 @@
 //! Reading the statements of OpenQASM 2.0.
 
+use super::angle::Value;
 use super::token::{Token, Tokens};
-use super::{Action, Bit, Condition, Kind, Operation, Program, Qubit, Register};
+use super::{Action, Angle, Bit, Condition, Kind, Operation, Program, Qubit, Register};
 use std::collections::HashMap;
 
 /// The gates that qelib1.inc declares.
@@ -139,7 +140,12 @@ impl<'t> Reader<'t> {
             "h" => Action::H(self.qubit()?),
             "t" => Action::T(self.qubit()?),
             "tdg" => Action::Tdg(self.qubit()?),
-            "cx" => self.cx()?,
+            "cx" => {
+                let [control, target] = self.two_qubits(name)?;
+                Action::Cx { control, target }
+            }
+            "u1" => Action::U1(self.angle()?, self.qubit()?),
+            "cu1" => self.cu1()?,
             "measure" => self.measure()?,
             "reset" => Action::Reset(self.qubit()?),
             _ => return Err(format!("{name} is no operation that is read here")),
@@ -151,14 +157,50 @@ impl<'t> Reader<'t> {
         Ok(())
     }
 
-    /// Reads the two qubits of a cx.
-    fn cx(&mut self) -> Result<Action, String> {
+    /// Reads the angle and the two qubits of a cu1.
+    fn cu1(&mut self) -> Result<Action, String> {
+        let angle = self.angle()?;
+        let [control, target] = self.two_qubits("cu1")?;
+        Ok(Action::Cu1 {
+            angle,
+            control,
+            target,
+        })
+    }
+
+    /// Reads the two qubits of a gate with a name.
+    fn two_qubits(&mut self, name: &str) -> Result<[Qubit; 2], String> {
         let control = self.qubit()?;
         self.due(Token::Sign(","))?;
         let target = self.qubit()?;
         match control == target {
-            true => Err("both qubits of a cx are the same".into()),
-            false => Ok(Action::Cx { control, target }),
+            true => Err(format!("both qubits of a {name} are the same")),
+            false => Ok([control, target]),
+        }
+    }
+
+    /// Reads an angle in parentheses.
+    fn angle(&mut self) -> Result<Angle, String> {
+        self.due(Token::Sign("("))?;
+        let mut value = self.factor()?;
+        loop {
+            let next = match self.tokens.take()? {
+                Token::Sign("*") => value.times(self.factor()?),
+                Token::Sign("/") => value.over(self.factor()?),
+                Token::Sign(")") => return value.angle().ok_or("an angle has one pi".into()),
+                other => return Err(format!(") is due, not {other}")),
+            };
+            value = next.ok_or("an angle is out of range")?;
+        }
+    }
+
+    /// Reads a whole number or pi, with signs before it.
+    fn factor(&mut self) -> Result<Value, String> {
+        match self.tokens.take()? {
+            Token::Sign("-") => self.factor().map(Value::negative),
+            Token::Integer(number) => Ok(Value::whole(number)),
+            Token::Word("pi") => Ok(Value::PI),
+            other => Err(format!("an angle is due, not {other}")),
         }
     }
 

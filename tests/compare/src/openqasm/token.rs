@@ -28,8 +28,8 @@ impl fmt::Display for Token<'_> {
     }
 }
 
-/// The signs that are read.
-const SIGNS: [&str; 8] = [";", ",", "[", "]", "(", ")", "==", "->"];
+/// The signs that are read; of those that begin alike, the longer one comes first.
+const SIGNS: [&str; 11] = [";", ",", "[", "]", "(", ")", "==", "->", "-", "*", "/"];
 
 /// The tokens that are left of a text.
 pub struct Tokens<'t> {

@@ -49,7 +49,8 @@ pub(super) const ONE_WIRE: &str = "02 02 00 01 00 \
     23 12 00 31 06 00 00 40 02 00 00 00 31 06 00 00 40 02 00 00 00";
 
 /// The records of BELL.
-pub(super) const BELL_RECORDS: &str = "01 00 00 00 00 00 00 00 04 00 00 00 01 00 00 00";
+pub(super) const BELL_RECORDS: &str = "01 00 00 00 00 00 00 00 00 00 00 00 \
+    04 00 00 00 01 00 00 00 00 00 00 00";
 
 /// Two qubits, reverse{h; t; cx}.
 pub(super) const REVERSED: &str = "02 02 00 02 00 25 2d 00 20 09 00 31 06 00 00 40 02 00 00 00 \
@@ -57,14 +58,15 @@ pub(super) const REVERSED: &str = "02 02 00 02 00 25 2d 00 20 09 00 31 06 00 00 
     23 12 00 31 06 00 00 40 02 00 00 00 31 06 00 00 40 02 00 01 00";
 
 /// The records of REVERSED: cx, tdg, h.
-pub(super) const REVERSED_RECORDS: &str =
-    "04 00 00 00 01 00 00 00 03 00 00 00 00 00 00 00 01 00 00 00 00 00 00 00";
+pub(super) const REVERSED_RECORDS: &str = "04 00 00 00 01 00 00 00 00 00 00 00 \
+    03 00 00 00 00 00 00 00 00 00 00 00 \
+    01 00 00 00 00 00 00 00 00 00 00 00";
 
 /// Records of h on the first three wires.
 pub(super) const H: [&str; 3] = [
-    "01 00 00 00 00 00 00 00",
-    "01 00 01 00 00 00 00 00",
-    "01 00 02 00 00 00 00 00",
+    "01 00 00 00 00 00 00 00 00 00 00 00",
+    "01 00 01 00 00 00 00 00 00 00 00 00",
+    "01 00 02 00 00 00 00 00 00 00 00 00",
 ];
 
 /// All examples.
@@ -107,8 +109,10 @@ fn loops() -> Vec<Recorded> {
         listed("L at 3", three, [0, 0, 3, 7], &H),
         listed("L at 3, limit 7", three, [0, 0, 3, 7], &H).limit(7),
         listed("L at 3, limit 6", three, [26, 24, 2, 6], &H[..2]).limit(6),
-        listed("L at 3 into 23 bytes", three, [27, 24, 2, 7], &H[..2]).into_bytes(23),
-        listed("L at 3 into 24 bytes", three, [0, 0, 3, 7], &H).into_bytes(24),
+        listed("L at 3 into 23 bytes", three, [27, 24, 1, 5], &H[..1]).into_bytes(23),
+        listed("L at 3 into 24 bytes", three, [27, 24, 2, 7], &H[..2]).into_bytes(24),
+        listed("L at 3 into 35 bytes", three, [27, 24, 2, 7], &H[..2]).into_bytes(35),
+        listed("L at 3 into 36 bytes", three, [0, 0, 3, 7], &H).into_bytes(36),
         down("h(x[n-1-i]) at 2", DOWN, [0, 0, 2, 5], &[H[1], H[0]]),
         down(
             "h(x[n-1-i]) reversed at 2",
@@ -136,7 +140,7 @@ fn whole_runs() -> Vec<Recorded> {
             "reverse{reverse{t}}",
             "02 02 00 01 00 25 0f 00 25 0c 00 21 09 00 31 06 00 00 40 02 00 00 00",
             [0, 0, 1, 3],
-            "02 00 00 00 00 00 00 00",
+            "02 00 00 00 00 00 00 00 00 00 00 00",
         ),
         row("cx on one wire", ONE_WIRE, [25, 5, 0, 1], ""),
     ]

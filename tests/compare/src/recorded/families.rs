@@ -14,8 +14,8 @@ const WIRE: &str = "31 06 00 00 40 02 00 00 00";
 /// Where a call stands behind 257 families of 8 bytes and one qubit.
 const BEHIND: u32 = 2_061;
 /// Records of t and tdg on the first wire.
-const T: &str = "02 00 00 00 00 00 00 00";
-const TDG: &str = "03 00 00 00 00 00 00 00";
+const T: &str = "02 00 00 00 00 00 00 00 00 00 00 00";
+const TDG: &str = "03 00 00 00 00 00 00 00 00 00 00 00";
 
 /// All rows.
 pub fn rows() -> Vec<Recorded> {
@@ -126,7 +126,7 @@ fn without_families() -> Vec<Recorded> {
         row("27 03 00 07 01 ff", 8),
         row("27 03 00 07 00", 2),
         row("27 02 00 07 00 20", 31),
-        row("28 02 00 00 01", 3),
+        row("2a 02 00 00 01", 3),
     ]
 }
 
@@ -182,8 +182,8 @@ fn levels() -> Vec<Recorded> {
             5,
             48,
         ),
-        row("40 at level 16", 15, "28 00 00", 3, 45),
-        row("40 at level 17", 16, "28 00 00", 3, 48),
+        row("42 at level 16", 15, "2a 00 00", 3, 45),
+        row("42 at level 17", 16, "2a 00 00", 3, 48),
         row("39 for a type", 0, typed, 3, 5),
         row("39 for an operand", 0, "20 03 00 27 00 00", 3, 3),
         row("39 for an index", 0, "26 03 00 27 00 00", 3, 3),
@@ -258,7 +258,7 @@ fn around() -> Vec<Recorded> {
             "256 under a condition",
             &tested,
             [1, 3],
-            &["02 02 00 00 00 00 00 00"],
+            &["02 02 00 00 00 00 00 00 00 00 00 00"],
         ),
     ]
 }
@@ -272,10 +272,10 @@ fn ends() -> Vec<Recorded> {
     vec![
         row("no step for the call", [26, 3_860, 0, 0], "").limit(0),
         row("no step for its gate", [26, 3_848, 0, 1], "").limit(1),
-        row("no room for its gate", [27, 3_848, 0, 2], "").into_bytes(7),
+        row("no room for its gate", [27, 3_848, 0, 2], "").into_bytes(11),
         row("steps and room for both", [0, 0, 1, 2], T)
             .limit(2)
-            .into_bytes(8),
+            .into_bytes(12),
     ]
 }
 

@@ -3,6 +3,7 @@
 mod examples;
 mod families;
 mod limits;
+mod phases;
 mod refusals;
 mod states;
 mod texts;
@@ -30,7 +31,7 @@ pub struct Recorded {
     limit: u64,
     length: usize,
     expected: Outcome,
-    /// The records that are due, eight bytes for each.
+    /// The records that are due, twelve bytes for each.
     records: Vec<u8>,
     /// The text bytes of a row that prints, and the text that is due.
     text: Option<(usize, String)>,
@@ -42,6 +43,7 @@ pub fn recorded() -> Vec<Recorded> {
     rows.extend(refusals::rows());
     rows.extend(limits::rows());
     rows.extend(families::rows());
+    rows.extend(phases::rows());
     rows.extend(states::rows());
     rows.extend(texts::rows());
     rows

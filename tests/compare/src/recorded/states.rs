@@ -23,9 +23,12 @@ pub(super) const COMMANDS: &str = "02 02 00 02 00 03 02 00 01 00 02 02 00 03 00 
     25 18 00 21 09 00 31 06 00 00 40 02 00 00 00 22 09 00 31 06 00 00 40 02 00 01 00";
 
 /// The records of COMMANDS.
-pub(super) const COMMANDS_RECORDS: &str = "05 00 02 00 02 00 00 00 06 00 04 00 00 00 00 00 \
-    01 02 01 00 00 00 01 00 02 00 03 00 00 00 00 00 \
-    02 01 01 00 00 00 00 00 03 01 00 00 00 00 00 00";
+pub(super) const COMMANDS_RECORDS: &str = "05 00 02 00 02 00 00 00 00 00 00 00 \
+    06 00 04 00 00 00 00 00 00 00 00 00 \
+    01 02 01 00 00 00 01 00 00 00 00 00 \
+    02 00 03 00 00 00 00 00 00 00 00 00 \
+    02 01 01 00 00 00 00 00 00 00 00 00 \
+    03 01 00 00 00 00 00 00 00 00 00 00";
 
 /// x:Qbit, y:Qbit[n] and z:Qbit, h(z).
 pub(super) const BEHIND: &str = "01 16 00 01 03 10 00 00 11 04 00 41 01 00 00 10 00 00 \
@@ -83,7 +86,7 @@ fn layouts() -> Vec<Recorded> {
 
 /// Index values that leave the range in a run, among other ends.
 fn values() -> Vec<Recorded> {
-    let t = "02 00 00 00 00 00 00 00";
+    let t = "02 00 00 00 00 00 00 00 00 00 00 00";
     let row = |name, sizes, expected, records| {
         Recorded::instance(name, bytes(FAR), (0, sizes), expected, records)
     };
@@ -91,13 +94,13 @@ fn values() -> Vec<Recorded> {
         row("60000n at 1", "01 00 00 00", [0, 0, 1, 2], t),
         row("60000n at 40000", "40 9c 00 00", [24, 15, 1, 2], t),
         row("step before value", "40 9c 00 00", [26, 15, 1, 1], t).limit(1),
-        row("record before loop", "40 9c 00 00", [27, 8, 0, 1], "").into_bytes(7),
+        row("record before loop", "40 9c 00 00", [27, 8, 0, 1], "").into_bytes(11),
     ]
 }
 
 /// Step limits and output lengths.
 fn limits() -> Vec<Recorded> {
-    let h = "01 00 00 00 00 00 00 00";
+    let h = "01 00 00 00 00 00 00 00 00 00 00 00";
     let three = (0, "03 00 00 00");
     let most = (0, "ff ff 00 00");
     let row = |name, sizes, expected, records| {
@@ -111,8 +114,9 @@ fn limits() -> Vec<Recorded> {
         row("L at 3, limit 3", three, [26, 12, 1, 3], h).limit(3),
         row("L at 65535, limit 1", most, [26, 12, 0, 1], "").limit(1),
         row("L at 3 into 0 bytes", three, [27, 24, 0, 3], "").into_bytes(0),
-        row("L at 3 into 7 bytes", three, [27, 24, 0, 3], "").into_bytes(7),
-        row("L at 3 into 8 bytes", three, [27, 24, 1, 5], h).into_bytes(8),
+        row("L at 3 into 8 bytes", three, [27, 24, 0, 3], "").into_bytes(8),
+        row("L at 3 into 11 bytes", three, [27, 24, 0, 3], "").into_bytes(11),
+        row("L at 3 into 12 bytes", three, [27, 24, 1, 5], h).into_bytes(12),
         run("declarations take no step", "02 02 00 01 00", [0, 0, 0, 0]).limit(0),
         run("an empty reverse takes one", "25 00 00", [26, 0, 0, 0]).limit(0),
         run("one wire before no room", ONE_WIRE, [25, 5, 0, 1]).into_bytes(0),
@@ -130,7 +134,7 @@ fn commands() -> Vec<Recorded> {
             bytes(BEHIND),
             (0, "02 00 00 00"),
             [0, 0, 1, 1],
-            "01 00 03 00 00 00 00 00",
+            "01 00 03 00 00 00 00 00 00 00 00 00",
         ),
     ]
 }
@@ -141,7 +145,8 @@ fn reversals() -> Vec<Recorded> {
         23 08 00 30 01 00 00 30 01 00 01 02 02 00 02 00 \
         25 22 00 24 13 00 00 31 06 00 00 40 02 00 00 00 31 06 00 00 40 02 00 01 00 \
         20 09 00 31 06 00 00 40 02 00 00 00";
-    let records = "01 00 00 00 00 00 00 00 04 00 00 00 01 00 00 00 03 00 00 00 00 00 00 00";
+    let records = "01 00 00 00 00 00 00 00 00 00 00 00 \
+        04 00 00 00 01 00 00 00 00 00 00 00 03 00 00 00 00 00 00 00 00 00 00 00";
     vec![Recorded::run(
         "a call run backward",
         bytes(program),

@@ -34,10 +34,14 @@ const TELEPORT: &str = "02 02 00 03 00 03 02 00 02 00 \
     05 09 00 31 06 00 00 40 02 00 00 00";
 
 /// The records of TELEPORT.
-const TELEPORT_RECORDS: &str = "04 00 00 00 01 00 00 00 01 00 00 00 00 00 00 00 \
-    05 00 00 00 01 00 00 00 05 00 02 00 00 00 00 00 \
-    01 02 02 00 00 00 01 00 04 02 01 00 02 00 01 00 \
-    03 01 02 00 00 00 00 00 06 00 00 00 00 00 00 00";
+const TELEPORT_RECORDS: &str = "04 00 00 00 01 00 00 00 00 00 00 00 \
+    01 00 00 00 00 00 00 00 00 00 00 00 \
+    05 00 00 00 01 00 00 00 00 00 00 00 \
+    05 00 02 00 00 00 00 00 00 00 00 00 \
+    01 02 02 00 00 00 01 00 00 00 00 00 \
+    04 02 01 00 02 00 01 00 00 00 00 00 \
+    03 01 02 00 00 00 00 00 00 00 00 00 \
+    06 00 00 00 00 00 00 00 00 00 00 00";
 
 /// The text of TELEPORT.
 const TELEPORT_TEXT: &str = "OPENQASM 2.0;\n\
@@ -122,7 +126,7 @@ fn instances() -> Vec<Recorded> {
             bytes(BEHIND),
             (0, "02 00 00 00"),
             [0, 0, 1, 1],
-            "01 00 03 00 00 00 00 00",
+            "01 00 03 00 00 00 00 00 00 00 00 00",
         )
         .printed("OPENQASM 2.0;\ninclude \"qelib1.inc\";\nqreg q[4];\nh q[3];\n"),
     ]
@@ -169,7 +173,7 @@ fn registers() -> Vec<Recorded> {
             "registers declared late",
             bytes(late),
             [0, 0, 1, 1],
-            "01 00 00 00 00 00 00 00",
+            "01 00 00 00 00 00 00 00 00 00 00 00",
         )
         .printed(
             "OPENQASM 2.0;\ninclude \"qelib1.inc\";\nqreg q[6];\ncreg c0[1];\ncreg c1[1];\n\
@@ -181,7 +185,7 @@ fn registers() -> Vec<Recorded> {
 /// Wires of one to five digits.
 fn far_wires() -> Recorded {
     let h = |low_high: &str| format!("20 09 00 31 06 00 00 40 02 00 {low_high}");
-    let record = |low_high: &str| format!("01 00 {low_high} 00 00 00 00");
+    let record = |low_high: &str| format!("01 00 {low_high} 00 00 00 00 00 00 00 00");
     let places = [
         "00 00", "09 00", "0a 00", "63 00", "64 00", "e7 03", "e8 03", "0f 27", "10 27", "fe ff",
     ];
@@ -205,7 +209,7 @@ fn far_bits() -> Recorded {
     let program = "02 02 00 01 00 03 02 00 11 27 \
         04 12 00 31 06 00 00 40 02 00 00 00 31 06 00 01 40 02 00 10 27 \
         06 16 00 01 31 06 00 01 40 02 00 0f 27 20 09 00 31 06 00 00 40 02 00 00 00";
-    let records = "05 00 00 00 10 27 00 00 01 02 00 00 00 00 0f 27";
+    let records = "05 00 00 00 10 27 00 00 00 00 00 00 01 02 00 00 00 00 0f 27 00 00 00 00";
     let mut text = String::from("OPENQASM 2.0;\ninclude \"qelib1.inc\";\nqreg q[1];\n");
     for bit in 0..10_001 {
         text += &format!("creg c{bit}[1];\n");
@@ -294,7 +298,7 @@ fn ended() -> Vec<Recorded> {
     let three = (0, "03 00 00 00");
     let far = (0, "40 9c 00 00");
     let most = (0, "ff ff 00 00");
-    let t = "02 00 00 00 00 00 00 00";
+    let t = "02 00 00 00 00 00 00 00 00 00 00 00";
     let two = H[..2].join(" ");
     let reset = "02 02 00 01 00 05 09 00 31 06 00 00 40 02 00 00 00";
     let run = |name, program, expected| Recorded::run(name, bytes(program), expected, "");
@@ -312,9 +316,9 @@ fn ended() -> Vec<Recorded> {
         row("24, no room for text", FAR, far, [24, 15, 1, 2], t),
         run("25, no room for text", ONE_WIRE, [25, 5, 0, 1]),
         row("26, no room for text", L, three, [26, 24, 2, 6], &two).limit(6),
-        row("27, no room for text", L, three, [27, 24, 2, 7], &two).into_bytes(23),
+        row("27, no room for text", L, three, [27, 24, 2, 7], &two).into_bytes(35),
         run("26 of a run, no room for text", reset, [26, 5, 0, 0]).limit(0),
-        run("27 of a run, no room for text", reset, [27, 5, 0, 1]).into_bytes(7),
+        run("27 of a run, no room for text", reset, [27, 5, 0, 1]).into_bytes(11),
     ];
     rows.into_iter()
         .map(|row| row.printed("").text_bytes(0))

@@ -31,14 +31,24 @@ fn print(first: u64, count: u64) -> Result<(), String> {
     for (number, [check, instance, run]) in &histogram.counts {
         say(&format!("{number:6} {check:8} {instance:8} {run:8}"))?;
     }
+    let ops: Vec<String> = histogram.ops.iter().map(by_op).collect();
+    say(&format!("records by op: {}", ops.join(", ")))?;
     println!(
         "{} cases, {} accepted, {} with records, {} records, {} in the longest list",
         histogram.cases, histogram.accepted, histogram.listed, histogram.records, histogram.longest,
     );
-    match histogram.missing() {
-        missing if missing.is_empty() => Ok(()),
-        missing => Err(format!("these numbers did not occur: {missing:?}")),
+    let (numbers, ops) = (histogram.missing(), histogram.missing_ops());
+    match numbers.is_empty() && ops.is_empty() {
+        true => Ok(()),
+        false => Err(format!(
+            "these numbers did not occur: {numbers:?}, and these ops: {ops:?}"
+        )),
     }
+}
+
+/// An op and how many records have it.
+fn by_op((op, count): (&u8, &u64)) -> String {
+    format!("{count} of {op}")
 }
 
 /// Reads the arguments and prints.

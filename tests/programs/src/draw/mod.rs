@@ -93,6 +93,10 @@ impl Circuit {
                 last_wire = last_wire.max(row);
             }
         }
+        if operation.has_k {
+            let (_, mark) = marks.last_mut()?;
+            mark.push_str(&format!("({})", record.k));
+        }
         if let Some((bit, value)) = record.condition {
             let mark = CONDITION_MARKS.get(usize::from(value))?;
             marks.push((self.rows.row(Line::Bit, bit)?, mark.to_string()));

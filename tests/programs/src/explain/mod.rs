@@ -9,7 +9,7 @@ use crate::print::join;
 use crate::scope::variable_name;
 use crate::tool::{family_field, size_example, size_names, Loaded, Options};
 use locate::locate;
-use reference::Outcome;
+use reference::{Outcome, RECORD_BYTES};
 
 /// The most bytes that a program may have.
 const MOST_BYTES: usize = 65_535;
@@ -31,7 +31,7 @@ pub fn explain(program: &Loaded, options: &Options, outcome: &Outcome) -> Option
             options.limit
         )),
         27 => Some(format!(
-            "the output has {} bytes, and a record takes 8: allow more with --output",
+            "the output has {} bytes, and a record takes {RECORD_BYTES}: allow more with --output",
             options.output
         )),
         3 => match locate(&program.fields, place) {

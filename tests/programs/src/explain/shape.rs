@@ -2,6 +2,7 @@
 
 use super::locate::Found;
 use crate::field::{tags, Field};
+use crate::operations::MOST_K;
 use crate::scope::{called_number, counted, own_variables, parameter_count, two_bytes, Scope};
 use crate::tool::size_names;
 
@@ -25,14 +26,24 @@ pub fn misshapen(found: &Found, number: u32) -> Option<String> {
             scope.index(field)
         )),
         13 => Some(format!("the value is {}: write 0 or 1", field.head[0])),
-        25 => Some(format!(
-            "{} and {} stand for the same wire in this run",
-            scope.operand(field.parts.first()?),
-            scope.operand(field.parts.get(1)?),
-        )),
+        25 => one_wire(field, scope),
         31 if field.is_call() => Some(low_number(field, scope)),
+        32 => Some(format!(
+            "k is {} here, and in this run it is above {MOST_K}: choose smaller sizes, \
+             or leave out turns that are so small",
+            scope.index(field.parts.first()?)
+        )),
         _ => None,
     }
+}
+
+/// Which two operands stand for one wire.
+fn one_wire(field: &Field, scope: &Scope) -> Option<String> {
+    let mut names = field.operands().map(|part| scope.operand(part));
+    let (first, second) = (names.next()?, names.next()?);
+    Some(format!(
+        "{first} and {second} stand for the same wire in this run"
+    ))
 }
 
 /// What can be said of a tag in bytes that do not read as fields.

@@ -15,7 +15,8 @@ pub fn not_shown(found: &Found) -> Option<String> {
         (tags::ELEMENT, _) => element(field, scope),
         (tags::QBITS, tags::FAMILY) => {
             let name = parameter_name(around, found.part_number()?);
-            size(&field.parts[0], &format!("of parameter '{name}'"), scope)
+            let of = format!("of parameter '{name}'");
+            natural("size", &field.parts[0], &of, scope)
         }
         (tags::WHOLE, tags::CALL | tags::LONG_CALL) => argument(found, around),
         (_, tags::CALL | tags::LONG_CALL) => {
@@ -23,8 +24,9 @@ pub fn not_shown(found: &Found) -> Option<String> {
             let called = scope.families.get(number)?;
             let variable = variable_name(called, found.part_number()?);
             let of = format!("for '{variable}' of '{}'", scope.family(number));
-            size(field, &of, scope)
+            natural("size", field, &of, scope)
         }
+        (_, tags::PHASE | tags::CPHASE) => natural("k", field, "of this phase", scope),
         _ => None,
     }
 }
@@ -50,12 +52,12 @@ fn element(field: &Field, scope: &Scope) -> Option<String> {
     ))
 }
 
-/// A size that must be 0 or more.
-fn size(index: &Field, of: &str, scope: &Scope) -> Option<String> {
+/// A size or a k, which must be 0 or more.
+fn natural(what: &str, index: &Field, of: &str, scope: &Scope) -> Option<String> {
     let reason = below_zero(&Form::of(index, scope.variables())?, scope)?;
     let text = scope.index(index);
     Some(format!(
-        "the size {text} {of} is not shown to be 0 or more: it {reason}"
+        "the {what} {text} {of} is not shown to be 0 or more: it {reason}"
     ))
 }
 

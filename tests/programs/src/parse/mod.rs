@@ -15,9 +15,9 @@ use crate::names::Names;
 use crate::token::{tokens, Spot, TextError, Token, Word};
 
 /// Words that cannot be names.
-const TAKEN: [&str; 17] = [
-    "family", "gate", "qreg", "creg", "measure", "reset", "if", "h", "t", "tdg", "cx", "reverse",
-    "for", "do", "in", "bytes", "Qbit",
+const TAKEN: [&str; 19] = [
+    "family", "gate", "qreg", "creg", "measure", "reset", "if", "h", "t", "tdg", "cx", "phase",
+    "cphase", "reverse", "for", "do", "in", "bytes", "Qbit",
 ];
 
 /// The fields of a text and the names of its families.

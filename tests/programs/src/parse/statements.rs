@@ -42,6 +42,8 @@ impl Parser {
             "t" => self.gate(tags::T, 1, spot),
             "tdg" => self.gate(tags::TDG, 1, spot),
             "cx" => self.gate(tags::CX, 2, spot),
+            "phase" => self.phase(tags::PHASE, 1, spot),
+            "cphase" => self.phase(tags::CPHASE, 2, spot),
             "reverse" => {
                 let parts = self.block()?;
                 field(tags::REVERSE, vec![], parts, spot)
@@ -80,11 +82,28 @@ impl Parser {
         self.expect(";")
     }
 
-    /// A gate and its operands, with or without parentheses.
+    /// `cx q[0], q[1];`: a gate and its operands.
     fn gate(&mut self, tag: u8, operands: usize, spot: Spot) -> Answer<Field> {
+        let parts = self.gate_operands(operands)?;
+        field(tag, vec![], parts, spot)
+    }
+
+    /// `cphase(j - i) q[j], q[i];`: k, then the operands of a gate.
+    fn phase(&mut self, tag: u8, operands: usize, spot: Spot) -> Answer<Field> {
+        if !self.accept("(") {
+            return self.wrong("'(' (k stands before the operands, as phase(3) q[0])");
+        }
+        let mut parts = vec![self.index()?];
+        self.expect(")")?;
+        parts.extend(self.gate_operands(operands)?);
+        field(tag, vec![], parts, spot)
+    }
+
+    /// The operands of a gate, with or without parentheses, and the end of the statement.
+    fn gate_operands(&mut self, count: usize) -> Answer<Vec<Field>> {
         let closed = self.accept("(");
         let mut parts = Vec::new();
-        for number in 0..operands {
+        for number in 0..count {
             self.comma(number)?;
             parts.push(self.operand()?);
         }
@@ -92,7 +111,7 @@ impl Parser {
             self.expect(")")?;
         }
         self.end_of_statement()?;
-        field(tag, vec![], parts, spot)
+        Ok(parts)
     }
 
     /// `measure q[0] -> c[1];`.

@@ -30,10 +30,10 @@ Options of list, qasm and draw:
   --sizes 3,4             the sizes of the instance, in order
   --sizes n=3,m=4         or by name
   --limit STEPS           stop after so many steps (1000000)
-  --output BYTES          room for records, 8 bytes each (65536)
+  --output BYTES          room for records, 12 bytes each (65536)
 Options of draw:
   --width COLUMNS         how wide the drawing may be (100)
-  --records               FILE holds records of 8 bytes, as the library writes
+  --records               FILE holds records of 12 bytes, as the library writes
   --listing               FILE holds the lines of a list, as 'mqasm list' writes
 
 check, list and draw end with a line of number, place, records and steps; qasm
@@ -47,10 +47,12 @@ The text form, by example:
   gate g(a: Qbit) { .. }                        a family without any
   qreg q[5]; creg c[2];                         registers
   h q[0]; t q[0]; tdg q[0]; cx q[0], q[1];      gates
+  phase(3) q[0]; cphase(j-i+1) q[j], q[i];      phases: k, then operands
   f(4)(q, q[0]); g(q[1]);                       calls: sizes, then operands
   for i = 1..n { .. } reverse { .. }            loops and reversals
   measure q[0] -> c[1]; reset q[0];             at the top only
   if (c[0] == 1) { .. }                         at the top only
+A phase turns by one turn divided by 2 to the k, and k goes from 0 to 63.
 Indexes are made of numbers up to 65535, names, +, -, * and parentheses.
 #3 is the operand, family or index variable of that number, in scope or not,
 and bytes \"20 00 00\"; puts bytes into a list of statements as they are.
@@ -88,7 +90,7 @@ macro_rules! listing_options {
   --sizes 3,4             the sizes of the instance, in order
   --sizes n=3,m=4         or by name
   --limit STEPS           stop after so many steps (1000000)
-  --output BYTES          room for records, 8 bytes each (65536)
+  --output BYTES          room for records, 12 bytes each (65536)
   --text, --bytes         what FILE holds, whatever it is called
   -o FILE                 write to this file instead of standard output
 "
@@ -100,8 +102,8 @@ const LIST: &str = concat!(
 mqasm list FILE [options]
 
 Lists the records of a whole run, or of one family, a line for each: the
-operation and its wires and bits, after 'if BIT VALUE' where there is a
-condition. The last line has number, place, records and steps.
+operation, k where it has one, and its wires and bits, after 'if BIT VALUE'
+where there is a condition. The last line has number, place, records and steps.
 
 ",
     listing_options!()
@@ -113,6 +115,7 @@ mqasm qasm FILE [options]
 
 Writes the records of a whole run, or of one family, as a text of OpenQASM 2.0,
 a line for each: cx q[0],q[1]; or measure q[0] -> c1[0]; or if(c1==1) h q[2];
+A phase with k = 3 is u1(2*pi/8) q[0]; and its inverse u1(-2*pi/8) q[0];
 The qubits are one qreg, and each bit is a creg of its own. Only a complete list
 is written; if the number is not 0, a message says why.
 
@@ -128,14 +131,16 @@ Draws the records of a whole run, or of one family, as a circuit. Time goes from
 left to right, and gates in one column do not depend on each other. A drawing
 has at most 100 rows and 300 columns.
 
-  ───  a qubit               ═══  a bit
-  ●⊕   cx: control, target   M ╩  measure, and the bit that is written
-  T†   tdg                   |0⟩  reset
-  ●    on a bit: only if it is 1         ○  only if it is 0
+  ───    a qubit               ═══     a bit
+  ●⊕     cx: control, target   M ╩     measure, and the bit that is written
+  T†     tdg                   |0⟩     reset
+  P(3)   phase with k = 3      P†(3)   its inverse, phasedg
+  ●P(3)  cphase with k = 3     ●P†(3)  its inverse, cphasedg
+  ●      on a bit: only if it is 1     ○  only if it is 0
 
   --width COLUMNS         how wide the drawing may be (100); the rest follows
                           below, block by block
-  --records               FILE holds records of 8 bytes, as the library writes
+  --records               FILE holds records of 12 bytes, as the library writes
   --listing               FILE holds the lines of a list, as 'mqasm list' writes
 ",
     listing_options!()

@@ -5,9 +5,10 @@ use super::{unreadable, Answer, Options};
 use crate::decode::readable;
 use crate::field::Field;
 use crate::listing::read_listing;
-use crate::operations::{Record, RECORD};
+use crate::operations::Record;
 use crate::scope::Scope;
 use crate::{assemble, Assembled, Spots};
+use reference::RECORD_BYTES;
 use std::ffi::OsString;
 use std::fs::File;
 use std::io::{self, Read};
@@ -67,20 +68,31 @@ pub fn read_bytes(file: &OsString, input: &mut dyn Read) -> Answer<Vec<u8>> {
     read(file, MOST_BYTES, input)
 }
 
-/// Reads records of 8 bytes each.
+/// Reads records as the library writes them.
 pub fn read_records(file: &OsString, input: &mut dyn Read) -> Answer<Vec<Record>> {
-    let most = MOST_RECORDS * RECORD;
+    let most = MOST_RECORDS * RECORD_BYTES;
     let bytes = read(file, most, input)?;
     if bytes.len() > most {
         return too_long(file, most, "can be drawn");
     }
-    if bytes.len() % RECORD != 0 {
-        let (file, length) = (shown(file), bytes.len());
+    let (whole, rest) = bytes.as_chunks::<RECORD_BYTES>();
+    let file = shown(file);
+    if !rest.is_empty() {
+        let length = bytes.len();
         return unreadable(format!(
-            "{file}: {length} bytes are not records of 8 bytes each"
+            "{file}: {length} bytes are not records of {RECORD_BYTES} bytes each"
         ));
     }
-    Ok(bytes.chunks_exact(RECORD).map(Record::of).collect())
+    let records: Vec<Record> = whole.iter().map(Record::of).collect();
+    let mut pairs = records.iter().zip(whole);
+    if let Some(number) = pairs.position(|(record, bytes)| !record.ends_well(bytes)) {
+        let end = &whole[number][8..];
+        return unreadable(format!(
+            "{file}: record {number} is none of a list, as its last bytes are {end:?}; \
+             a record has {RECORD_BYTES} bytes, and had 8 before version 1.3"
+        ));
+    }
+    Ok(records)
 }
 
 /// Reads a text.

@@ -69,7 +69,7 @@ impl Command {
 pub enum Holds {
     Text,
     Bytes,
-    /// Records of 8 bytes, as the library writes them.
+    /// Records, as the library writes them.
     Records,
     /// The lines of a list.
     Listing,

@@ -97,9 +97,22 @@ fn openqasm_line(words: &[&str]) -> String {
         ["if", bit, value, rest @ ..] => format!("if(c{bit}=={value}) {}", openqasm_line(rest)),
         ["cx", control, target] => format!("cx q[{control}],q[{target}];\n"),
         ["measure", wire, bit] => format!("measure q[{wire}] -> c{bit}[0];\n"),
+        ["phase", k, wire] => format!("u1(2*pi/{}) q[{wire}];\n", parts(k)),
+        ["phasedg", k, wire] => format!("u1(-2*pi/{}) q[{wire}];\n", parts(k)),
+        ["cphase", k, first, second] => {
+            format!("cu1(2*pi/{}) q[{first}],q[{second}];\n", parts(k))
+        }
+        ["cphasedg", k, first, second] => {
+            format!("cu1(-2*pi/{}) q[{first}],q[{second}];\n", parts(k))
+        }
         [operation, wire] => format!("{operation} q[{wire}];\n"),
         _ => panic!("no line of a list: {words:?}"),
     }
+}
+
+/// How many parts of a turn a k makes.
+fn parts(k: &str) -> u64 {
+    2u64.pow(k.parse().unwrap())
 }
 
 /// How many locations a program's text declares by a word such as `qreg `.

@@ -1,0 +1,12 @@
+OPENQASM 2.0;
+include "qelib1.inc";
+qreg q[4];
+h q[3];
+cu1(2*pi/4) q[2],q[3];
+h q[2];
+cu1(-2*pi/2) q[1],q[3];
+cu1(-2*pi/4) q[0],q[3];
+cu1(-2*pi/2) q[0],q[2];
+h q[2];
+cu1(-2*pi/4) q[2],q[3];
+h q[3];
