@@ -4,7 +4,7 @@ use mathlib.Core.Path.{_≡_, refl, sym, ap, _∙_, subst}
 use mathlib.Core.List.{List, [], _∷_}
 use mathlib.Core.Bool.{Bool, true, false, cond}
 use borrow.Author.Tests.{eq-eqb, ne-eqb}
-use lib.ListN.{drop}
+use lib.ListN.{length, drop}
 use lib.Seq.{slice}
 use lib.IntN.{ℤ}
 use types.Run.{OneOf}
@@ -29,7 +29,7 @@ use Rattle.records.specs.declared.Answer.{Answer}
 use Rattle.records.specs.Outcomes.{Does, ActionNumbers}
 use Rattle.records.proofs.Sequences.{does-end, does-stuck}
 use Rattle.gates.specs.declared.Mode.{Mode}
-use Rattle.gates.specs.Gates.{directionOf, gateFor, codeOf, noWireOf, onWire, onTwoWires, gateBy}
+use Rattle.gates.specs.Gates.{directionOf, gateFor, codeOf, noWireOf, onWire, onTwoWires, OnWire, OnTwoWires, OnWires, gateBy}
 
 -- the same run by another name
 pub does-as : (l : List ℕ) (st : State) (l' : List ℕ) (r : Answer) (run run' : Run (Unit {0})) → run' ≡ run → Does l st l' r run → Does l st l' r run'
@@ -110,12 +110,31 @@ module _ (mode : Mode) (room : ℕ) (p : Place) (l : List ℕ) (from to : ℕ) (
       two-wires y i h = second-told ∙ ap (λ (q : WireMeaning). wireTold p q >>= pair (theWire (x .0))) i
           ∙ ap (λ (b : Bool). cond b (endAt 25 p) done >> both (theWire (x .0)) (theWire (y .0))) (ne-eqb (x .0) (y .0) h)
 
+-- ---- on a single wire, or on two
+
+module _ (single : Bool) (l : List ℕ) (st : State) (l' : List ℕ) (r : Answer) (mode : Mode) (p : Place) (content : List ℕ) (f : Frame) (code k : ℕ) where
+  pub on-single : single ≡ true → OnWire l st l' r mode p content f code k → OnWires single l st l' r mode p content f code k
+  unfolding OnWires
+  on-single e h = subst (λ (b : Bool). OnWires b l st l' r mode p content f code k) (sym e) h
+
+  pub on-pair : single ≡ false → OnTwoWires l st l' r mode p content f code k → OnWires single l st l' r mode p content f code k
+  unfolding OnWires
+  on-pair e h = subst (λ (b : Bool). OnWires b l st l' r mode p content f code k) (sym e) h
+
+-- the first operand has no wire
+pub on-none : (single : Bool) (o : List ℕ) (st : State) (mode : Mode) (p : Place) (l : List ℕ) (from to : ℕ) (d : Direction) (c : Condition) (values : List ℤ) (ms : List Meaning) (r : WireMeaning)
+    → WireAt (slice from to l) 0 values ms r → (code k : ℕ) → OneOf (1 ∷ 2 ∷ []) (tagOf wire-type r) → OnWires single o st o (noWireOf r p st) mode p (slice from to l) (frameOf d c values ms) code k
+unfolding OnWires
+on-none true o st mode p l from to d c values ms r u code k h = λ t act acts.
+    does-as o st o (noWireOf r p st) _ (onWire mode (length o) p (fields t (slice from to l)) (frameOf d c values ms) k act) (one-told mode (length o) p l from to d c values ms r u t k act) (wire-ends o st r p _ h)
+on-none false o st mode p l from to d c values ms r u code k h = λ t act acts.
+    does-as o st o (noWireOf r p st) _ (onTwoWires mode (length o) p (fields t (slice from to l)) (frameOf d c values ms) k act) (two-told mode (length o) p l from to d c values ms r u t k act) (wire-ends o st r p _ h)
+
 -- ---- gates, which have no k
 
-pub gate-one : (mode : Mode) (room : ℕ) (p tag : ℕ) (l : List ℕ) (d : Direction) (c : Condition) (values : List ℤ) (ms : List Meaning) → (tag ≡ 35 → ⊥)
-    → gateBy mode room tag p l (frameOf d c values ms) ≡ onWire mode room p (fields (p + 3) l) (frameOf d c values ms) 0 (written d (gateFor tag))
+pub gate-one : (mode : Mode) (room : ℕ) (p tag : ℕ) (l : List ℕ) (f : Frame) → (tag ≡ 35 → ⊥) → gateBy mode room tag p l f ≡ onWire mode room p (fields (p + 3) l) f 0 (written (f .direction) (gateFor tag))
 unfolding gateBy runGate fewHalvings _>>_ after
-gate-one mode room p tag l d c values ms h = rw (ne-eqb tag 35 h)
+gate-one mode room p tag l f h = rw (ne-eqb tag 35 h)
 
 pub gate-two : (mode : Mode) (room : ℕ) (p tag : ℕ) (l : List ℕ) (f : Frame) → tag ≡ 35 → gateBy mode room tag p l f ≡ onTwoWires mode room p (fields (p + 3) l) f 0 doCx
 unfolding gateBy runCx fewHalvings _>>_ after

@@ -72,6 +72,11 @@ OnTwoWires l st l' r mode p content f code k =
     (t : Place) (act : machine.Wire → machine.Wire → Action) → ((m n : ℕ) → ActionNumbers (act (theWire m) (theWire n)) code m n k)
     → Does l st l' r (onTwoWires mode (length l) p (fields t content) f k act)
 
+-- on a single wire, or on two
+unfoldable pub OnWires : (single : Bool) → List ℕ → State → List ℕ → Answer → Mode → Place → (content : List ℕ) → Frame → (code k : ℕ) → Type 0
+OnWires true l st l' r mode p content f code k = OnWire l st l' r mode p content f code k
+OnWires false l st l' r mode p content f code k = OnTwoWires l st l' r mode p content f code k
+
 -- the gate of this tag, and the cx, with this content
 abbrev pub gateAt : Mode → (room : ℕ) → ℕ → Place → List ℕ → Frame → Run (Unit {0})
 gateAt mode room tag p l f = runGate (mode .limit) room p (gateFor tag) (operandDue p 0 (fields (p + 3) l)) f

@@ -9,8 +9,7 @@ ghost use Rattle.language.specs.Limits.{longestProgram};
 ghost use Rattle.language.specs.Machine.{roundsOf, startOf};
 ghost use Rattle.language.specs.Form.{inRange};
 ghost use Rattle.indexes.specs.Values.{mostValues};
-ghost use Rattle.records.specs.Outcomes.{Does};
-ghost use Rattle.gates.specs.Gates.{codeOf, frameIn, directionOf, boundOf, Bounded, mostRounds, Repeated, turnOf, namelessOf, Entered, noWireOf, OnWire, OnTwoWires, gateBy, deeperOf, innerOf, enteredOf};
+ghost use Rattle.gates.specs.Gates.{codeOf, frameIn, directionOf, boundOf, Bounded, mostRounds, Repeated, turnOf, namelessOf, Entered, noWireOf, OnWires, deeperOf, innerOf, enteredOf};
 use fields::Header;
 use fields::Named;
 use indexes::VALUES;
@@ -43,7 +42,7 @@ pub struct Mode {
 }
 
 // The op of a gate in a direction.
-fn code(tag: u8, reversed: bool) -> u8
+pub fn code(tag: u8, reversed: bool) -> u8
     ensures { λ r. ⌜ r ≡ codeOf tag reversed ⌝ }
 {
     if tag == 32 {
@@ -73,11 +72,13 @@ fn no_wire(w: WireMeaning, place: usize, st: State) -> Answer
     }
 }
 
-// Writes a record of an op, with a k or 0 for it, on the wire that is due at `from` in the content that ends at `to`. Its step is taken.
-pub fn on_wire(
+// Writes a record of an op, with a k or 0 for it, on the single wire that is due at `from` in the content that ends at `to`, or on
+// the two wires that are due there, which must differ. Its step is taken.
+pub fn on_wires(
     bytes: &[u8],
     from: usize,
     to: usize,
+    single: bool,
     op: u8,
     k: usize,
     place: usize,
@@ -90,35 +91,7 @@ pub fn on_wire(
 ) -> Answer
     requires { ⌜ to ≤ length (now bytes) ⌝ }
     requires { ⌜ (mode .variables ≤ mostValues) × (place ≤ longestProgram) ⌝ }
-    ensures { λ r. ⌜ OnWire (now (out .entry)) st (now (out .exit)) r mode place (slice from to (now (bytes .entry))) (frameIn mode (take (mode .variables) (now (vars .entry))) scope (now (regs .entry))) op k ⌝ }
-{
-    let many = fields::wide(mode.variables);
-    let c = mode.condition;
-    let r = operands::wire_at(bytes, from, to, vars, many, scope, regs);
-    let WireMeaning::Is(w) = r else {
-        return no_wire(r, place, st);
-    };
-    records::write_record(out, st, place, op, w.0, 0, k, c)
-}
-
-// The same on two wires, which must differ.
-pub fn on_two_wires(
-    bytes: &[u8],
-    from: usize,
-    to: usize,
-    op: u8,
-    k: usize,
-    place: usize,
-    vars: &[i32; VALUES],
-    scope: Scope,
-    regs: &[u16; REGISTER_NUMBERS],
-    mode: Mode,
-    st: State,
-    out: &mut [u8],
-) -> Answer
-    requires { ⌜ to ≤ length (now bytes) ⌝ }
-    requires { ⌜ (mode .variables ≤ mostValues) × (place ≤ longestProgram) ⌝ }
-    ensures { λ r. ⌜ OnTwoWires (now (out .entry)) st (now (out .exit)) r mode place (slice from to (now (bytes .entry))) (frameIn mode (take (mode .variables) (now (vars .entry))) scope (now (regs .entry))) op k ⌝ }
+    ensures { λ r. ⌜ OnWires single (now (out .entry)) st (now (out .exit)) r mode place (slice from to (now (bytes .entry))) (frameIn mode (take (mode .variables) (now (vars .entry))) scope (now (regs .entry))) op k ⌝ }
 {
     let many = fields::wide(mode.variables);
     let c = mode.condition;
@@ -126,6 +99,9 @@ pub fn on_two_wires(
     let WireMeaning::Is(x) = first else {
         return no_wire(first, place, st);
     };
+    if single {
+        return records::write_record(out, st, place, op, x.0, 0, k, c);
+    }
     let Header::Whole(_, mid) = fields::header_at(bytes, from, to) else {
         return Answer::Stuck;
     };
@@ -137,57 +113,6 @@ pub fn on_two_wires(
         return Answer::Ended(25, place as u16, st);
     }
     records::write_record(out, st, place, op, x.0, y.0, k, c)
-}
-
-// Writes the gate or the cx with this tag, whose content is from `from` to `to` and whose step is taken.
-pub fn write_gate(
-    bytes: &[u8],
-    from: usize,
-    to: usize,
-    tag: u8,
-    place: usize,
-    vars: &[i32; VALUES],
-    scope: Scope,
-    regs: &[u16; REGISTER_NUMBERS],
-    mode: Mode,
-    st: State,
-    out: &mut [u8],
-) -> Answer
-    requires { ⌜ to ≤ length (now bytes) ⌝ }
-    requires { ⌜ (mode .variables ≤ mostValues) × (place ≤ longestProgram) ⌝ }
-    ensures { λ r. ⌜ Does (now (out .entry)) st (now (out .exit)) r (gateBy mode (length (now (out .entry))) tag place (slice from to (now (bytes .entry))) (frameIn mode (take (mode .variables) (now (vars .entry))) scope (now (regs .entry)))) ⌝ }
-{
-    if tag == 35 {
-        return on_two_wires(
-            bytes,
-            from,
-            to,
-            4,
-            0,
-            place,
-            vars,
-            scope,
-            regs,
-            mode,
-            st,
-            out,
-        );
-    }
-    let op = code(tag, mode.reversed);
-    on_wire(
-        bytes,
-        from,
-        to,
-        op,
-        0,
-        place,
-        vars,
-        scope,
-        regs,
-        mode,
-        st,
-        out,
-    )
 }
 
 // A loop's bounds, and where its body begins.

@@ -3,17 +3,18 @@ use Prim.Native.Nat.{ℕ, _+_, _-_, _≤_, _<_}
 use mathlib.Core.Path.{_≡_, refl, sym, ap, _∙_, subst}
 use mathlib.Core.List.{List, [], _∷_}
 use mathlib.Core.Bool.{Bool, true, false}
+use native.Mathlib.Omega.{arith}
 use borrow.Author.Tests.{eq-eqb, ne-eqb, eqb-true, eqb-false, lt-ltb, le-ltb}
 use lib.Dec.{eqb}
 use lib.IntN.{ℤ, pos, negsuc}
-use lib.ListN.{drop}
+use lib.ListN.{length, drop}
 use lib.Seq.{slice, drop-drop}
 use lib.Signed.{ltZ}
 use types.Run.{OneOf}
 use denote.Enum.Declared.{tagOf}
 use Rattle.language.specs.Tree.{Place, badIndex, badOperand}
 use Rattle.language.specs.Read.{Field, fields, due, operandDue, readOperand, outerIndex}
-use Rattle.language.specs.Machine.{Run, Frame, endAt, noMeaning, after, _>>=_, evaluate, naturalOf, halvings, doPhase, doCphase, runPhase, runCphase}
+use Rattle.language.specs.Machine.{Run, Frame, Direction, written, doCx, endAt, noMeaning, after, _>>=_, evaluate, naturalOf, halvings, doPhase, doCphase, runPhase, runCphase}
 use Rattle.language.specs.Machine as machine
 use Rattle.language.specs.Result.{op, firstNumber, secondNumber, halvingsOf}
 use Rattle.language.proofs.Integers.{integers}
@@ -27,12 +28,16 @@ use Rattle.indexes.specs.Values.{valueTold, IndexAt}
 use Rattle.indexes.proofs.Value.{the-type as value-type}
 use Rattle.indexes.proofs.Operations.{part-none}
 use Rattle.operands.specs.Meanings.{theWire}
-use Rattle.records.specs.Outcomes.{ActionNumbers}
+use Rattle.records.specs.declared.State.{State}
+use Rattle.records.specs.declared.Answer.{Answer}
+use Rattle.records.specs.Outcomes.{Does, ActionNumbers}
 use Rattle.gates.specs.declared.Mode.{Mode}
-use Rattle.gates.specs.Gates.{directionOf, onWire, onTwoWires, gateBy}
+use Rattle.gates.specs.Gates.{directionOf, gateFor, codeOf, onWire, onTwoWires, OnWires, gateBy}
+use Rattle.gates.proofs.GateRuns.{does-as, gate-acts, cx-acts, gate-one, gate-two}
 use Rattle.phases.specs.declared.Halvings.{Halvings}
 use Rattle.phases.specs.declared.Halvings.the-variants.{Are, Over, Stuck}
-use Rattle.phases.specs.Phases.{withoutOf, halving, Begins, Halved, phaseOp, cphaseOp, phaseAt, actionAt}
+use Rattle.phases.specs.declared.Parts.the-variants.{Are as PartsAre, Over as pOver, Stuck as pStuck}
+use Rattle.phases.specs.Phases.{Parted, PartsOf, withoutOf, halving, Begins, Halved, phaseOp, cphaseOp, phaseAt, actionAt}
 
 -- ---- k
 
@@ -136,3 +141,57 @@ module _ (mode : Mode) (room : ℕ) (p tag : ℕ) (l : List ℕ) (from to : ℕ)
     pub phase-stuck : r ≡ Stuck → phaseAt mode room tag p (slice from to l) f ≡ noMeaning
     unfolding halving
     phase-stuck e = by-tag noMeaning (λ next. ap (λ (x : Halvings). halving p x next) e)
+
+-- ---- the parts of a gate or a phase
+
+module _ (tag : ℕ) (l : List ℕ) (from to : ℕ) (values : List ℤ) (reversed : Bool) where
+  pub parts-cx : tag ≡ 35 → PartsOf tag l from to values reversed (PartsAre false 4 0 from)
+  unfolding Parted
+  parts-cx h mode room p f e d = record { place = p + 3; action = doCx; numbers = cx-acts; is = action-gate mode room tag p (slice from to l) f (omega arith) ∙ gate-two mode room p tag (slice from to l) f h }
+
+  pub parts-gate : (tag ≡ 35 → ⊥) → tag < 36 → PartsOf tag l from to values reversed (PartsAre true (codeOf tag reversed) 0 from)
+  unfolding Parted
+  parts-gate h k mode room p f e d = record {
+    place = p + 3;
+    action = written (f .direction) (gateFor tag);
+    numbers = λ n. subst (λ (x : Direction). ActionNumbers (written x (gateFor tag) (theWire n)) (codeOf tag reversed) n 0 0) (sym d) (gate-acts tag reversed n);
+    is = action-gate mode room tag p (slice from to l) f k ∙ gate-one mode room p tag (slice from to l) f h;
+  }
+
+  module _ (h : 36 ≤ tag) (r : Halvings) (w : Halved l from to values r) where
+    told : (f : Frame) → f .variables ≡ values → Halved l from to (f .variables) r
+    told f e = subst (λ (zs : List ℤ). Halved l from to zs r) (sym e) w
+
+    pub parts-over : r ≡ Over → PartsOf tag l from to values reversed pOver
+    unfolding Parted
+    parts-over o mode room p f e d = action-phase mode room tag p (slice from to l) f h ∙ phase-over mode room p tag l from to f r (told f e) o
+
+    pub parts-stuck : r ≡ Stuck → PartsOf tag l from to values reversed pStuck
+    unfolding Parted
+    parts-stuck o mode room p f e d = action-phase mode room tag p (slice from to l) f h ∙ phase-stuck mode room p tag l from to f r (told f e) o
+
+    module _ (k mid : ℕ) (i : r ≡ Are k mid) where
+      pub parts-phase : tag ≡ 40 → PartsOf tag l from to values reversed (PartsAre true (phaseOp reversed) k mid)
+      unfolding Parted
+      parts-phase t mode room p f e d = record {
+        place = p + 3 + (mid - from);
+        action = doPhase (f .direction) k;
+        numbers = λ n. subst (λ (x : Direction). ActionNumbers (doPhase x k (theWire n)) (phaseOp reversed) n 0 k) (sym d) (phase-acts reversed k n);
+        is = action-phase mode room tag p (slice from to l) f h ∙ phase-are mode room p tag l from to f r (told f e) k mid i t;
+      }
+
+      pub parts-cphase : (tag ≡ 40 → ⊥) → PartsOf tag l from to values reversed (PartsAre false (cphaseOp reversed) k mid)
+      unfolding Parted
+      parts-cphase t mode room p f e d = record {
+        place = p + 3 + (mid - from);
+        action = doCphase (f .direction) k;
+        numbers = λ m n. subst (λ (x : Direction). ActionNumbers (doCphase x k (theWire m) (theWire n)) (cphaseOp reversed) m n k) (sym d) (cphase-acts reversed k m n);
+        is = action-phase mode room tag p (slice from to l) f h ∙ cphase-are mode room p tag l from to f r (told f e) k mid i t;
+      }
+
+-- what is written on the wires of its parts is what it does
+pub parts-do : (single : Bool) (o : List ℕ) (st : State) (o' : List ℕ) (r : Answer) (mode : Mode) (tag : ℕ) (p : Place) (l : List ℕ) (from to : ℕ) (f : Frame) (code k at : ℕ)
+    → Parted mode (length o) tag p l from to f (PartsAre single code k at) → OnWires single o st o' r mode p (slice at to l) f code k → Does o st o' r (actionAt mode (length o) tag p (slice from to l) f)
+unfolding Parted OnWires
+parts-do true o st o' r mode tag p l from to f code k at h w = does-as o st o' r _ (actionAt mode (length o) tag p (slice from to l) f) (h .is) (w (h .place) (h .action) (h .numbers))
+parts-do false o st o' r mode tag p l from to f code k at h w = does-as o st o' r _ (actionAt mode (length o) tag p (slice from to l) f) (h .is) (w (h .place) (h .action) (h .numbers))

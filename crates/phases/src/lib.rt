@@ -1,4 +1,4 @@
-// Phases: their k and their records; and whatever else holds no statements.
+// What gates and phases write: their k, their op, and their records.
 ghost use mathlib.Core.Path.{_≡_};
 ghost use Prim.Native.Nat.{_≤_};
 ghost use lib.ListN.{length, take};
@@ -7,7 +7,7 @@ ghost use Rattle.language.specs.Limits.{longestProgram};
 ghost use Rattle.indexes.specs.Values.{mostValues};
 ghost use Rattle.records.specs.Outcomes.{Does};
 ghost use Rattle.gates.specs.Gates.{frameIn};
-ghost use Rattle.phases.specs.Phases.{withoutOf, Halved, phaseOp, cphaseOp, phaseAt, isActionTag, actionAt};
+ghost use Rattle.phases.specs.Phases.{withoutOf, Halved, phaseOp, cphaseOp, PartsOf, isActionTag, actionAt};
 use fields::Header;
 use gates::Mode;
 use indexes::VALUES;
@@ -74,61 +74,41 @@ fn cphase_op(reversed: bool) -> u8
     9
 }
 
-// Writes the phase or the cphase with this tag, whose content is from `from` to `to` and whose step is taken.
-fn write_phase(
+// What a gate or a phase writes, and on what: whether on a single wire, its op, its k, or 0 for it, and where its operands begin.
+pub enum Parts {
+    Are(bool, u8, usize, usize),
+    Over,
+    Stuck,
+}
+
+// The parts of the gate or the phase with this tag, whose content is from `from` to `to`.
+fn parts_of(
     bytes: &[u8],
     from: usize,
     to: usize,
     tag: u8,
-    place: usize,
     vars: &[i32; VALUES],
-    scope: Scope,
-    regs: &[u16; REGISTER_NUMBERS],
-    mode: Mode,
-    st: State,
-    out: &mut [u8],
-) -> Answer
+    many: usize,
+    reversed: bool,
+) -> Parts
     requires { ⌜ to ≤ length (now bytes) ⌝ }
-    requires { ⌜ (mode .variables ≤ mostValues) × (place ≤ longestProgram) ⌝ }
-    ensures { λ r. ⌜ Does (now (out .entry)) st (now (out .exit)) r (phaseAt mode (length (now (out .entry))) tag place (slice from to (now (bytes .entry))) (frameIn mode (take (mode .variables) (now (vars .entry))) scope (now (regs .entry)))) ⌝ }
+    requires { ⌜ many ≤ mostValues ⌝ }
+    ensures { λ r. ⌜ PartsOf tag (now (bytes .entry)) from to (take many (now (vars .entry))) reversed r ⌝ }
 {
-    let many = fields::wide(mode.variables);
+    if tag == fields::CX {
+        return Parts::Are(false, 4, 0, from);
+    }
+    if tag < fields::CALL {
+        return Parts::Are(true, gates::code(tag, reversed), 0, from);
+    }
     match halvings_of(bytes, from, to, vars, many) {
-        Halvings::Over => Answer::Ended(24, place as u16, st),
-        Halvings::Stuck => Answer::Stuck,
+        Halvings::Over => Parts::Over,
+        Halvings::Stuck => Parts::Stuck,
         Halvings::Are(k, mid) => {
             if tag == fields::PHASE {
-                let op = phase_op(mode.reversed);
-                return gates::on_wire(
-                    bytes,
-                    mid,
-                    to,
-                    op,
-                    k,
-                    place,
-                    vars,
-                    scope,
-                    regs,
-                    mode,
-                    st,
-                    out,
-                );
+                return Parts::Are(true, phase_op(reversed), k, mid);
             }
-            let op = cphase_op(mode.reversed);
-            gates::on_two_wires(
-                bytes,
-                mid,
-                to,
-                op,
-                k,
-                place,
-                vars,
-                scope,
-                regs,
-                mode,
-                st,
-                out,
-            )
+            Parts::Are(false, cphase_op(reversed), k, mid)
         }
     }
 }
@@ -158,12 +138,17 @@ pub fn act(
     requires { ⌜ (mode .variables ≤ mostValues) × (place ≤ longestProgram) ⌝ }
     ensures { λ r. ⌜ Does (now (out .entry)) st (now (out .exit)) r (actionAt mode (length (now (out .entry))) tag place (slice from to (now (bytes .entry))) (frameIn mode (take (mode .variables) (now (vars .entry))) scope (now (regs .entry)))) ⌝ }
 {
-    if tag < fields::CALL {
-        return gates::write_gate(
+    let many = fields::wide(mode.variables);
+    match parts_of(bytes, from, to, tag, vars, many, mode.reversed) {
+        Parts::Over => Answer::Ended(24, place as u16, st),
+        Parts::Stuck => Answer::Stuck,
+        Parts::Are(single, op, k, at) => gates::on_wires(
             bytes,
-            from,
+            at,
             to,
-            tag,
+            single,
+            op,
+            k,
             place,
             vars,
             scope,
@@ -171,19 +156,6 @@ pub fn act(
             mode,
             st,
             out,
-        );
+        ),
     }
-    write_phase(
-        bytes,
-        from,
-        to,
-        tag,
-        place,
-        vars,
-        scope,
-        regs,
-        mode,
-        st,
-        out,
-    )
 }

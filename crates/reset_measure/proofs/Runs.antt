@@ -1,6 +1,6 @@
 -- Reset and measure, as runs of the machine. Assumes nothing.
 use Prim.Native.Nat.{ℕ, _+_, _-_}
-use mathlib.Core.Path.{_≡_, refl, sym, ap, _∙_}
+use mathlib.Core.Path.{_≡_, sym, ap, _∙_}
 use mathlib.Core.List.{List, [], _∷_}
 use lib.ListN.{drop}
 use lib.Seq.{slice}
@@ -9,7 +9,7 @@ use types.Run.{OneOf}
 use denote.Enum.Declared.{tagOf}
 use Rattle.language.specs.Tree.{Place, badOperand}
 use Rattle.language.specs.Read.{fields, due, readOperand, operandDue}
-use Rattle.language.specs.Machine.{Meaning, Direction, Condition, endAt, noMeaning, after, _>>=_, write}
+use Rattle.language.specs.Machine.{Meaning, Run, Direction, Condition, endAt, noMeaning, after, _>>=_, write}
 use Rattle.fields.specs.declared.Header.the-variants.{Whole}
 use Rattle.fields.proofs.Header.{the-type}
 use Rattle.fields.proofs.Between.{lookIn, in-whole}
@@ -19,7 +19,6 @@ use Rattle.operands.specs.declared.Wire.{Wire}
 use Rattle.operands.specs.Meanings.{theWire, wireTold, WireAt, frameOf}
 use Rattle.operands.proofs.OperandFields.{wire-none}
 use Rattle.gates.specs.declared.Mode.{Mode}
-use Rattle.gates.specs.Gates.{onWire}
 use Rattle.reset_measure.specs.Tops.{resetAt, measureAt}
 use Rattle.operands.specs.declared.BitMeaning.{BitMeaning}
 use Rattle.operands.specs.declared.BitMeaning.the-variants as b
@@ -28,9 +27,23 @@ use Rattle.operands.specs.Meanings.{theBit, bitTold, BitAt}
 use Rattle.language.specs.Machine.{bitOf, _>>_, fewHalvings, doReset, doMeasure, runReset, runMeasure}
 
 module _ (mode : Mode) (room : ℕ) (p : Place) (l : List ℕ) (from to : ℕ) (d : Direction) (c : Condition) (values : List ℤ) (ms : List Meaning) where
-  pub reset-one : resetAt mode room p (slice from to l) (frameOf d c values ms) ≡ onWire mode room p (fields (p + 3) (slice from to l)) (frameOf d c values ms) 0 doReset
-  unfolding runReset fewHalvings _>>_ after
-  reset-one = refl
+  reset-is : (r : WireMeaning) → WireAt (slice from to l) 0 values ms r
+      → resetAt mode room p (slice from to l) (frameOf d c values ms) ≡ (wireTold p r >>= (λ w. write (mode .limit) room p (frameOf d c values ms) (doReset w)))
+  unfolding runReset
+  reset-is r w = ap (λ (x : Run _). x >>= (λ w. write (mode .limit) room p (frameOf d c values ms) (doReset w))) (sym (w p p (p + 3) d c))
+
+  pub reset-wire : (r : WireMeaning) (w : Wire) → WireAt (slice from to l) 0 values ms r → r ≡ Is w
+      → resetAt mode room p (slice from to l) (frameOf d c values ms) ≡ (fewHalvings p 0 >> write (mode .limit) room p (frameOf d c values ms) (doReset (theWire (w .0))))
+  unfolding fewHalvings _>>_ wireTold _>>=_ after
+  reset-wire r w h e = reset-is r h ∙ rw e
+
+  pub reset-over : (r : WireMeaning) → WireAt (slice from to l) 0 values ms r → r ≡ Over → resetAt mode room p (slice from to l) (frameOf d c values ms) ≡ endAt 24 p
+  unfolding wireTold _>>=_ after
+  reset-over r h e = reset-is r h ∙ rw e
+
+  pub reset-stuck : (r : WireMeaning) → WireAt (slice from to l) 0 values ms r → r ≡ Stuck → resetAt mode room p (slice from to l) (frameOf d c values ms) ≡ noMeaning
+  unfolding wireTold _>>=_ after
+  reset-stuck r h e = reset-is r h ∙ rw e
 
   pub measure-none : OneOf (1 ∷ 2 ∷ []) (tagOf the-type (lookIn l from to)) → measureAt mode room p (slice from to l) (frameOf d c values ms) ≡ noMeaning
   unfolding runMeasure wireTold _>>=_ after

@@ -34,20 +34,13 @@ pub fn reset(
     requires { ⌜ (mode .variables ≤ mostValues) × (place ≤ longestProgram) ⌝ }
     ensures { λ r. ⌜ Does (now (out .entry)) st (now (out .exit)) r (resetAt mode (length (now (out .entry))) place (slice from to (now (bytes .entry))) (frameIn mode (take (mode .variables) (now (vars .entry))) scope (now (regs .entry)))) ⌝ }
 {
-    gates::on_wire(
-        bytes,
-        from,
-        to,
-        6,
-        0,
-        place,
-        vars,
-        scope,
-        regs,
-        mode,
-        st,
-        out,
-    )
+    let many = fields::wide(mode.variables);
+    let c = mode.condition;
+    match operands::wire_at(bytes, from, to, vars, many, scope, regs) {
+        WireMeaning::Is(w) => records::write_record(out, st, place, 6, w.0, 0, 0, c),
+        WireMeaning::Over => Answer::Ended(24, place as u16, st),
+        WireMeaning::Stuck => Answer::Stuck,
+    }
 }
 
 // Writes the measure whose content is from `from` to `to` and whose step is taken.
