@@ -24,6 +24,7 @@ pub enum Halvings {
     Stuck,
 }
 
+// Why a phase has no k.
 fn without(v: Value) -> Halvings
     ensures { λ r. ⌜ r ≡ withoutOf v ⌝ }
 {

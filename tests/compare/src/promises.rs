@@ -136,13 +136,15 @@ fn prints(question: &Question) -> bool {
 /// Whether the bytes of a record can be one.
 fn sound_record(record: &[u8]) -> bool {
     let number = |place| u16::from_le_bytes([record[place], record[place + 1]]);
-    let [second, bit, k, last] = [number(4), number(6), number(8), number(10)];
+    let [first, second, bit] = [number(2), number(4), number(6)];
+    let [k, last] = [number(8), number(10)];
     let [op, condition] = [record[0], record[1]];
     let pair = matches!(op, 4 | 5 | 9 | 10);
     let phase = (7..=10).contains(&op);
     (1..=10).contains(&op)
         && condition <= 2
         && (pair || second == 0)
+        && (first != second || !pair || op == 5)
         && (condition != 0 || bit == 0)
         && (condition == 0 || !matches!(op, 5 | 6))
         && (phase || k == 0)
