@@ -31,11 +31,6 @@ use limits::MOST_LOOPS;
 // Levels of the statements in a conditional, which stands at the top.
 const IN_CONDITIONAL: usize = DEEPEST - 1;
 
-// The tags of statements, from the first to the last.
-const FIRST_TAG: u8 = 32;
-
-const LAST_TAG: u8 = 41;
-
 // What a statement's tag says.
 pub enum StatementTag {
     Gate,
@@ -96,10 +91,10 @@ fn statement_tag(tag: u8) -> StatementTag
 fn too_deep(tag: u8) -> u32
     ensures { λ r. ⌜ ((p : ℕ) (content : List ℕ) → badStatement r p ≡ deepStatement (field p tag content)) ⌝ }
 {
-    if tag < FIRST_TAG {
+    if tag < fields::H {
         return 3;
     }
-    if LAST_TAG < tag {
+    if fields::CPHASE < tag {
         return 3;
     }
     5

@@ -22,11 +22,6 @@ use records::Answer;
 use records::Condition;
 use records::State;
 
-// The tags of statements, from the first to the last.
-const FIRST_TAG: u8 = 32;
-
-const LAST_TAG: u8 = 41;
-
 // Levels of nested statements in a body.
 pub const LEVELS: u8 = DEEPEST as u8;
 
@@ -257,10 +252,10 @@ pub fn enter(
     if mode.levels == 0 {
         return Answer::Stuck;
     }
-    if tag < FIRST_TAG {
+    if tag < fields::H {
         return Answer::Stuck;
     }
-    if LAST_TAG < tag {
+    if fields::CPHASE < tag {
         return Answer::Stuck;
     }
     if nameless(bytes, from, to, tag) {

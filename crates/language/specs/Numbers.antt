@@ -68,7 +68,7 @@ forState =
     ∷ gives (run (qreg 1 ++ h (lit 0) ++ h (lit 0) ++ h (lit 0)) 2 (lent 32)) 26 29 2 2 (one 1 0 ++ one 1 0 ++ lent 8)
     -- 27: eleven bytes left
     ∷ gives (run (qreg 1 ++ h (lit 0) ++ h (lit 0)) 100 (lent 23)) 27 17 1 2 (one 1 0 ++ lent 11)
-    -- 32: k = 64, which 63 is not
+    -- 32: k = 64, after the largest, 63
     ∷ gives (run (qreg 1 ++ phase (lit 63) (at (lit 0)) ++ phase (lit 64) (at (lit 0))) 100 (lent 24)) 32 22 1 2 (row 7 0 0 63 ++ lent 12)
     ∷ []
 
