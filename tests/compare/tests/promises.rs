@@ -73,6 +73,7 @@ const LIST: &[Damage] = &[
     ),
     (|answer| answer.output[0] = 11, "a record has bytes"),
     (|answer| answer.output[8] = 1, "a record has bytes"),
+    (|answer| answer.output[16] = 0, "a record has bytes"),
     (|answer| answer.output[22] = 1, "a record has bytes"),
     (
         |answer| answer.output[24] ^= 1,
