@@ -39,6 +39,9 @@
  *     3 ns more for each byte of the program. For 1 s these are some 300,000 steps at 1,000 bytes and 5,000 at 65,535.
  *     (1,000,000 steps may take 200 s there.)
  *
+ * Coming from 1.3: a program may hand a part of a register to a parameter that takes a register, by a slice (operand tag 50: a
+ * number byte, the first index and the last one, which is in the slice). It was refused with 3 before. Numbers, records, steps
+ * and texts are what they were, and a host needs no change.
  * Coming from 1.2: a record takes 12 bytes and no longer 8, whatever its operation, and so an output holds two thirds of the
  * records that it held. Build the host anew with this header, go through lists by METAQASM_RECORD_BYTES, and be ready for four
  * more operations and for the number 32. The line of a record takes up to 64 bytes of a text and no longer 45. Bytes 0 to 7 of
@@ -55,7 +58,7 @@ extern "C" {
 #endif
 
 /* The version of this header and of the archive that is built beside it. */
-#define METAQASM_VERSION "1.3.0"
+#define METAQASM_VERSION "1.4.0"
 
 /* The stack that a call needs at most, in KiB, for every program within the limits and beside what the host has in use there;
  * and what a check alone needs. On less, a deep program may end the process at the guard page below the stack. (The first

@@ -1,6 +1,7 @@
 /* A host: takes a guest's program, copies it, checks it, and prints instances and the whole run as lists of gates; first with
- * the paper's adder, then with the Fourier transform. After the check the guest changes its own bytes, and the lists stay what
- * they are. Run it from the repository's root; it compares the lists with those in examples. */
+ * the paper's adder, then with the Fourier transform, then with a multiplier, which hands on slices. After the check the guest
+ * changes its own bytes, and the lists stay what they are. Run it from the repository's root; it compares the lists with those
+ * in examples. */
 #include "expect.h"
 #include "load.h"
 #include <metaqasm.h>
@@ -32,6 +33,17 @@ static const question fourier[] = {
     {"unqft at n = 3", 1, {3, 0, 0, 0}, 4, 6, "examples/qft.unqft.n3.list"},
     {"sub at n = 2", 3, {2, 0, 0, 0}, 4, 9, "examples/qft.sub.n2.list"},
     {NULL, 0, {0}, 0, 15, "examples/qft.list"},
+};
+
+/* The families of the multiplier: 2 qft, 5 mult, 6 unmult and 7 mult_printed with the index variable n. */
+static const question multiplier[] = {
+    {"qft by slices at n = 3", 2, {3, 0, 0, 0}, 4, 6, NULL},
+    {"mult at n = 0", 5, {0, 0, 0, 0}, 4, 0, "examples/multiplier.n0.list"},
+    {"mult at n = 1", 5, {1, 0, 0, 0}, 4, 16, "examples/multiplier.n1.list"},
+    {"mult at n = 2", 5, {2, 0, 0, 0}, 4, 74, "examples/multiplier.n2.list"},
+    {"unmult at n = 1", 6, {1, 0, 0, 0}, 4, 16, "examples/multiplier.unmult.n1.list"},
+    {"mult_printed at n = 2", 7, {2, 0, 0, 0}, 4, 42, "examples/multiplier.printed.n2.list"},
+    {NULL, 0, {0}, 0, 86, "examples/multiplier.list"},
 };
 
 #define COUNT(list) (sizeof(list) / sizeof((list)[0]))
@@ -233,5 +245,6 @@ int main(void)
         refusals(program.own, program.length);
     }
     serve(&program, "examples/qft.bytes", fourier, COUNT(fourier));
+    serve(&program, "examples/multiplier.bytes", multiplier, COUNT(multiplier));
     return closed();
 }

@@ -62,6 +62,13 @@ family qft.unqft.n3 qft 1 3
 family qft.add.n2 qft 2 2
 family qft.sub.n2 qft 3 2
 family qft.n64 qft 0 64
+family multiplier.n0 multiplier 5 0
+family multiplier.n1 multiplier 5 1
+family multiplier.n2 multiplier 5 2
+family multiplier.unmult.n1 multiplier 6 1
+family multiplier.printed.n2 multiplier 7 2
+family slices.inner.n0 slices 1 0
+family slices.tails.n2 slices 2 2
 family there-and-back.there.n1 there-and-back 1 1
 family there-and-back.back.n1 there-and-back 2 1
 family there-and-back.n2 there-and-back 3 2
@@ -84,6 +91,22 @@ phases() {
 gives 'phases' $'phase 3 0\ncphase 2 1 0\nif 0 1 cphasedg 63 0 1\nif 0 1 phasedg 0 1\nend 0 0 4 6' '' "$list" < <(phases)
 gives 'a k of 64' 'end 32 5 0 1' '' "$list" < <(printf '\2\2\0\1\0\50\16\0\100\2\0\100\0\61\6\0\0\100\2\0\0\0')
 gives 'a tag past the phases' 'end 3 0 0 0' '' "$list" < <(printf '\52\0\0')
+
+# A family of n with x: Qbit[n] and h on each cell, a qreg of 3, and a call of the family at a size about a slice of the qreg.
+sliced() { # SIZE FIRST LAST
+    printf '\1\50\0\1\1\21\4\0\101\1\0\0'
+    printf '\46\34\0\100\2\0\0\0\103\11\0\101\1\0\0\100\2\0\1\0\40\10\0\61\5\0\0\101\1\0\1'
+    printf '\2\2\0\3\0\44\24\0\0'
+    printf '\100\2\0%b\0\62\13\0\0\100\2\0%b\0\100\2\0%b\0' "\\0$1" "\\0$2" "\\0$3"
+}
+gives 'a slice' $'h 1\nh 2\nend 0 0 2 6' '' "$list" < <(sliced 2 1 2)
+gives 'a slice for fewer cells' $'h 0\nend 0 0 1 4' '' "$list" < <(sliced 1 0 2)
+gives 'an empty slice at the end' 'end 0 0 0 2' '' "$list" < <(sliced 0 3 2)
+gives 'a slice past the register' 'end 12 57 0 0' '' "$list" < <(sliced 1 2 3)
+gives 'a slice that ends too far before its start' 'end 12 57 0 0' '' "$list" < <(sliced 0 2 0)
+gives 'a slice that is too small' 'end 12 57 0 0' '' "$list" < <(sliced 3 1 2)
+gives 'a slice as a wire' 'end 9 8 0 0' '' "$list" < <(printf '\2\2\0\2\0\40\16\0\62\13\0\0\100\2\0\0\0\100\2\0\0\0')
+gives 'a tag past the slices' 'end 3 8 0 0' '' "$list" < <(printf '\2\2\0\2\0\40\3\0\63\0\0')
 
 # A library of 257 families of one wire: h in family 0, nothing in families 1 to 255, t in family 256; then a call of 256.
 long_library() {

@@ -161,7 +161,7 @@ module _ (values : List ℤ) (ms : List Meaning) (tag : ℕ) (content : List ℕ
 
   no-operand : isOperandTag tag ≡ false → (q t : Place) (d : Direction) (c : Condition) → meaningOf q (frameOf d c values ms) (readOperand (field t tag content)) ≡ noMeaning
   unfolding readOperand choose meaningOf
-  no-operand h q t d c = rw (ne-eqb tag 48 (λ e. other e h refl), ne-eqb tag 49 (λ e. other e h refl)) refl
+  no-operand h q t d c = rw (ne-eqb tag 48 (λ e. other e h refl), ne-eqb tag 49 (λ e. other e h refl), ne-eqb tag 50 (λ e. other e h refl)) refl
     where
       other : {n : ℕ} → tag ≡ n → isOperandTag tag ≡ false → isOperandTag n ≡ true → ⊥
       other e h f = let z : _≡_ {A = Bool} true false = sym f ∙ ap isOperandTag (sym e) ∙ h in let y : _≡_ {A = ℕ} 0 1 = cc in omega arith

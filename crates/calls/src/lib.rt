@@ -98,7 +98,7 @@ fn is_index(tag: u8) -> bool
 fn is_operand(tag: u8) -> bool
     ensures { λ r. ⌜ r ≡ isOperandTag tag ⌝ }
 {
-    fields::WHOLE <= tag && tag <= fields::ELEMENT
+    fields::WHOLE <= tag && tag <= fields::SLICE
 }
 
 // Stores a size if it is one of the first that a family can have.

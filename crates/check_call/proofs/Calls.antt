@@ -5,15 +5,15 @@ use mathlib.Core.Bool.{Bool, true, false, cond, _&&_}
 use mathlib.Core.Option.{Option, none, some}
 use Prim.Native.Nat.{ℕ, zero, suc, _+_, _≤_, _<_}
 use native.Mathlib.Omega.{arith}
-use lib.Dec.{eqb, leb}
+use lib.Dec.{leb}
 use lib.IntN.{ℤ}
 use lib.ListN.{length, drop, getElem?, drop-of-length-le}
 use lib.Seq.{slice}
-use borrow.Author.Tests.{eqb-true, le-leb, lt-leb, leb-true}
+use borrow.Author.Tests.{ne-eqb, le-leb, lt-leb, leb-true}
 use types.Run.{OneOf}
 use denote.Enum.Declared.{tagOf}
 use Rattle.language.specs.Tree.{Operand, badOperand, Argument, index, operand, badArgument, Statement, badStatement}
-use Rattle.language.specs.Read.{Field, field, choose, due, outerIndex, isIndexTag, isOperandTag, Reader, readWhole, readElement, readOperand, readArgument, callOf}
+use Rattle.language.specs.Read.{Field, field, choose, due, outerIndex, isIndexTag, isOperandTag, readOperand, readArgument, callOf}
 use Rattle.language.specs.Form.{Form}
 use Rattle.language.specs.Check.{Checked, good, refused, _>>=_, _>>_, Kind, Signature, checkOperand, callForms, callOperands, taken, inScope, checkCall, checkStatement}
 use Rattle.language.proofs.Integers.{clash}
@@ -33,21 +33,16 @@ use Rattle.language.specs.Check as C
 
 not-operand : (p tag : ℕ) (content : List ℕ) → isOperandTag tag ≡ false → readOperand (field p tag content) ≡ badOperand 3 p
 unfolding readOperand choose
-not-operand p tag content e = by (eqb tag 48) refl (eqb tag 49) refl
+not-operand p tag content e = rw (ne-eqb tag 48 (λ z. never (omega arith) (omega arith)), ne-eqb tag 49 (λ z. never (omega arith) (omega arith)), ne-eqb tag 50 (λ z. never (omega arith) (omega arith)))
   where
-    never : 48 ≤ tag → tag ≤ 49 → ⊥
-    never h k = clash (sym (λ j. le-leb 48 tag h j && le-leb tag 49 k j) ∙ e)
-
-    by : (a : Bool) → eqb tag 48 ≡ a → (b : Bool) → eqb tag 49 ≡ b → cond {A = Reader Operand} a readWhole (cond b readElement (λ q rest. badOperand 3 q)) p content ≡ badOperand 3 p
-    by true x b y = absurd (let z = eqb-true tag 48 x in never (omega arith) (omega arith))
-    by false x true y = absurd (let z = eqb-true tag 49 y in never (omega arith) (omega arith))
-    by false x false y = refl
+    never : 48 ≤ tag → tag ≤ 50 → ⊥
+    never h k = clash (sym (λ j. le-leb 48 tag h j && le-leb tag 50 k j) ∙ e)
 
 index-no-operand : (tag : ℕ) → isIndexTag tag ≡ true → isOperandTag tag ≡ false
 index-no-operand tag e = by (leb 64 tag) (leb-true 64 tag) e
   where
     by : (t : Bool) → (t ≡ true → 64 ≤ tag) → (t && leb tag 68) ≡ true → isOperandTag tag ≡ false
-    by true f e = let h = f refl in rw (le-leb 48 tag (omega arith), lt-leb tag 49 (omega arith))
+    by true f e = let h = f refl in rw (le-leb 48 tag (omega arith), lt-leb tag 50 (omega arith))
     by false f e = absurd (clash (sym e))
 
 module _ (s : C.Scope) (parent : ℕ) (forms : List Form) (k : Kind) (ks : List Kind) where

@@ -23,6 +23,9 @@ use Rattle.check_index.specs.declared.Read.the-variants.{Upto, Refused}
 pub not-first : {A : Type 0} → OneOf (1 ∷ []) 0 → A
 not-first h = absurd (let z : _≡_ {A = ℕ} 0 1 = h in omega arith)
 
+pub not-second : {A : Type 0} → OneOf (0 ∷ []) 1 → A
+not-second h = absurd (let z : _≡_ {A = ℕ} 1 0 = h in omega arith)
+
 pub checked-then : {B : Type 0} (r : Read) (l : List ℤ) (m : ℕ) (next : Form → Checked B) → r ≡ Upto m → (checkedForm r l >>= next) ≡ next (asForm l)
 unfolding checkedForm _>>=_
 checked-then r l m next e = ap (λ (x : Read). checkedForm x l >>= next) e
@@ -72,7 +75,7 @@ then-upto r m next e = ap (λ (x : Read). checkedPart x >> next) e
 pub then-goes : {B : Type 0} (r : Read) (next : Checked B) → OneOf (0 ∷ []) (tagOf the-type r) → (checkedPart r >> next) ≡ next
 unfolding checkedPart _>>_
 then-goes (Upto n) next h = refl
-then-goes (Refused n p) next h = absurd (let z : _≡_ {A = ℕ} 1 0 = h in omega arith)
+then-goes (Refused n p) next h = not-second h
 
 pub then-stops : (r : Read) (next : Checked (Unit {0})) → OneOf (1 ∷ []) (tagOf the-type r) → checkedPart r ≡ (checkedPart r >> next)
 unfolding checkedPart _>>_
@@ -135,9 +138,37 @@ pub count-upto : (program : List ℕ) (at to n : ℕ) (r : Read) (m : ℕ) → r
 count-upto program at to n r m e h = rw e at h
 
 -- an answer that goes on
-pub part-went : (r : Read) (x next : Checked (Unit {0})) → checkedPart r ≡ x → OneOf (0 ∷ []) (tagOf the-type r) → (x >> next) ≡ next
+pub part-went : {B : Type 0} (r : Read) (x : Checked (Unit {0})) (next : Checked B) → checkedPart r ≡ x → OneOf (0 ∷ []) (tagOf the-type r) → (x >> next) ≡ next
 part-went r x next e h = ap (λ (c : Checked (Unit {0})). c >> next) (sym e) ∙ then-goes r next h
 
 pub form-ends-stops : (next : ℕ) (r : Read) (l : List ℤ) → OneOf (1 ∷ []) (tagOf the-type r) → FormEndsAt next r l
 form-ends-stops next (Upto n) l h = not-first h
 form-ends-stops next (Refused n p) l h = tt
+
+-- an index that goes on, whatever its position
+pub form-goes : {B : Type 0} (r : Read) (l : List ℤ) (next : Form → Checked B) → OneOf (0 ∷ []) (tagOf the-type r) → (checkedForm r l >>= next) ≡ next (asForm l)
+unfolding checkedForm _>>=_
+form-goes (Upto n) l next h = refl
+form-goes (Refused n p) l next h = not-second h
+
+pub form-kept : (next : ℕ) (r : Read) (l : List ℤ) → OneOf (0 ∷ []) (tagOf the-type r) → FormEndsAt next r l → Kept l
+form-kept next (Upto n) l h e = e .1
+form-kept next (Refused n p) l h e = not-second h
+
+-- a part before a form
+pub part-form-stops : (r : Read) (l : List ℤ) (x : Checked (Unit {0})) (next : Checked Form) → checkedPart r ≡ x → OneOf (1 ∷ []) (tagOf the-type r) → checkedForm r l ≡ (x >> next)
+unfolding checkedForm checkedPart _>>_
+part-form-stops r l x next e h = by r h ∙ ap (λ (c : Checked (Unit {0})). c >> next) e
+  where
+    by : (r : Read) → OneOf (1 ∷ []) (tagOf the-type r) → checkedForm r l ≡ (checkedPart r >> next)
+    by (Upto n) h = not-first h
+    by (Refused n p) h = refl
+
+pub part-form : (r : Read) (l : List ℤ) → checkedForm r l ≡ (checkedPart r >> good (asForm l))
+unfolding checkedForm checkedPart _>>_
+part-form (Upto n) l = refl
+part-form (Refused n p) l = refl
+
+pub part-form-ends : (next : ℕ) (r : Read) (l : List ℤ) → EndsAt next r → Kept l → FormEndsAt next r l
+part-form-ends next (Upto n) l e k = (e, k)
+part-form-ends next (Refused n p) l e k = tt

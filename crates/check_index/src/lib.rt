@@ -12,10 +12,12 @@ ghost use Rattle.fields.specs.Header.{fieldsAt};
 ghost use Rattle.forms.specs.Flat.{Kept, asForm};
 ghost use Rattle.check_index.specs.Indexes.{IndexSays, treeOperation, scopeOf};
 ghost use Rattle.check_index.specs.Answers.{checkedForm, FormEndsAt, FormPasses};
+ghost use Rattle.check_index.specs.Bounds.{checkedBounds, boundsDue, BoundsPass};
 use fields::Header;
 use forms::FORM_NUMBERS;
 use forms::Form;
 use forms::Product;
+use limits::DEEPEST;
 
 // The tags of index fields, from the first to the last.
 const FIRST_TAG: u8 = 64;
@@ -191,4 +193,31 @@ pub fn index(
             }
         }
     }
+}
+
+// The two indexes that are due one after the other from `from` on in the field at `parent` whose content ends at `to`; their
+// forms go to `low` and `high`.
+pub fn two_indexes(
+    program: &[u8],
+    from: usize,
+    to: usize,
+    parent: usize,
+    variables: usize,
+    low: &mut Form,
+    high: &mut Form,
+) -> Read
+    requires { ⌜ to ≤ length (now program) ⌝ }
+    requires { ⌜ variables ≤ allVariables ⌝ }
+    ensures { λ r. ⌜ checkedBounds r (now (low .exit)) (now (high .exit)) ≡ boundsDue (scopeOf variables) parent (fieldsAt (now (program .entry)) from to) ⌝ }
+    ensures { λ r. ⌜ BoundsPass (now (program .entry)) from to r (now (low .exit)) (now (high .exit)) ⌝ }
+{
+    let r = index(program, from, to, parent, DEEPEST, variables, low);
+    let Read::Upto(mid) = r else {
+        return r;
+    };
+    let t = index(program, mid, to, parent, DEEPEST, variables, high);
+    let Read::Upto(end) = t else {
+        return t;
+    };
+    Read::Upto(end)
 }

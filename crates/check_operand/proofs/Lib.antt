@@ -2,3 +2,4 @@
 pub mod OperandKinds
 pub mod Tables
 pub mod Operands
+pub mod Slices

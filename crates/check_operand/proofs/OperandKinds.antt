@@ -29,6 +29,16 @@ not-made l e q = sym e ∙ ap (λ (t : Bool). builtOf t l) q
 pub is-made : (l : List ℤ) {t : Bool} {b : Built} → builtOf t l ≡ b → t ≡ true → b ≡ built (asForm l)
 is-made l e q = sym e ∙ ap (λ (t : Bool). builtOf t l) q
 
+-- what is built from what may be refused
+module _ (next : Form → Built) where
+  pub then-not : {b : Built} → b ≡ outOfRange → (b thenBuild next) ≡ outOfRange
+  unfolding _thenBuild_
+  then-not e = ap (λ (b : Built). b thenBuild next) e
+
+  pub then-made : {b : Built} (f : Form) → b ≡ built f → (b thenBuild next) ≡ next f
+  unfolding _thenBuild_
+  then-made f e = ap (λ (b : Built). b thenBuild next) e
+
 -- an operand of the kind k taken whole
 module _ (p : ℕ) (s : C.Scope) (f : Form) (l : List ℤ) where
   pub wire-good : good tt ≡ wholeFits p s (wantedOf Wire l) (kindIn Qubit f)

@@ -1,18 +1,18 @@
--- Operands: taken whole, elements, the one that is due, and two in a row. Assumes nothing.
+-- Operands: taken whole, elements, the one that is due, and two in a row; slices stand apart. Assumes nothing.
 use mathlib.Core.Path.{_≡_, refl, sym, ap, _∙_}
 use mathlib.Core.List.{List, [], _∷_}
 use mathlib.Core.Option.{Option, none, some}
 use Prim.Native.Nat.{ℕ, _+_, _≤_, _<_}
 use native.Mathlib.Omega.{arith}
-use lib.IntN.{ℤ, pos}
+use lib.IntN.{ℤ}
 use lib.ListN.{length, drop, getElem?}
 use lib.Seq.{slice}
 use borrow.Author.Tests.{ne-eqb}
 use types.Run.{OneOf}
 use denote.Enum.Declared.{tagOf}
 use Rattle.language.specs.Tree.{badIndex, badOperand}
-use Rattle.language.specs.Read.{Field, field, badHeader, choose, ending, due, outerIndex, readWhole, readElement, elementOf, readOperand}
-use Rattle.language.specs.Form.{Form, Built, built, outOfRange, constantForm, differenceOf, _thenBuild_}
+use Rattle.language.specs.Read.{Field, field, badHeader, choose, ending, due, outerIndex, readWhole, readElement, elementOf, readSlice, readOperand}
+use Rattle.language.specs.Form.{Form, built}
 use Rattle.language.specs.Check.{Checked, refused, _>>=_, _>>_, noLeftover, inScope, formOf, Kind, mustShow, wholeFits, elementSize, roomAfter, checkWithin, checkOperand}
 use Rattle.fields.specs.Header.{fieldsAt}
 use Rattle.fields.proofs.Headers.{Wholly}
@@ -22,7 +22,7 @@ use Rattle.check_index.specs.Answers.{checkedForm, PastField, checkedPart}
 use Rattle.check_operand.specs.Operands.{checkedSize}
 use Rattle.check_index.specs.declared.Read.{Read}
 use Rattle.check_index.specs.declared.Read.the-variants.{Upto, Refused}
-use Rattle.check_index.proofs.Answers.{not-first, more-left, none-left, form-stops, checked-then, drop-two, part-stops, part-went}
+use Rattle.check_index.proofs.Answers.{not-first, not-second, more-left, none-left, form-stops, checked-then, drop-two, part-stops, part-went}
 use Rattle.language.specs.Tree as T
 use Rattle.language.specs.Check as C
 
@@ -66,13 +66,14 @@ module _ (at : ℕ) (s : C.Scope) (size f : Form) (r : Read) (e : checkedPart r 
   unfolding checkWithin
   within-goes h = sym (part-went r (mustShow at s (built f)) (mustShow at s (roomAfter size f)) e h)
 
-pub room-none : (size i : Form) → differenceOf size (constantForm (pos 1)) ≡ outOfRange → roomAfter size i ≡ outOfRange
-unfolding roomAfter _thenBuild_
-room-none size i e = ap (λ (b : Built). b thenBuild λ last. differenceOf last i) e
+-- nothing is left of the fields after the last one, or something is
+pub left-long : {B : Type 0} (program : List ℕ) (at end next : ℕ) (more : Checked B) → end < next → next ≤ length program → refused 4 at ≡ (noLeftover at (ending (fieldsAt program end next)) >> more)
+unfolding noLeftover _>>_
+left-long program at end next more h w = sym (ap (λ (x : T.Ending). noLeftover at x >> more) (more-left program end next h w))
 
-pub room-some : (size i g : Form) → differenceOf size (constantForm (pos 1)) ≡ built g → roomAfter size i ≡ differenceOf g i
-unfolding roomAfter _thenBuild_
-room-some size i g e = ap (λ (b : Built). b thenBuild λ last. differenceOf last i) e
+pub left-good : {B : Type 0} (program : List ℕ) (at end next : ℕ) (more : Checked B) → next ≤ end → more ≡ (noLeftover at (ending (fieldsAt program end next)) >> more)
+unfolding noLeftover _>>_
+left-good program at end next more h = sym (ap (λ (x : T.Ending). noLeftover at x >> more) (none-left program end next h))
 
 module _ (s : C.Scope) (d : C.Due) (at : ℕ) (content : List ℕ) where
   pub element-none : content ≡ [] → refused 4 at ≡ checkOperand s d (readElement at content)
@@ -114,30 +115,28 @@ module _ (s : C.Scope) (d : C.Due) (at : ℕ) (content : List ℕ) where
             ∙ ap (λ (fs : List Field). noLeftover at (ending fs) >> sized k (asForm l)) (v .rest)
 
         pub element-long : end < next → next ≤ length program → refused 4 at ≡ checkOperand s d (readElement at content)
-        unfolding noLeftover _>>_
-        element-long h w = sym (element-end ∙ ap (λ (x : T.Ending). noLeftover at x >> sized k (asForm l)) (more-left program end next h w))
+        element-long h w = left-long program at end next (sized k (asForm l)) h w ∙ sym element-end
 
         pub element-good : next ≤ end → sized k (asForm l) ≡ checkOperand s d (readElement at content)
-        unfolding noLeftover _>>_
-        element-good h = sym (element-end ∙ ap (λ (x : T.Ending). noLeftover at x >> sized k (asForm l)) (none-left program end next h))
+        element-good h = left-good program at end next (sized k (asForm l)) h ∙ sym element-end
 
--- an element, from the answer on its kind
-module _ (s : C.Scope) (d : C.Due) (at : ℕ) (k : Kind) (size f : Form) (r : Read) (e : checkedSize r size ≡ elementSize at d k) where
-  pub kind-stops : OneOf (1 ∷ []) (tagOf the-type r) → checkedPart r ≡ (elementSize at d k >>= λ size. checkWithin at s size f)
+-- an element or a slice, from the answer on its kind
+module _ (c : Checked Form) (next : Form → Checked (Unit {0})) (size : Form) (r : Read) (e : checkedSize r size ≡ c) where
+  pub kind-stops : OneOf (1 ∷ []) (tagOf the-type r) → checkedPart r ≡ (c >>= next)
   unfolding checkedSize checkedPart _>>=_
-  kind-stops h = by r h ∙ ap (λ (c : Checked Form). c >>= λ size. checkWithin at s size f) e
+  kind-stops h = by r h ∙ ap (λ (x : Checked Form). x >>= next) e
     where
-      by : (r : Read) → OneOf (1 ∷ []) (tagOf the-type r) → checkedPart r ≡ (checkedSize r size >>= λ size. checkWithin at s size f)
+      by : (r : Read) → OneOf (1 ∷ []) (tagOf the-type r) → checkedPart r ≡ (checkedSize r size >>= next)
       by (Upto n) h = not-first h
       by (Refused n p) h = refl
 
-  pub kind-goes : OneOf (0 ∷ []) (tagOf the-type r) → checkWithin at s size f ≡ (elementSize at d k >>= λ size. checkWithin at s size f)
+  pub kind-goes : OneOf (0 ∷ []) (tagOf the-type r) → next size ≡ (c >>= next)
   unfolding checkedSize _>>=_
-  kind-goes h = by r h ∙ ap (λ (c : Checked Form). c >>= λ size. checkWithin at s size f) e
+  kind-goes h = by r h ∙ ap (λ (x : Checked Form). x >>= next) e
     where
-      by : (r : Read) → OneOf (0 ∷ []) (tagOf the-type r) → checkWithin at s size f ≡ (checkedSize r size >>= λ size. checkWithin at s size f)
+      by : (r : Read) → OneOf (0 ∷ []) (tagOf the-type r) → next size ≡ (checkedSize r size >>= next)
       by (Upto n) h = refl
-      by (Refused n p) h = absurd (let z : _≡_ {A = ℕ} 1 0 = h in omega arith)
+      by (Refused n p) h = not-second h
 
 module _ (s : C.Scope) (d : C.Due) (program : List ℕ) (at to parent : ℕ) where
   abbrev pub operandMeant : Checked (Unit {0})
@@ -164,9 +163,13 @@ module _ (s : C.Scope) (d : C.Due) (program : List ℕ) (at to parent : ℕ) whe
     unfolding readOperand choose
     operand-element e = sym (operand-is ∙ ap (λ (t : ℕ). checkOperand s d (readOperand (field at t (slice (at + 3) next program)))) e)
 
-    pub operand-other : (tag ≡ 48 → ⊥) → (tag ≡ 49 → ⊥) → refused 3 at ≡ operandMeant
+    pub operand-slice : tag ≡ 50 → checkOperand s d (readSlice at (slice (at + 3) next program)) ≡ operandMeant
+    unfolding readOperand choose
+    operand-slice e = sym (operand-is ∙ ap (λ (t : ℕ). checkOperand s d (readOperand (field at t (slice (at + 3) next program)))) e)
+
+    pub operand-other : (tag ≡ 48 → ⊥) → (tag ≡ 49 → ⊥) → (tag ≡ 50 → ⊥) → refused 3 at ≡ operandMeant
     unfolding readOperand choose checkOperand
-    operand-other x y = sym (operand-is ∙ rw (ne-eqb tag 48 x, ne-eqb tag 49 y))
+    operand-other x y z = sym (operand-is ∙ rw (ne-eqb tag 48 x, ne-eqb tag 49 y, ne-eqb tag 50 z))
 
 -- the second operand and the end, seen from where the first ends
 pub second-is : (s : C.Scope) (d : C.Due) (program : List ℕ) (at from to mid : ℕ) → PastField program from to mid →

@@ -13,11 +13,13 @@ use lib.ListN.{length, getD, drop, getElem?, set, length-set}
 use lib.Seq.{getD-set-same, getD-set-other}
 use borrow.Author.Tests.{eqb-true, eqb-false}
 use Rattle.language.specs.Tree.{Index, literal, variable, operation, badIndex}
+use Rattle.language.specs.Read.{Field, due, outerIndex}
 use Rattle.language.specs.Form.{variableForm}
-use Rattle.language.specs.Check.{good, _>>=_, _>>_, require, noLeftover, formOf, Kind, Signature}
+use Rattle.language.specs.Check.{good, _>>=_, _>>_, require, noLeftover, formOf, Kind, Signature, checkBounds}
 use Rattle.forms.specs.Flat.{Kept}
 use Rattle.forms.specs.Rows.{Rows, loopsOf}
 use Rattle.check_index.specs.Indexes.{scopeOf}
+use Rattle.check_index.specs.Bounds.{boundsDue}
 use Rattle.check_operand.specs.Tables.{kindAt, kindsAt, tabulated, scopeWith}
 use Rattle.language.specs.Check as C
 
@@ -86,6 +88,11 @@ same-forms s t (badIndex n p) e = refl
 pub scope-forms : (fs : List Signature) (ks : List Kind) (m n : ℕ) (l h : List (List ℤ)) (i : Index) → formOf (scopeOf (m + n)) i ≡ formOf (scopeWith fs ks m (loopsOf n l h)) i
 unfolding scopeOf
 scope-forms fs ks m n l h i = same-forms _ _ i (add-zero (m + n) ∙ ap (λ (k : ℕ). m + k) (sym (length-loops n l h)))
+
+pub bounds-same : (fs : List Signature) (ks : List Kind) (m n : ℕ) (l h : List (List ℤ)) (at : ℕ) (x : List Field) → boundsDue (scopeOf (m + n)) at x ≡ boundsDue (scopeWith fs ks m (loopsOf n l h)) at x
+unfolding checkBounds
+bounds-same fs ks m n l h at x =
+    (λ j. scope-forms fs ks m n l h (due outerIndex (badIndex 4 at) x) j >>= λ f. (scope-forms fs ks m n l h (due outerIndex (badIndex 4 at) (drop 1 x)) j >>= λ g. good (record { low = f; high = g })))
 
 pub rows-set : (fs : List (List ℤ)) (n i : ℕ) (l : List ℤ) → Rows fs n → Kept l → Rows (set fs i l) n
 rows-set fs n i l r k = record {

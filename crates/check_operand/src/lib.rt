@@ -7,16 +7,16 @@ ghost use lib.ListN.{length, replicate};
 ghost use lib.Seq.{slice};
 ghost use lib.IntN.{ℤ, pos};
 ghost use Rattle.language.specs.Tree.{badOperand};
-ghost use Rattle.language.specs.Read.{due, readOperand, readWhole, readElement};
+ghost use Rattle.language.specs.Read.{due, readOperand, readWhole, readElement, readSlice};
 ghost use Rattle.language.specs.Form.{Form, built, differenceOf, _thenBuild_};
-ghost use Rattle.language.specs.Check.{Kind, Signature, elementSize, mustShow, wire, wholeFits, checkWithin, checkOperand};
+ghost use Rattle.language.specs.Check.{Kind, Signature, elementSize, roomAfter, mustShow, wire, wholeFits, checkWithin, sliceSize, slicedSize, checkSlice, sliceFits, checkOperand};
 ghost use Rattle.language.specs.Limits.{allVariables};
 ghost use Rattle.fields.specs.Header.{fieldsAt};
 ghost use Rattle.forms.specs.Flat.{formNumbers, Kept, Short, widened, asForm, builtOf};
 ghost use Rattle.forms.specs.Rows.{Rows, loopsOf};
 ghost use Rattle.check_operand.specs.Tables.{kindIn, kindOfRow, sizeOfRow, TablesRight, scopeWith, scopeAt};
 ghost use Rattle.check_operand.specs.Operands.{checkedSize, wantedOf, SizeRight, oneWire, twoOperands};
-ghost use Rattle.check_index.specs.Answers.{checkedPart, EndsAt, Passes};
+ghost use Rattle.check_index.specs.Answers.{checkedPart, checkedForm, EndsAt, FormEndsAt, Passes};
 use check_index::Read;
 use fields::Header;
 use forms::FORM_NUMBERS;
@@ -82,6 +82,38 @@ pub fn must_show(
     }
 }
 
+// Shows that a register of a size goes on after the index f: size − 1 − f is 0 or more.
+fn room_after(
+    f: &Form,
+    size: &Size,
+    at: usize,
+    next: usize,
+    variables: usize,
+    loops: usize,
+    lows: &[Form],
+    highs: &[Form],
+) -> Read
+    requires { ⌜ Kept (now f) ⌝ }
+    requires { ⌜ Short (now size) ⌝ }
+    requires { ⌜ variables + loops ≤ allVariables ⌝ }
+    requires { ⌜ Rows (now lows) loops ⌝ }
+    requires { ⌜ Rows (now highs) loops ⌝ }
+    ensures { λ r. ⌜ ((fs : List Signature) (ks : List Kind) → checkedPart r ≡ mustShow at (scopeWith fs ks variables (loopsOf loops (now (lows .entry)) (now (highs .entry)))) (roomAfter (asForm (widened (now (size .entry)))) (asForm (now (f .entry))))) ⌝ }
+    ensures { λ r. ⌜ EndsAt next r ⌝ }
+{
+    let mut one = [0i64; FORM_NUMBERS];
+    forms::set_constant(&mut one, 1);
+    let mut room = [0i64; FORM_NUMBERS];
+    forms::load(&mut room, size);
+    if forms::subtract(&mut room, &one) {
+        if forms::subtract(&mut room, f) {
+            return must_show(&mut room, at, next, variables, loops, lows, highs);
+        }
+        return Read::Refused(11, at);
+    }
+    Read::Refused(11, at)
+}
+
 // Shows the index f to be within a size.
 fn within(
     f: &Form,
@@ -106,24 +138,66 @@ fn within(
     let Read::Upto(_) = r else {
         return r;
     };
-    let mut one = [0i64; FORM_NUMBERS];
-    forms::set_constant(&mut one, 1);
-    let mut room = [0i64; FORM_NUMBERS];
-    forms::load(&mut room, size);
-    if forms::subtract(&mut room, &one) {
-        if forms::subtract(&mut room, f) {
-            return must_show(&mut room, at, next, variables, loops, lows, highs);
-        }
-        return Read::Refused(11, at);
+    room_after(f, size, at, next, variables, loops, lows, highs)
+}
+
+// The size of the slice from `first` to `last`, which becomes last − first + 1; false where a number is out of range.
+fn slice_size(first: &Form, last: &mut Form) -> bool
+    requires { ⌜ Kept (now first) ⌝ }
+    requires { ⌜ Kept (now last) ⌝ }
+    ensures { λ r. ⌜ builtOf r (now (last .exit)) ≡ sliceSize (asForm (now (first .entry))) (asForm (now (last .entry))) ⌝ }
+    ensures { λ r. ⌜ (r ≡ true → Kept (now (last .exit))) ⌝ }
+{
+    if forms::subtract(last, first) {
+        let mut unit = [0i64; FORM_NUMBERS];
+        forms::set_constant(&mut unit, 1);
+        return forms::add(last, &unit);
+    }
+    false
+}
+
+// Shows the slice from `first` to `last` to be within a size; `last` becomes the slice's own size.
+fn slice_within(
+    first: &Form,
+    last: &mut Form,
+    size: &Size,
+    at: usize,
+    next: usize,
+    variables: usize,
+    loops: usize,
+    lows: &[Form],
+    highs: &[Form],
+) -> Read
+    requires { ⌜ Kept (now first) ⌝ }
+    requires { ⌜ Kept (now last) ⌝ }
+    requires { ⌜ Short (now size) ⌝ }
+    requires { ⌜ variables + loops ≤ allVariables ⌝ }
+    requires { ⌜ Rows (now lows) loops ⌝ }
+    requires { ⌜ Rows (now highs) loops ⌝ }
+    ensures { λ r. ⌜ ((fs : List Signature) (ks : List Kind) → checkedForm r (now (last .exit)) ≡ checkSlice at (scopeWith fs ks variables (loopsOf loops (now (lows .entry)) (now (highs .entry)))) (asForm (widened (now (size .entry)))) (asForm (now (first .entry))) (asForm (now (last .entry)))) ⌝ }
+    ensures { λ r. ⌜ FormEndsAt next r (now (last .exit)) ⌝ }
+{
+    let mut before = *first;
+    let r = must_show(&mut before, at, next, variables, loops, lows, highs);
+    let Read::Upto(_) = r else {
+        return r;
+    };
+    let t = room_after(last, size, at, next, variables, loops, lows, highs);
+    let Read::Upto(_) = t else {
+        return t;
+    };
+    if slice_size(first, last) {
+        let mut many = *last;
+        return must_show(&mut many, at, next, variables, loops, lows, highs);
     }
     Read::Refused(11, at)
 }
 
-// Shows a register's own size to be at least the size due.
+// Shows a register's own size, which is then of no use, to be at least the size due.
 fn large_enough(
     known: bool,
     size: &Form,
-    own: &Size,
+    own: &mut Form,
     at: usize,
     next: usize,
     variables: usize,
@@ -132,30 +206,28 @@ fn large_enough(
     highs: &[Form],
 ) -> Read
     requires { ⌜ (known ≡ true → Kept (now size)) ⌝ }
-    requires { ⌜ Short (now own) ⌝ }
+    requires { ⌜ Kept (now own) ⌝ }
     requires { ⌜ variables + loops ≤ allVariables ⌝ }
     requires { ⌜ Rows (now lows) loops ⌝ }
     requires { ⌜ Rows (now highs) loops ⌝ }
-    ensures { λ r. ⌜ ((fs : List Signature) (ks : List Kind) → checkedPart r ≡ mustShow at (scopeWith fs ks variables (loopsOf loops (now (lows .entry)) (now (highs .entry)))) (builtOf known (now (size .entry)) thenBuild differenceOf (asForm (widened (now (own .entry)))))) ⌝ }
+    ensures { λ r. ⌜ ((fs : List Signature) (ks : List Kind) → checkedPart r ≡ mustShow at (scopeWith fs ks variables (loopsOf loops (now (lows .entry)) (now (highs .entry)))) (builtOf known (now (size .entry)) thenBuild differenceOf (asForm (now (own .entry))))) ⌝ }
     ensures { λ r. ⌜ EndsAt next r ⌝ }
 {
     if known {
-        let mut room = [0i64; FORM_NUMBERS];
-        forms::load(&mut room, own);
-        if forms::subtract(&mut room, size) {
-            return must_show(&mut room, at, next, variables, loops, lows, highs);
+        if forms::subtract(own, size) {
+            return must_show(own, at, next, variables, loops, lows, highs);
         }
         return Read::Refused(11, at);
     }
     Read::Refused(11, at)
 }
 
-// Whether an operand of a kind and an own size, taken whole, is what is due.
+// Whether an operand of a kind and an own size, which is then of no use, is what is due.
 fn whole_fits(
     wanted: Wanted,
     size: &Form,
     kind: kinds::Kind,
-    own: &Size,
+    own: &mut Form,
     at: usize,
     next: usize,
     variables: usize,
@@ -164,11 +236,11 @@ fn whole_fits(
     highs: &[Form],
 ) -> Read
     requires { ⌜ SizeRight wanted (now size) ⌝ }
-    requires { ⌜ Short (now own) ⌝ }
+    requires { ⌜ Kept (now own) ⌝ }
     requires { ⌜ variables + loops ≤ allVariables ⌝ }
     requires { ⌜ Rows (now lows) loops ⌝ }
     requires { ⌜ Rows (now highs) loops ⌝ }
-    ensures { λ r. ⌜ ((fs : List Signature) (ks : List Kind) → checkedPart r ≡ wholeFits at (scopeWith fs ks variables (loopsOf loops (now (lows .entry)) (now (highs .entry)))) (wantedOf wanted (now (size .entry))) (kindIn kind (asForm (widened (now (own .entry)))))) ⌝ }
+    ensures { λ r. ⌜ ((fs : List Signature) (ks : List Kind) → checkedPart r ≡ wholeFits at (scopeWith fs ks variables (loopsOf loops (now (lows .entry)) (now (highs .entry)))) (wantedOf wanted (now (size .entry))) (kindIn kind (asForm (now (own .entry))))) ⌝ }
     ensures { λ r. ⌜ EndsAt next r ⌝ }
 {
     match wanted {
@@ -201,6 +273,21 @@ fn element_kind(wanted: Wanted, kind: kinds::Kind, at: usize, next: usize) -> Re
             _ => Read::Refused(9, at),
         },
         Wanted::Register(_) => Read::Refused(9, at),
+    }
+}
+
+// Whether a slice of an operand of a kind is what is due, for the field from `at` to `next`.
+fn slice_kind(wanted: Wanted, kind: kinds::Kind, at: usize, next: usize) -> Read
+    ensures { λ r. ⌜ ((f : Form) (l : List ℤ) → checkedSize r f ≡ slicedSize at (wantedOf wanted l) (kindIn kind f)) ⌝ }
+    ensures { λ r. ⌜ EndsAt next r ⌝ }
+{
+    match wanted {
+        Wanted::Wire => Read::Refused(9, at),
+        Wanted::Bit => Read::Refused(9, at),
+        Wanted::Register(_) => match kind {
+            kinds::Kind::Quantum => Read::Upto(next),
+            _ => Read::Refused(9, at),
+        },
     }
 }
 
@@ -237,12 +324,13 @@ fn whole(
     let row = s.first + n;
     let number = kinds[row];
     let kind = kind_by(number);
-    let own = size_by(number);
+    let mut own = [0i64; FORM_NUMBERS];
+    forms::load(&mut own, &sizes[size_by(number)]);
     whole_fits(
         wanted,
         size,
         kind,
-        &sizes[own],
+        &mut own,
         at,
         next,
         s.variables,
@@ -299,6 +387,111 @@ fn element(
     within(&f, &sizes[own], at, next, s.variables, s.loops, lows, highs)
 }
 
+// Whether the slice from `first` to `last` of an operand of a kind and an own size is what is due.
+fn slice_fits(
+    wanted: Wanted,
+    size: &Form,
+    kind: kinds::Kind,
+    own: &Size,
+    first: &Form,
+    last: &mut Form,
+    at: usize,
+    next: usize,
+    variables: usize,
+    loops: usize,
+    lows: &[Form],
+    highs: &[Form],
+) -> Read
+    requires { ⌜ SizeRight wanted (now size) ⌝ }
+    requires { ⌜ Short (now own) ⌝ }
+    requires { ⌜ Kept (now first) ⌝ }
+    requires { ⌜ Kept (now last) ⌝ }
+    requires { ⌜ variables + loops ≤ allVariables ⌝ }
+    requires { ⌜ Rows (now lows) loops ⌝ }
+    requires { ⌜ Rows (now highs) loops ⌝ }
+    ensures { λ r. ⌜ ((fs : List Signature) (ks : List Kind) → checkedPart r ≡ sliceFits at (scopeWith fs ks variables (loopsOf loops (now (lows .entry)) (now (highs .entry)))) (wantedOf wanted (now (size .entry))) (kindIn kind (asForm (widened (now (own .entry))))) (asForm (now (first .entry))) (asForm (now (last .entry)))) ⌝ }
+    ensures { λ r. ⌜ EndsAt next r ⌝ }
+{
+    let r = slice_kind(wanted, kind, at, next);
+    let Read::Upto(_) = r else {
+        return r;
+    };
+    let t = slice_within(first, last, own, at, next, variables, loops, lows, highs);
+    let Read::Upto(_) = t else {
+        return t;
+    };
+    whole_fits(
+        wanted,
+        size,
+        kinds::Kind::Quantum,
+        last,
+        at,
+        next,
+        variables,
+        loops,
+        lows,
+        highs,
+    )
+}
+
+// The slice at `at`, whose field ends at `next`.
+fn part(
+    program: &[u8],
+    at: usize,
+    next: usize,
+    wanted: Wanted,
+    size: &Form,
+    s: Visible,
+    kinds: &[u16],
+    sizes: &[Size],
+    lows: &[Form],
+    highs: &[Form],
+) -> Read
+    requires { ⌜ (at + 3 ≤ next) × (next ≤ length (now program)) ⌝ }
+    requires { ⌜ SizeRight wanted (now size) ⌝ }
+    requires { ⌜ TablesRight s (now kinds) (now sizes) (now lows) (now highs) ⌝ }
+    ensures { λ r. ⌜ ((fs : List Signature) → checkedPart r ≡ checkOperand (scopeAt fs s (now (kinds .entry)) (now (sizes .entry)) (now (lows .entry)) (now (highs .entry))) (wantedOf wanted (now (size .entry))) (readSlice at (slice (at + 3) next (now (program .entry))))) ⌝ }
+    ensures { λ r. ⌜ EndsAt next r ⌝ }
+{
+    let from = at + 3;
+    if next <= from {
+        return Read::Refused(4, at);
+    }
+    let n = fields::wide(program[from]);
+    if s.count <= n {
+        return Read::Refused(8, at);
+    }
+    let row = s.first + n;
+    let inner = at + 4;
+    let variables = s.variables + s.loops;
+    let mut first = [0i64; FORM_NUMBERS];
+    let mut last = [0i64; FORM_NUMBERS];
+    let r = check_index::two_indexes(program, inner, next, at, variables, &mut first, &mut last);
+    let Read::Upto(end) = r else {
+        return r;
+    };
+    if end < next {
+        return Read::Refused(4, at);
+    }
+    let number = kinds[row];
+    let kind = kind_by(number);
+    let own = size_by(number);
+    slice_fits(
+        wanted,
+        size,
+        kind,
+        &sizes[own],
+        &first,
+        &mut last,
+        at,
+        next,
+        s.variables,
+        s.loops,
+        lows,
+        highs,
+    )
+}
+
 // The operand that is due at `at` in the field at `parent` whose content ends at `to`.
 pub fn operand(
     program: &[u8],
@@ -336,6 +529,18 @@ pub fn operand(
                 highs,
             ),
             49 => element(
+                program,
+                at,
+                next,
+                wanted,
+                size,
+                s,
+                kinds,
+                sizes,
+                lows,
+                highs,
+            ),
+            50 => part(
                 program,
                 at,
                 next,

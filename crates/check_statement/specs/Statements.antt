@@ -1,35 +1,16 @@
 -- What the code's answers on statements stand for.
 use mathlib.Core.Path.{_≡_}
 use mathlib.Core.List.{List}
-use Prim.Native.Nat.{ℕ, _≤_}
-use lib.IntN.{ℤ}
-use lib.ListN.{drop}
-use Rattle.language.specs.Tree.{Statement, badIndex, reverse, badStatement, gateH}
-use Rattle.language.specs.Read.{Field, field, due, outerIndex, Reader, ofFields, gateOf, cxOf, phaseOf, cphaseOf, statementBy, statementsBy, forOf}
-use Rattle.language.specs.Form.{Loop}
-use Rattle.language.specs.Check.{Checked, good, refused, checkBounds, checkStatement, Declared}
+use Prim.Native.Nat.{ℕ}
+use Rattle.language.specs.Tree.{Statement, reverse, badStatement, gateH}
+use Rattle.language.specs.Read.{Field, field, Reader, ofFields, gateOf, cxOf, phaseOf, cphaseOf, statementBy, statementsBy, forOf}
+use Rattle.language.specs.Check.{Checked, good, refused, checkStatement, Declared}
 use Rattle.fields.specs.CallNumber.{callReader}
-use Rattle.forms.specs.Flat.{Kept, asForm}
 use Rattle.check_statement.specs.declared.StatementTag.{StatementTag}
 use Rattle.check_statement.specs.declared.StatementTag.the-variants.{Gate, Cx, Phase, Cphase, Call, Reverse, For, Other}
 use Rattle.check_index.specs.declared.Read.{Read}
 use Rattle.check_index.specs.declared.Read.the-variants.{Upto, Refused}
-use Rattle.check_index.specs.Answers.{Beyond}
 use Rattle.language.specs.Check as C
-
--- what the answer on a loop's bounds, with the two forms beside it, stands for
-unfoldable pub checkedBounds : Read → List ℤ → List ℤ → Checked Loop
-checkedBounds (Upto n) l h = good (record { low = asForm l; high = asForm h })
-checkedBounds (Refused n p) l h = refused n p
-
--- the bounds that are due first of the fields in the loop at p
-abbrev pub boundsDue : C.Scope → ℕ → List Field → Checked Loop
-boundsDue s p fs = checkBounds s (due outerIndex (badIndex 4 p) fs) (due outerIndex (badIndex 4 p) (drop 1 fs))
-
--- bounds that are right are the first two of the fields from `at` to `to`, and their forms are beside the answer
-abbrev pub BoundsPass : List ℕ → ℕ → ℕ → Read → List ℤ → List ℤ → Type 0
-BoundsPass program at to (Upto n) l h = Beyond program at to 2 n × Kept l × Kept h × (n ≤ to)
-BoundsPass program at to (Refused n p) l h = Unit {0}
 
 -- how the content of a statement is read, by what its tag says; the check asks the same of every gate
 abbrev pub statementReader : (Field → Statement) → (tag : ℕ) → StatementTag → Reader Statement

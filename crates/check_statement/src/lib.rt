@@ -7,12 +7,10 @@ ghost use lib.Seq.{slice};
 ghost use Rattle.language.specs.Tree.{badStatement};
 ghost use Rattle.language.specs.Read.{field, deepStatement, readStatement, statementsBy, forOf, readIf, readTop};
 ghost use Rattle.language.specs.Check.{checkStatement, checkStatements, Declared, topScope, checkTop};
-ghost use Rattle.language.specs.Limits.{allVariables};
 ghost use Rattle.fields.specs.Header.{fieldsAt};
-ghost use Rattle.check_index.specs.Indexes.{scopeOf};
 ghost use Rattle.check_index.specs.Answers.{checkedPart};
 ghost use Rattle.check_operand.specs.Tables.{TablesRight};
-ghost use Rattle.check_statement.specs.Statements.{StatementSays, checkedBounds, boundsDue, BoundsPass, checkedDeclared};
+ghost use Rattle.check_statement.specs.Statements.{StatementSays, checkedDeclared};
 ghost use Rattle.check_call.specs.Calls.{FamiliesRight, scopeFull};
 use check_call::FamilyRow;
 use check_call::call;
@@ -41,32 +39,6 @@ pub enum StatementTag {
     Reverse,
     For,
     Other,
-}
-
-// The low and the high form of the loop at `at`.
-fn loop_bounds(
-    program: &[u8],
-    at: usize,
-    next: usize,
-    variables: usize,
-    low: &mut Form,
-    high: &mut Form,
-) -> Read
-    requires { ⌜ (at + 3 ≤ next) × (next ≤ length (now program)) ⌝ }
-    requires { ⌜ variables ≤ allVariables ⌝ }
-    ensures { λ r. ⌜ checkedBounds r (now (low .exit)) (now (high .exit)) ≡ boundsDue (scopeOf variables) at (fieldsAt (now (program .entry)) (at + 3) next) ⌝ }
-    ensures { λ r. ⌜ BoundsPass (now (program .entry)) (at + 3) next r (now (low .exit)) (now (high .exit)) ⌝ }
-{
-    let from = at + 3;
-    let r = check_index::index(program, from, next, at, DEEPEST, variables, low);
-    let Read::Upto(mid) = r else {
-        return r;
-    };
-    let t = check_index::index(program, mid, next, at, DEEPEST, variables, high);
-    let Read::Upto(end) = t else {
-        return t;
-    };
-    Read::Upto(end)
 }
 
 fn statement_tag(tag: u8) -> StatementTag
@@ -251,7 +223,8 @@ fn repeated(
     let variables = s.variables + n;
     let mut low = [0i64; FORM_NUMBERS];
     let mut high = [0i64; FORM_NUMBERS];
-    let r = loop_bounds(program, at, next, variables, &mut low, &mut high);
+    let inside = at + 3;
+    let r = check_index::two_indexes(program, inside, next, at, variables, &mut low, &mut high);
     let Read::Upto(from) = r else {
         return r;
     };

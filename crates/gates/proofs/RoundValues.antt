@@ -16,8 +16,9 @@ use Rattle.language.specs.Form.{inRange}
 use Rattle.language.specs.Machine.{roundsOf, startOf, stepOf}
 use Rattle.language.proofs.Integers.{integers, eq-by, minus, plus, next, last, fits, up, dn}
 use Rattle.gates.specs.declared.Mode.{Mode}
-use Rattle.gates.specs.declared.Bounds.the-variants.{Are}
-use Rattle.gates.specs.Gates.{directionOf, Body, Bodied, Bounded, Rounds, turnOf, mostRounds, deeperOf, innerOf}
+use Rattle.indexes.specs.Bounds.{Behind}
+use Rattle.indexes.proofs.TwoBounds.{bounds-behind}
+use Rattle.gates.specs.Gates.{directionOf, Rounds, turnOf, mostRounds, deeperOf, innerOf}
 
 -- ---- how many
 pub tally-none : (x y : ℤ) → ltZ y x ≡ true → 0 ≡ roundsOf (y -ℤ x)
@@ -96,27 +97,23 @@ unfolding directionOf startOf
 start-between true x y a b = b
 start-between false x y a b = a
 
-pub bounded-body : {l : List ℕ} {from to : ℕ} {values : List ℤ} {x y : ℤ} {at : ℕ} → Bounded l from to values (Are x y at) → Body l from to x y at
-unfolding Bodied
-bounded-body b = b .body
-
 -- what a for's rounds are like
 module _ {l : List ℕ} {from to : ℕ} {values : List ℤ} {reversed : Bool} {start : ℤ} {total at : ℕ} (r : Rounds l from to values reversed start total at) where
-  pub rounds-body : Body l from to (r .x) (r .y) at
-  rounds-body = bounded-body (r .bounded)
+  pub rounds-behind : Behind l from to (r .x) (r .y) at
+  rounds-behind = bounds-behind (r .bounded)
 
   pub rounds-few : total ≤ mostRounds
   rounds-few =
-      let a = rounds-body .low in
-      let b = rounds-body .high in
+      let a = rounds-behind .low in
+      let b = rounds-behind .high in
       let h = few (r .y -ℤ r .x) (omega (integers, minus (r .y) (r .x))) in
       omega (arith, r .often)
 
   pub rounds-start : inRange start ≡ true
-  rounds-start = ap inRange (r .first) ∙ start-between reversed (r .x) (r .y) (rounds-body .low) (rounds-body .high)
+  rounds-start = ap inRange (r .first) ∙ start-between reversed (r .x) (r .y) (rounds-behind .low) (rounds-behind .high)
 
   pub rounds-turn : (i : ℕ) → i < total → inRange (turnOf reversed start i) ≡ true
-  rounds-turn i h = ap (λ (z : ℤ). inRange (turnOf reversed z i)) (r .first) ∙ turn-between reversed (r .x) (r .y) i (rounds-body .low) (rounds-body .high) (omega (arith, r .often))
+  rounds-turn i h = ap (λ (z : ℤ). inRange (turnOf reversed z i)) (r .first) ∙ turn-between reversed (r .x) (r .y) i (rounds-behind .low) (rounds-behind .high) (omega (arith, r .often))
 
 -- ---- the code's numbers
 

@@ -5,16 +5,14 @@ use mathlib.Core.List.{List}
 use mathlib.Core.Bool.{Bool, true, false, cond, not, _&&_}
 use lib.Dec.{eqb}
 use lib.IntN.{ℤ, pos, _+ℤ_, _-ℤ_}
-use lib.ListN.{length, drop}
-use lib.Seq.{slice}
+use lib.ListN.{length}
 use Rattle.language.specs.Limits.{deepest, furthest}
-use Rattle.language.specs.Tree.{Place, Gate, gateH, gateT, gateTdg, badIndex}
-use Rattle.language.specs.Form.{inRange}
-use Rattle.language.specs.Read.{Field, fields, due, operandDue, outerIndex}
-use Rattle.language.specs.Machine.{Run, Frame, Direction, forward, backward, Action, written, endAt, noMeaning, _>>=_, _>>_, wireOf, apart, fewHalvings, write, startOf, roundsOf, runGate, runCx, runBounds}
+use Rattle.language.specs.Tree.{Place, Gate, gateH, gateT, gateTdg}
+use Rattle.language.specs.Read.{Field, fields, operandDue}
+use Rattle.language.specs.Machine.{Run, Frame, Direction, forward, backward, Action, written, _>>=_, _>>_, wireOf, apart, fewHalvings, write, startOf, roundsOf, runGate, runCx}
 use Rattle.language.specs.Machine as machine
-use Rattle.indexes.specs.declared.Value.{Value}
-use Rattle.indexes.specs.declared.Value.the-variants.{Is, Over as vOver, Stuck as vStuck}
+use Rattle.indexes.specs.Bounds.{Bounded}
+use Rattle.indexes.specs.declared.Bounds.the-variants.{Are, Over, Stuck}
 use Rattle.language.specs.Result.{op}
 use Rattle.fields.specs.declared.Named.{Named}
 use Rattle.fields.specs.declared.Named.the-variants.{Family, Bad}
@@ -28,8 +26,6 @@ use Rattle.records.specs.declared.State.{State}
 use Rattle.records.specs.declared.Answer.{Answer}
 use Rattle.records.specs.declared.Answer.the-variants.{Going, Ended, Stuck as aStuck}
 use Rattle.gates.specs.declared.Mode.{Mode}
-use Rattle.gates.specs.declared.Bounds.{Bounds}
-use Rattle.gates.specs.declared.Bounds.the-variants.{Are, Over, Stuck}
 use Rattle.gates.specs.declared.Repeats.{Repeats}
 use Rattle.gates.specs.declared.Repeats.the-variants.{Are as Times, Over as rOver, Stuck as rStuck}
 
@@ -83,36 +79,6 @@ gateAt mode room tag p l f = runGate (mode .limit) room p (gateFor tag) (operand
 
 abbrev pub cxAt : Mode → (room : ℕ) → Place → List ℕ → Frame → Run (Unit {0})
 cxAt mode room p l f = runCx (mode .limit) room p (operandDue p 0 (fields (p + 3) l)) (operandDue p 1 (fields (p + 3) l)) f
-
--- why a loop has no bounds
-unfoldable pub boundOf : Value → Bounds
-boundOf (Is z) = Stuck
-boundOf vOver = Over
-boundOf vStuck = Stuck
-
--- a loop's bounds, and what is done with them
-unfoldable pub bounding : Place → Bounds → (ℤ → ℤ → Run (Unit {0})) → Run (Unit {0})
-bounding p (Are x y at) k = k x y
-bounding p Over k = endAt 24 p
-bounding p Stuck k = noMeaning
-
--- the body begins at `at`, in the content from `from` to `to`
-pub record Body (l : List ℕ) (from to : ℕ) (x y : ℤ) (at : ℕ) : Type 0 where
-  pub low : inRange x ≡ true
-  pub high : inRange y ≡ true
-  pub within : at ≤ to
-  pub past : from + 6 ≤ at
-  pub rest : (q : Place) → drop 2 (fields q (slice from to l)) ≡ fields (q + (at - from)) (slice at to l)
-
-unfoldable pub Bodied : List ℕ → (from to : ℕ) → Bounds → Type 0
-Bodied l from to (Are x y at) = Body l from to x y at
-Bodied l from to Over = Unit {0}
-Bodied l from to Stuck = Unit {0}
-
-pub record Bounded (l : List ℕ) (from to : ℕ) (values : List ℤ) (r : Bounds) : Type 0 where
-  pub body : Bodied l from to r
-  pub same : (p q t : Place) (k : ℤ → ℤ → Run (Unit {0})) → bounding p r k ≡
-      runBounds p values (due outerIndex (badIndex 4 q) (fields t (slice from to l))) (due outerIndex (badIndex 4 q) (drop 1 (fields t (slice from to l)))) k
 
 -- the most rounds that a loop has
 abbrev pub mostRounds : ℕ

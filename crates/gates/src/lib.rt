@@ -9,11 +9,11 @@ ghost use Rattle.language.specs.Limits.{longestProgram};
 ghost use Rattle.language.specs.Machine.{roundsOf, startOf};
 ghost use Rattle.language.specs.Form.{inRange};
 ghost use Rattle.indexes.specs.Values.{mostValues};
-ghost use Rattle.gates.specs.Gates.{codeOf, frameIn, directionOf, boundOf, Bounded, mostRounds, Repeated, turnOf, namelessOf, Entered, noWireOf, OnWires, deeperOf, innerOf, enteredOf};
+ghost use Rattle.gates.specs.Gates.{codeOf, frameIn, directionOf, mostRounds, Repeated, turnOf, namelessOf, Entered, noWireOf, OnWires, deeperOf, innerOf, enteredOf};
 use fields::Header;
 use fields::Named;
+use indexes::Bounds;
 use indexes::VALUES;
-use indexes::Value;
 use limits::DEEPEST;
 use operands::REGISTER_NUMBERS;
 use operands::Scope;
@@ -110,46 +110,6 @@ pub fn on_wires(
     records::write_record(out, st, place, op, x.0, y.0, k, c)
 }
 
-// A loop's bounds, and where its body begins.
-pub enum Bounds {
-    Are(i64, i64, usize),
-    Over,
-    Stuck,
-}
-
-fn bound(v: Value) -> Bounds
-    ensures { λ r. ⌜ r ≡ boundOf v ⌝ }
-{
-    match v {
-        Value::Is(z) => Bounds::Stuck,
-        Value::Over => Bounds::Over,
-        Value::Stuck => Bounds::Stuck,
-    }
-}
-
-// The bounds of the for whose content is from `from` to `to`.
-fn bounds_of(bytes: &[u8], from: usize, to: usize, vars: &[i32; VALUES], many: usize) -> Bounds
-    requires { ⌜ to ≤ length (now bytes) ⌝ }
-    requires { ⌜ many ≤ mostValues ⌝ }
-    ensures { λ r. ⌜ Bounded (now (bytes .entry)) from to (take many (now (vars .entry))) r ⌝ }
-{
-    let low = indexes::index_at(bytes, from, to, vars, many);
-    let Value::Is(x) = low else {
-        return bound(low);
-    };
-    let Header::Whole(_, mid) = fields::header_at(bytes, from, to) else {
-        return Bounds::Stuck;
-    };
-    let high = indexes::index_at(bytes, mid, to, vars, many);
-    let Value::Is(y) = high else {
-        return bound(high);
-    };
-    let Header::Whole(_, body) = fields::header_at(bytes, mid, to) else {
-        return Bounds::Stuck;
-    };
-    Bounds::Are(x, y, body)
-}
-
 // The number of a loop's rounds.
 fn tally(x: i64, y: i64) -> usize
     requires { ⌜ (inRange x ≡ true) × (inRange y ≡ true) ⌝ }
@@ -196,7 +156,7 @@ pub fn repeats_of(
     if tag == 37 {
         return Repeats::Are(0, 1, from);
     }
-    match bounds_of(bytes, from, to, vars, many) {
+    match indexes::bounds_of(bytes, from, to, vars, many) {
         Bounds::Over => Repeats::Over,
         Bounds::Stuck => Repeats::Stuck,
         Bounds::Are(x, y, at) => {

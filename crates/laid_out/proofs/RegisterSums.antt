@@ -109,7 +109,7 @@ module _ (l : List ℕ) where
 
     module _ (tag next : ℕ) (e : look l at ≡ Whole tag next) where
       -- a field that adds so many
-      added : (q b : ℕ) → q < locations → b < locations → Adds q b (readTop (field at tag (slice (at + 3) next l))) → Summed l next (qubits + q) (bits + b)
+      added : (q b : ℕ) → q ≤ locations → b ≤ locations → Adds q b (readTop (field at tag (slice (at + 3) next l))) → Summed l next (qubits + q) (bits + b)
       unfolding qubitsIn bitsIn
       added q b f g a =
           let w = when-whole l at (length l) tag next (omega arith) e in
@@ -126,7 +126,7 @@ module _ (l : List ℕ) where
       summed-other h k = simp add-zero at (added 0 0 (omega arith) (omega arith) (other-adds tag h k at (slice (at + 3) next l)))
 
       -- a register, whose size is n
-      module _ (n : ℕ) (r : (n ≡ sizeSaid (registerSize (slice (at + 3) next l))) × (n < locations)) where
+      module _ (n : ℕ) (r : (n ≡ sizeSaid (registerSize (slice (at + 3) next l))) × (n ≤ locations)) where
         pub summed-qreg : tag ≡ 2 → Summed l next (qubits + n) bits
         summed-qreg h = rw add-zero at (added n 0 (r .1) (omega arith) (rw (h, r .0) (qreg-adds at (slice (at + 3) next l))))
 

@@ -28,9 +28,6 @@ const QREG: u8 = 2;
 
 const CREG: u8 = 3;
 
-// Locations that a number of two bytes can tell apart.
-const LOCATIONS: usize = 65_536;
-
 // All qubits and all bits that a program declares.
 pub struct Locations {
     pub qubits: usize,
@@ -40,7 +37,7 @@ pub struct Locations {
 // The size in a register's content, which is from `from` to `to`; 0 where it has none.
 fn register_size(program: &[u8], from: usize, to: usize) -> usize
     requires { ⌜ (from ≤ to) × (to ≤ length (now program)) ⌝ }
-    ensures { λ r. ⌜ (r ≡ sizeSaid (registerSize (slice from to (now (program .entry))))) × (r < locations) ⌝ }
+    ensures { λ r. ⌜ (r ≡ sizeSaid (registerSize (slice from to (now (program .entry))))) × (r ≤ locations) ⌝ }
 {
     if to - from < 2 {
         return 0;
@@ -81,14 +78,7 @@ fn wires_of(operand: Operand) -> usize
 {
     match operand {
         Operand::Single(_) => 1,
-        Operand::Register { first, size } => {
-            let room = LOCATIONS - fields::long(first.0);
-            let n = fields::long(size);
-            if room < n {
-                return room;
-            }
-            n
-        }
+        Operand::Register { first, size } => operands::room_of(first.0, size),
     }
 }
 

@@ -9,7 +9,7 @@ use native.Mathlib.Omega.{arith}
 use lib.Dec.{ltb, eqb}
 use lib.ListN.{length, getElem?}
 use Rattle.language.specs.Form.{inRange}
-use Rattle.language.specs.Tree.{Place, number, missing, Index, literal, variable, operation, badIndex, Operand, whole, element, badOperand, ParameterType, qbit, qbits, badType, Argument, index, operand, badArgument}
+use Rattle.language.specs.Tree.{Place, number, missing, Index, literal, variable, operation, badIndex, Operand, whole, element, slice, badOperand, ParameterType, qbit, qbits, badType, Argument, index, operand, badArgument}
 use Rattle.language.specs.Tree.{Statement, Statements, gate, cx, phase, cphase, call, reverse, for, badStatement, nil, cons, Top, family, qreg, creg, measure, reset, if, statement, badTop}
 use Rattle.language.specs.Machine as M
 use Rattle.language.specs.Machine.{Wire, Meaning, aWire, aBit, wires, bits, Direction, forward, backward, Frame, State, Outcome, going, ended, stuck, Run, after, done, give, Family, Globals}
@@ -152,10 +152,19 @@ through-element (wires first n) (negsuc i) = through-nothing
 through-element (bits first n) (pos i) = through-cond (ltb i n) (through-give _) through-nothing
 through-element (bits first n) (negsuc i) = through-nothing
 
+through-slice : (m : Meaning) (x y : ℤ) → Passes (λ l r. M.sliceAt m x y)
+unfolding M.sliceAt
+through-slice (aWire w) x y = through-nothing
+through-slice (aBit b) x y = through-nothing
+through-slice (wires first n) x y = through-bind (through-natural x) λ a. through-bind (through-natural _) λ b. through-bind (through-natural _) λ c. through-give _
+through-slice (bits first n) x y = through-nothing
+
 through-operand : (p : Place) (f : Frame) (o : Operand) → Passes (λ l r. M.meaningOf p f o)
-unfolding M.meaningOf
+unfolding M.meaningOf M.runBounds
 through-operand p f (whole q n e) = through-found (getElem? (f .operands) n)
 through-operand p f (element q n i e) = through-bind (through-found (getElem? (f .operands) n)) λ m. through-bind (through-index p (f .variables) i) λ z. through-element m z
+through-operand p f (slice q n i j e) =
+    through-bind (through-found (getElem? (f .operands) n)) λ m. through-bind (through-index p (f .variables) i) λ x. through-bind (through-index p (f .variables) j) λ y. through-slice m x y
 through-operand p f (badOperand n q) = through-nothing
 
 through-as-wire : (m : Meaning) → Passes (λ l r. M.asWire m)

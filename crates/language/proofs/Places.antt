@@ -10,7 +10,7 @@ use lib.Dec.{leb, ltb, eqb}
 use lib.ListN.{length, getElem?}
 use Rattle.language.specs.Limits.{mostWires, recordSize, mostHalvings}
 use Rattle.language.specs.Form.{inRange}
-use Rattle.language.specs.Tree.{Place, number, missing, Index, literal, variable, operation, badIndex, Operand, whole, element, badOperand, ParameterType, qbit, qbits, badType, Argument, index, operand, badArgument}
+use Rattle.language.specs.Tree.{Place, number, missing, Index, literal, variable, operation, badIndex, Operand, whole, element, slice, badOperand, ParameterType, qbit, qbits, badType, Argument, index, operand, badArgument}
 use Rattle.language.specs.Tree.{Statement, Statements, gate, cx, phase, cphase, call, reverse, for, badStatement, nil, cons, Top, family, qreg, creg, measure, reset, if, statement, badTop}
 use Rattle.language.specs.Read.{read}
 use Rattle.language.specs.Machine as M
@@ -97,10 +97,19 @@ module _ (size : ℕ) where
   ends-element (bits first n) (pos i) = ends-cond (ltb i n) (ends-give _) ends-nothing
   ends-element (bits first n) (negsuc i) = ends-nothing
 
+  ends-slice : (m : Meaning) (x y : ℤ) → EndsWithin (M.sliceAt m x y)
+  unfolding M.sliceAt
+  ends-slice (aWire w) x y = ends-nothing
+  ends-slice (aBit b) x y = ends-nothing
+  ends-slice (wires first n) x y = ends-bind (ends-natural x) λ a. ends-bind (ends-natural _) λ b. ends-bind (ends-natural _) λ c. ends-give _
+  ends-slice (bits first n) x y = ends-nothing
+
   ends-operand : (p : Place) (f : Frame) (o : Operand) → p ≤ size → EndsWithin (M.meaningOf p f o)
-  unfolding M.meaningOf
+  unfolding M.meaningOf M.runBounds
   ends-operand p f (whole q n e) h = ends-found (getElem? (f .operands) n)
   ends-operand p f (element q n i e) h = ends-bind (ends-found (getElem? (f .operands) n)) λ m. ends-bind (ends-index p (f .variables) i h) λ z. ends-element m z
+  ends-operand p f (slice q n i j e) h =
+      ends-bind (ends-found (getElem? (f .operands) n)) λ m. ends-bind (ends-index p (f .variables) i h) λ x. ends-bind (ends-index p (f .variables) j h) λ y. ends-slice m x y
   ends-operand p f (badOperand n q) h = ends-nothing
 
   ends-as-wire : (m : Meaning) → EndsWithin (M.asWire m)

@@ -19,11 +19,13 @@ use Rattle.language.specs.Machine.{State, Outcome, found, Family, begin,
 use Rattle.language.specs.Result.{Answer, Conclusion, finished, gotStuck, outputBytes, writtenInto, resultOf, untouched, conclusionOf, checkProgram, verdict, checkResult, ifAccepted, runOutcome, fourBytes, allSizesFit, instanceOf, instanceOutcome}
 use Rattle.language.specs.Lookup.{Declaration, familyIn, meaning}
 use Rattle.language.specs.Sound.{qubitsDeclared, bitsDeclared, wiresLaid, wiresOf, wiresLaidOut, EndsWith, Sound, Finishes, Suits}
+use Rattle.language.specs.Inside.{registersIn, meaningsLaid}
 use Rattle.language.specs.Theorem.{Reports, RunTheorem, instanceAt}
 use Rattle.language.proofs.FormLaws.{Naturals}
 use Rattle.language.proofs.FormLaws as L
 use Rattle.language.proofs.Safe.{World, lastEnd, Held, Safe, goes, ends, Any, then-both}
 use Rattle.language.proofs.Accepted.{program-counts}
+use Rattle.language.proofs.Inside.{lie-all}
 use Rattle.language.proofs.Tops.{program-safe, instance-safe, layout-few}
 use Rattle.language.proofs.Instances.{declared-family, family-found, family-missing}
 use Rattle.language.proofs.Refusals.{accepted}
@@ -165,8 +167,8 @@ run-checked : (program : List ℕ) (limit : ℕ) (output : List ℕ) (d : Declar
     → Reports 24 limit (qubitsDeclared program) (bitsDeclared program) output (runProgram limit (length output) (read program)) (runOutcome program limit output)
 unfolding runOutcome ifAccepted
 run-checked program limit output d e =
-    let W : World = record { limit = limit; room = length output; wires = qubitsDeclared program; bits = bitsDeclared program; least = 24; most = lastEnd; early = omega arith; late = omega arith } in
-    rw e (safe-reports W output (runProgram limit (length output) (read program)) (omega arith) refl (omega (arith, program-counts (read program) d (checked program d e))) (program-safe W (omega arith) (read program) d (checked program d e) (omega arith) (omega arith)))
+    let W : World = record { limit = limit; room = length output; wires = qubitsDeclared program; bits = bitsDeclared program; registers = registersIn 0 (read program); least = 24; most = lastEnd; early = omega arith; late = omega arith } in
+    rw e (safe-reports W output (runProgram limit (length output) (read program)) (omega arith) refl (omega (arith, program-counts (read program) d (checked program d e))) (program-safe W (omega arith) (read program) d (checked program d e) (omega arith) (omega arith) (lie-all (registersIn 0 (read program)))))
 
 -- ---- instances
 
@@ -196,9 +198,9 @@ module _ (program : List ℕ) (n : ℕ) (sizes : List ℕ) (limit : ℕ) (output
       → Reports 23 limit (wiresLaidOut program n sizes) 0 output (runInstance f (map pos (fourBytes sizes))) (conclusionOf output (runInstance f (map pos (fourBytes sizes))))
   unfolding wiresOf
   machine-reports D f i g v t c =
-      let W : World = record { limit = limit; room = length output; wires = wiresLaidOut program n sizes; bits = 0; least = 23; most = lastEnd; early = omega arith; late = omega arith } in
+      let W : World = record { limit = limit; room = length output; wires = wiresLaidOut program n sizes; bits = 0; registers = meaningsLaid (layout (map pos (fourBytes sizes)) 0 (f .types) begin); least = 23; most = lastEnd; early = omega arith; late = omega arith } in
       let q : wiresLaid (layout (map pos (fourBytes sizes)) 0 (f .types) begin) ≤ wiresLaidOut program n sizes = rw (i, t) (omega arith) in
-      safe-reports W output (runInstance f (map pos (fourBytes sizes))) (omega arith) refl few-laid (instance-safe W (omega arith) (read program) d n f (map pos (fourBytes sizes)) e g (sizes-natural (f .variables) sizes c) q (omega arith))
+      safe-reports W output (runInstance f (map pos (fourBytes sizes))) (omega arith) refl few-laid (instance-safe W (omega arith) (read program) d n f (map pos (fourBytes sizes)) e g (sizes-natural (f .variables) sizes c) q (lie-all (meaningsLaid (layout (map pos (fourBytes sizes)) 0 (f .types) begin))) (omega arith))
 
   -- at sizes that suit, the machine runs
   suited-reports : Suits program n sizes

@@ -7,7 +7,7 @@ use native.Mathlib.Omega.{arith}
 use lib.Dec.{leb}
 use lib.ListN.{length, take, drop, length-take}
 use Rattle.language.specs.Limits.{deepest}
-use Rattle.language.specs.Tree.{Place, Ending, Number, Operation, sum, difference, product, Index, literal, variable, operation, badIndex, Operand, whole, element, badOperand}
+use Rattle.language.specs.Tree.{Place, Ending, Number, Operation, sum, difference, product, Index, literal, variable, operation, badIndex, Operand, whole, element, slice, badOperand}
 use Rattle.language.specs.Tree.{ParameterType, qbit, qbits, badType, Argument, index, operand, badArgument, Gate, gateH, gateT, gateTdg, Statement, Statements, gate, cx, phase, cphase, call, reverse, for, badStatement, nil, cons}
 use Rattle.language.specs.Tree.{Top, family, qreg, creg, measure, reset, if, statement, badTop}
 use Rattle.language.specs.Read
@@ -67,6 +67,7 @@ module _ (size : ℕ) where
   abbrev pub FairOperand : Operand → Type 0
   FairOperand (whole p n e) = p ≤ size
   FairOperand (element p n i e) = (p ≤ size) × FairIndex i
+  FairOperand (slice p n i j e) = (p ≤ size) × FairIndex i × FairIndex j
   FairOperand (badOperand n p) = Listed size n p
 
   abbrev pub FairType : ParameterType → Type 0
@@ -169,10 +170,15 @@ module _ (size : ℕ) where
   element-fair p [] k = omega arith
   element-fair p (n ∷ rest) k = (omega arith, index-due-fair outerIndex (index-fair deepest) p 0 (p + 4) rest (omega arith) (omega arith))
 
+  slice-fair : Fair FairOperand Read.readSlice
+  unfolding Fair Read.readSlice Read.sliceOf
+  slice-fair p [] k = omega arith
+  slice-fair p (n ∷ rest) k = (omega arith, index-due-fair outerIndex (index-fair deepest) p 0 (p + 4) rest (omega arith) (omega arith), index-due-fair outerIndex (index-fair deepest) p 1 (p + 4) rest (omega arith) (omega arith))
+
   operand-fair : FairPart FairOperand readOperand
   unfolding readOperand AllRows Fair FairPart
   operand-fair (badHeader p) k = omega arith
-  operand-fair (field p tag content) k = choose-all (Fair FairOperand) tag _ _ (whole-fair, (element-fair, tt)) (λ q rest j. omega arith) p content k
+  operand-fair (field p tag content) k = choose-all (Fair FairOperand) tag _ _ (whole-fair, (element-fair, (slice-fair, tt))) (λ q rest j. omega arith) p content k
 
   type-fair : FairPart FairType readType
   unfolding readType AllRows Fair Read.readQbit Read.qbitsOf FairPart

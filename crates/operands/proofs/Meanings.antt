@@ -12,11 +12,11 @@ use borrow.Author.Tests.{lt-ltb, le-ltb}
 use lib.ListN.{length, getD, getElem?, take, length-take}
 use lib.Seq.{getD-take}
 use lib.Dec.{ltb, T}
-use lib.IntN.{ℤ, pos, negsuc, natAbs}
+use lib.IntN.{ℤ, pos, negsuc, natAbs, _+ℤ_, _-ℤ_}
 use lib.Signed.{ltZ, nonNeg}
 use mir.Syntax.{w64}
 use mir.Val.{Fits}
-use Rattle.language.proofs.Integers.{integers, range-true}
+use Rattle.language.proofs.Integers.{integers, range-true, plus, minus, _≼_, ≼-pos}
 use Rattle.language.specs.Form.{inRange}
 use Rattle.kinds.specs.declared.Kind.{Kind}
 use Rattle.kinds.specs.declared.Kind.the-variants.{Qubit, Quantum, Classical}
@@ -25,7 +25,7 @@ use Rattle.kinds.proofs.Kind.{the-type as kind-type}
 use Rattle.operands.specs.declared.Wire.{Wire}
 use Rattle.operands.specs.declared.Bit.{Bit}
 use Rattle.language.specs.Tree.{Place}
-use Rattle.language.specs.Machine.{Meaning, aWire, aBit, wires, bits, give, noMeaning, found, elementAt}
+use Rattle.language.specs.Machine.{Meaning, aWire, aBit, wires, bits, Run, give, noMeaning, found, naturalOf, _>>=_, after, elementAt, sliceAt}
 use Rattle.operands.specs.declared.Operand.{Operand}
 use Rattle.operands.specs.declared.Operand.the-variants.{Single, Register}
 use Rattle.operands.specs.declared.Parameter.{Parameter}
@@ -107,9 +107,9 @@ pub location-past : (first size i : ℕ) → size ≤ i → Nowhere ≡ location
 unfolding locationIn
 location-past first size i h = simp (le-ltb i (clipped first size) (omega arith))
 
-pub location-high : (first size i : ℕ) → locations ≤ first + i → first < locations → Nowhere ≡ locationIn first size i
+pub location-high : (first size i : ℕ) → locations ≤ first + i → Nowhere ≡ locationIn first size i
 unfolding locationIn
-location-high first size i h k = simp (le-ltb i (clipped first size) (omega arith))
+location-high first size i h = simp (le-ltb i (clipped first size) (omega arith))
 
 pub location-at : (first size i : ℕ) → i < size → first + i < locations → At (first + i) ≡ locationIn first size i
 unfolding locationIn
@@ -173,3 +173,59 @@ pub indexed-natural : (f size : ℕ) (z : ℤ) (i : ℕ) → ltZ z (pos 0) ≡ f
 unfolding locationOf
 indexed-natural f size (pos n) i h e = ap (locationIn f size) e
 indexed-natural f size (negsuc n) i h e = absurd (omega integers)
+
+-- ---- slices
+
+-- past the last of a slice, which is not before its first
+pub past-is : (x z : ℤ) → ltZ x (pos 0) ≡ false → ltZ z x ≡ false → z ≡ pos (natAbs z)
+past-is x (pos n) h k = refl
+past-is x (negsuc n) h k = absurd (omega integers)
+
+pub ordered : (x z : ℤ) → ltZ x (pos 0) ≡ false → ltZ z x ≡ false → natAbs x ≤ natAbs z
+ordered (pos m) (pos n) h k = omega integers
+ordered (pos m) (negsuc n) h k = absurd (omega integers)
+ordered (negsuc m) z h k = absurd (omega integers)
+
+pub past-fits : (x y z : ℤ) → z ≡ y +ℤ pos 1 → inRange y ≡ true → ltZ x (pos 0) ≡ false → ltZ z x ≡ false → T (nonNeg z) × Fits w64 (natAbs z)
+past-fits x y (pos n) e r h k = (tt, record { fits = omega (integers, e, range-true y r, plus y (pos 1)) })
+past-fits x y (negsuc n) e r h k = absurd (omega integers)
+
+-- what a slice leaves before it and after it, and its size: whatever it is
+module _ (f : ℕ) where
+  three : ℤ → ℤ → ℤ → Run Meaning
+  three u v w = naturalOf u >>= (λ a. naturalOf v >>= (λ b. naturalOf w >>= (λ n. give (wires (theWire (f + a)) n))))
+
+  three-none : (u v w : ℤ) → (pos 0 ≼ u → pos 0 ≼ v → pos 0 ≼ w → ⊥) → noMeaning ≡ three u v w
+  unfolding three naturalOf _>>=_ after
+  three-none (negsuc a) v w h = refl
+  three-none (pos a) (negsuc b) w h = refl
+  three-none (pos a) (pos b) (negsuc n) h = refl
+  three-none (pos a) (pos b) (pos n) h = absurd (h (≼-pos a) (≼-pos b) (≼-pos n))
+
+  three-some : (u v w : ℤ) (a b n : ℕ) → u ≡ pos a → v ≡ pos b → w ≡ pos n → give (wires (theWire (f + a)) n) ≡ three u v w
+  unfolding three naturalOf _>>=_ after
+  three-some u v w a b n d e g = rw (d, e, g) refl
+
+  -- the run of wires from x to y of c wires
+  module _ (c : ℕ) (x y : ℤ) where
+    abbrev cut : Run Meaning
+    cut = sliceAt (wires (theWire f) c) x y
+
+    pub run-low : ltZ x (pos 0) ≡ true → noMeaning ≡ cut
+    unfolding sliceAt three
+    run-low h = three-none x (pos c -ℤ pos 1 -ℤ y) (y -ℤ x +ℤ pos 1) (λ i j k. omega (integers, i, h))
+
+    pub run-short : ltZ (y +ℤ pos 1) x ≡ true → noMeaning ≡ cut
+    unfolding sliceAt three
+    run-short h = three-none x (pos c -ℤ pos 1 -ℤ y) (y -ℤ x +ℤ pos 1) (λ i j k. omega (integers, k, h, plus y (pos 1), minus y x, plus (y -ℤ x) (pos 1)))
+
+    module _ (to : ℕ) (e : y +ℤ pos 1 ≡ pos to) where
+      pub run-high : c < to → noMeaning ≡ cut
+      unfolding sliceAt three
+      run-high h = three-none x (pos c -ℤ pos 1 -ℤ y) (y -ℤ x +ℤ pos 1) (λ i j k. omega (integers, e, j, h, plus y (pos 1), minus (pos c) (pos 1), minus (pos c -ℤ pos 1) y))
+
+      pub run-at : (from : ℕ) → x ≡ pos from → from ≤ to → to ≤ c → give (wires (theWire (f + from)) (to - from)) ≡ cut
+      unfolding sliceAt three
+      run-at from d h k = three-some x (pos c -ℤ pos 1 -ℤ y) (y -ℤ x +ℤ pos 1) from (c - to) (to - from) d
+          (omega (integers, e, k, plus y (pos 1), minus (pos c) (pos 1), minus (pos c -ℤ pos 1) y))
+          (omega (integers, d, e, h, plus y (pos 1), minus y x, plus (y -ℤ x) (pos 1)))

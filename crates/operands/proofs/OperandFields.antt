@@ -4,23 +4,25 @@ use mathlib.Core.Path.{_≡_, refl, sym, ap, _∙_}
 use mathlib.Core.List.{List, [], _∷_}
 use mathlib.Core.Bool.{Bool, true, false, cond}
 use mathlib.Core.Option.{Option, none, some}
-use mathlib.Core.Logic.{⊎-elim}
 use native.Mathlib.Omega.{arith}
 use borrow.Author.Tests.{ne-eqb}
 use lib.ListN.{length, getD, getElem?, drop}
 use lib.Seq.{slice}
 use lib.Dec.{eqb}
 use lib.IntN.{ℤ}
-use types.Run.{OneOf}
+use types.Run.{OneOf, miss}
 use denote.Enum.Declared.{tagOf}
 use Rattle.language.specs.Limits.{deepest}
 use Rattle.language.specs.Tree.{Place, badIndex, badOperand, Operand}
-use Rattle.language.specs.Read.{field, fields, due, choose, readOperand, readWhole, readElement, elementOf, readIndex, Reader}
-use Rattle.language.specs.Machine.{Meaning, Run, stuck, begin, endAt, noMeaning, found, after, _>>=_, elementAt, meaningOf, evaluate, Direction, Condition, wireOf, asWire, bitOf, asBit}
+use Rattle.language.specs.Read.{field, fields, due, choose, readOperand, readWhole, readElement, elementOf, readSlice, sliceOf, outerIndex, readIndex, Reader}
+use Rattle.language.specs.Machine.{Meaning, Run, endAt, noMeaning, found, after, _>>=_, elementAt, sliceAt, runBounds, meaningOf, evaluate, Direction, Condition, wireOf, asWire, bitOf, asBit}
 use Rattle.indexes.specs.declared.Value.{Value}
 use Rattle.indexes.specs.declared.Value.the-variants.{Is, Over, Stuck}
 use Rattle.fields.specs.declared.Header.the-variants.{Whole, End, Cut}
 use Rattle.indexes.specs.Values.{valueTold, IndexAt}
+use Rattle.indexes.specs.Bounds.{bounding, Bounded}
+use Rattle.indexes.specs.declared.Bounds.the-variants.{Are, Over as bOver, Stuck as bStuck}
+use Rattle.indexes.proofs.TwoBounds.{bounds-run}
 use Rattle.fields.proofs.Header.{the-type}
 use Rattle.operands.proofs.OperandMeaning.{the-type as meaning-type}
 use Rattle.fields.proofs.Parts.{not-first}
@@ -32,7 +34,7 @@ use Rattle.operands.specs.declared.WireMeaning.{WireMeaning}
 use Rattle.operands.specs.declared.BitMeaning.{BitMeaning}
 use Rattle.operands.specs.declared.BitMeaning.the-variants as b
 use Rattle.operands.specs.declared.WireMeaning.the-variants as w
-use Rattle.operands.specs.Meanings.{meaningTold, OperandIs, ElementIs, FieldMeans, frameOf, wireTold, AsWire, WireAt, bitTold, AsBit, BitAt}
+use Rattle.operands.specs.Meanings.{meaningTold, OperandIs, ElementIs, SliceIs, OverIn, SliceMeans, FieldMeans, frameOf, wireTold, AsWire, WireAt, bitTold, AsBit, BitAt}
 
 -- a value, what it is for, and what follows
 elements : Run Meaning → Run ℤ → Run Meaning
@@ -43,32 +45,29 @@ unfolding elements found _>>=_ after
 found-stuck none = refl
 found-stuck (some m) = refl
 
-not-over : (p : Place) (x : OperandMeaning) → meaningTold p x ≡ noMeaning → (x ≡ s.Stuck → ⊥) → ⊥
-unfolding meaningTold
-not-over p (s.AWire w) e h = let d : meaningTold p (s.AWire w) begin ≡ stuck = ap (λ (r : Run Meaning). r begin) e in let z : _≡_ {A = ℕ} 0 1 = cc in omega arith
-not-over p (s.ABit w) e h = let d : meaningTold p (s.ABit w) begin ≡ stuck = ap (λ (r : Run Meaning). r begin) e in let z : _≡_ {A = ℕ} 0 1 = cc in omega arith
-not-over p (s.Wires w n) e h = let d : meaningTold p (s.Wires w n) begin ≡ stuck = ap (λ (r : Run Meaning). r begin) e in let z : _≡_ {A = ℕ} 0 1 = cc in omega arith
-not-over p (s.Bits w n) e h = let d : meaningTold p (s.Bits w n) begin ≡ stuck = ap (λ (r : Run Meaning). r begin) e in let z : _≡_ {A = ℕ} 0 1 = cc in omega arith
-not-over p s.Over e h = let d : meaningTold p s.Over begin ≡ stuck = ap (λ (r : Run Meaning). r begin) e in let z : _≡_ {A = ℕ} 0 1 = cc in omega arith
-not-over p s.Stuck e h = h refl
-
-found-over : (p : Place) (x : OperandMeaning) (o : Option Meaning) → meaningTold p x ≡ found o → (x ≡ s.Stuck → ⊥) → elements (found o) (endAt 24 p) ≡ endAt 24 p
-unfolding elements found _>>=_ after
-found-over p x none e h = absurd (not-over p x e h)
-found-over p x (some m) e h = refl
+-- an index out of range, where something stands for the number
+pub over-told : (p : Place) (x : OperandMeaning) → OneOf (0 ∷ 1 ∷ 2 ∷ 3 ∷ 4 ∷ []) (tagOf meaning-type x) → meaningTold p s.Over ≡ (meaningTold p x >>= (λ m. endAt 24 p))
+unfolding meaningTold _>>=_ after
+over-told p (s.AWire w) h = refl
+over-told p (s.ABit w) h = refl
+over-told p (s.Wires w n) h = refl
+over-told p (s.Bits w n) h = refl
+over-told p s.Over h = refl
+over-told p s.Stuck h = absurd (miss (0 ∷ 1 ∷ 2 ∷ 3 ∷ 4 ∷ []) 5 tt h)
 
 module _ (tag : ℕ) (l : List ℕ) (values : List ℤ) (ms : List Meaning) where
   pub empty-operand : length l ≡ 0 → FieldMeans tag l values ms s.Stuck
-  unfolding readOperand choose readWhole readElement meaningTold meaningOf
+  unfolding readOperand choose readWhole readElement readSlice meaningTold meaningOf
   empty-operand h p q d c = go l h
     where
-      pick : (a b : Bool) → noMeaning ≡ meaningOf p (frameOf d c values ms) (cond {A = Reader Operand} a readWhole (cond {A = Reader Operand} b readElement (λ q rest. badOperand 3 q)) q [])
-      pick true b = refl
-      pick false true = refl
-      pick false false = refl
+      pick : (a b c′ : Bool) → noMeaning ≡ meaningOf p (frameOf d c values ms) (cond {A = Reader Operand} a readWhole (cond {A = Reader Operand} b readElement (cond {A = Reader Operand} c′ readSlice (λ q rest. badOperand 3 q))) q [])
+      pick true b c′ = refl
+      pick false true c′ = refl
+      pick false false true = refl
+      pick false false false = refl
 
       go : (l : List ℕ) → length l ≡ 0 → meaningTold p s.Stuck ≡ meaningOf p (frameOf d c values ms) (readOperand (field q tag l))
-      go [] h = pick (eqb tag 48) (eqb tag 49)
+      go [] h = pick (eqb tag 48) (eqb tag 49) (eqb tag 50)
       go (x ∷ l) h = absurd (omega arith)
 
   pub whole-operand : (n : ℕ) (r : OperandMeaning) → (length l ≡ 0 → ⊥) → tag ≡ 48 → n ≡ getD l 0 0 → OperandIs ms n r → FieldMeans tag l values ms r
@@ -79,9 +78,19 @@ module _ (tag : ℕ) (l : List ℕ) (values : List ℤ) (ms : List Meaning) wher
       go [] h e = absurd (h refl)
       go (x ∷ l) h e = ap (λ (i : ℕ). found (getElem? ms i)) e
 
-  pub other-operand : (tag ≡ 48 → ⊥) → (tag ≡ 49 → ⊥) → FieldMeans tag l values ms s.Stuck
+  pub other-operand : (tag ≡ 48 → ⊥) → (tag ≡ 49 → ⊥) → (tag ≡ 50 → ⊥) → FieldMeans tag l values ms s.Stuck
   unfolding readOperand choose meaningTold meaningOf
-  other-operand a b p q d c = rw (ne-eqb tag 48 a, ne-eqb tag 49 b)
+  other-operand a b e p q d c = rw (ne-eqb tag 48 a, ne-eqb tag 49 b, ne-eqb tag 50 e)
+
+  pub slice-operand : tag ≡ 50 → (length l ≡ 0 → ⊥) → (n : ℕ) → n ≡ getD l 0 0 → (x r : OperandMeaning) → OperandIs ms n x → SliceMeans (drop 1 l) values x r → FieldMeans tag l values ms r
+  unfolding readOperand choose readSlice sliceOf meaningOf
+  slice-operand t h n e x r w y p q d c = y ms n w p q (q + 4) ∙ rw t (go l h e)
+    where
+      go : (l : List ℕ) → (length l ≡ 0 → ⊥) → n ≡ getD l 0 0
+          → (found (getElem? ms n) >>= (λ m. runBounds p values (due outerIndex (badIndex 4 q) (fields (q + 4) (drop 1 l))) (due outerIndex (badIndex 4 q) (drop 1 (fields (q + 4) (drop 1 l)))) (sliceAt m)))
+          ≡ meaningOf p (frameOf d c values ms) (readSlice q l)
+      go [] h e = absurd (h refl)
+      go (y ∷ l) h e = ap (λ (i : ℕ). found (getElem? ms i) >>= (λ m. runBounds p values (due outerIndex (badIndex 4 q) (fields (q + 4) l)) (due outerIndex (badIndex 4 q) (drop 1 (fields (q + 4) l))) (sliceAt m))) e
 
   module _ (t : tag ≡ 49) (h : length l ≡ 0 → ⊥) (n : ℕ) (e : n ≡ getD l 0 0) (x : OperandMeaning) (w : OperandIs ms n x) where
     element-is : (p q : Place) (d : Direction) (c : Condition) → meaningOf p (frameOf d c values ms) (readOperand (field q tag l))
@@ -94,10 +103,6 @@ module _ (tag : ℕ) (l : List ℕ) (values : List ℤ) (ms : List Meaning) wher
         go [] h e = absurd (h refl)
         go (y ∷ l) h e = ap (λ (i : ℕ). elements (found (getElem? ms i)) (evaluate p values (due (readIndex deepest) (badIndex 4 q) (fields (q + 4) l)))) (sym e)
 
-    pub element-unnamed : x ≡ s.Stuck → FieldMeans tag l values ms s.Stuck
-    unfolding meaningTold elements _>>=_ after
-    element-unnamed g p q d c = sym (element-is p q d c ∙ ap (λ (r : Run Meaning). elements r (evaluate p values (due (readIndex deepest) (badIndex 4 q) (fields (q + 4) (drop 1 l))))) (sym (w p) ∙ ap (meaningTold p) g))
-
     module _ (v : Value) (u : IndexAt l 1 values v) where
       index-is : (p q : Place) → evaluate p values (due (readIndex deepest) (badIndex 4 q) (fields (q + 4) (drop 1 l))) ≡ valueTold p v
       index-is p q = sym (u .same p q (q + 4))
@@ -106,19 +111,35 @@ module _ (tag : ℕ) (l : List ℕ) (values : List ℤ) (ms : List Meaning) wher
       unfolding meaningTold valueTold
       element-stuck k p q d c = sym (element-is p q d c ∙ ap (elements (found (getElem? ms n))) (index-is p q ∙ ap (valueTold p) k) ∙ found-stuck (getElem? ms n))
 
-      pub element-over : v ≡ Over → (x ≡ s.Stuck → ⊥) → FieldMeans tag l values ms s.Over
-      unfolding meaningTold valueTold
-      element-over k y p q d c = sym (element-is p q d c ∙ ap (elements (found (getElem? ms n))) (index-is p q ∙ ap (valueTold p) k) ∙ found-over p x (getElem? ms n) (w p) y)
+      pub element-over : (r : OperandMeaning) → v ≡ Over → OverIn x r → FieldMeans tag l values ms r
+      unfolding valueTold elements _>>=_ after
+      element-over r k y p q d c = y p ∙ sym (element-is p q d c ∙ (λ j. elements (sym (w p) j) ((index-is p q ∙ ap (valueTold p) k) j)))
 
       pub element-at : (z : ℤ) (r : OperandMeaning) → v ≡ Is z → ElementIs x z r → FieldMeans tag l values ms r
       unfolding valueTold elements _>>=_ after
       element-at z r k y p q d c = y p ∙ sym (element-is p q d c ∙ (λ j. elements (sym (w p) j) ((index-is p q ∙ ap (valueTold p) k) j)))
 
 pub not-stuck : (x : OperandMeaning) → OneOf (0 ∷ 1 ∷ 2 ∷ 3 ∷ 4 ∷ []) (tagOf meaning-type x) → x ≡ s.Stuck → ⊥
-not-stuck x h e = not-five (rw e at h)
-  where
-    not-five : OneOf (0 ∷ 1 ∷ 2 ∷ 3 ∷ 4 ∷ []) 5 → ⊥
-    not-five k = ⊎-elim (λ z. omega arith) (⊎-elim (λ z. omega arith) (⊎-elim (λ z. omega arith) (⊎-elim (λ z. omega arith) (λ z. omega arith)))) k
+not-stuck x h e = miss (0 ∷ 1 ∷ 2 ∷ 3 ∷ 4 ∷ []) 5 tt (rw e at h)
+
+-- ---- the two indexes of a slice
+
+module _ (l : List ℕ) (at to : ℕ) (values : List ℤ) (x : OperandMeaning) where
+  pub slice-within : (y z : ℤ) (end : ℕ) (r : OperandMeaning) → Bounded l at to values (Are y z end) → SliceIs x y z r → SliceMeans (slice at to l) values x r
+  unfolding bounding
+  slice-within y z end r b h ms n w p q t = h p ∙ (λ j. w p j >>= (λ m. bounds-run (sliceAt m) b p q t j))
+
+  pub slice-over : (r : OperandMeaning) → Bounded l at to values bOver → OverIn x r → SliceMeans (slice at to l) values x r
+  unfolding bounding
+  slice-over r b h ms n w p q t = h p ∙ (λ j. w p j >>= (λ m. bounds-run (sliceAt m) b p q t j))
+
+  pub slice-stuck : Bounded l at to values bStuck → SliceMeans (slice at to l) values x s.Stuck
+  unfolding bounding meaningTold _>>=_ after found
+  slice-stuck b ms n w p q t = none-found (getElem? ms n) ∙ (λ j. found (getElem? ms n) >>= (λ m. bounds-run (sliceAt m) b p q t j))
+    where
+      none-found : (o : Option Meaning) → noMeaning {A = Meaning} ≡ (found o >>= (λ m. noMeaning {A = Meaning}))
+      none-found none = refl
+      none-found (some m) = refl
 
 -- ---- the operand due at a position
 

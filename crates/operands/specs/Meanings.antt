@@ -7,9 +7,9 @@ use lib.Dec.{ltb}
 use lib.IntN.{ℤ, pos, negsuc}
 use lib.ListN.{getElem?, take, drop}
 use Rattle.language.specs.Limits.{mostRegisters}
-use Rattle.language.specs.Tree.{Place, badOperand}
-use Rattle.language.specs.Read.{field, readOperand, due, fields}
-use Rattle.language.specs.Machine.{Meaning, aWire, aBit, wires, bits, Run, give, endAt, noMeaning, found, elementAt, meaningOf, Frame, Direction, Condition, asWire, asBit, wireOf, bitOf, _>>=_}
+use Rattle.language.specs.Tree.{Place, badIndex, badOperand}
+use Rattle.language.specs.Read.{field, readOperand, due, outerIndex, fields}
+use Rattle.language.specs.Machine.{Meaning, aWire, aBit, wires, bits, Run, give, endAt, noMeaning, found, elementAt, sliceAt, runBounds, meaningOf, Frame, Direction, Condition, asWire, asBit, wireOf, bitOf, _>>=_}
 use Rattle.language.specs.Machine as machine
 use Rattle.kinds.specs.declared.Kind.{Kind}
 use Rattle.kinds.specs.declared.Kind.the-variants.{Qubit, Quantum, Classical}
@@ -33,9 +33,9 @@ use Rattle.operands.specs.declared.Location.the-variants.{At, Nowhere}
 abbrev pub registerNumbers : ℕ
 registerNumbers = 3 * mostRegisters
 
--- locations that a number of two bytes can tell apart
+-- past the last location that a register can have; the first location of an empty slice may lie there, and is a number of two bytes
 abbrev pub locations : ℕ
-locations = 65_536
+locations = 65_535
 
 abbrev pub theWire : ℕ → machine.Wire
 theWire n = record { number = n }
@@ -94,6 +94,23 @@ locationOf first size (negsuc i) = Nowhere
 -- the element z of what s stands for
 abbrev pub ElementIs : OperandMeaning → ℤ → OperandMeaning → Type 0
 ElementIs s z r = (p : Place) → meaningTold p r ≡ (meaningTold p s >>= (λ m. elementAt m z))
+
+-- the run of wires from x to y in a register
+abbrev pub RunIs : Wire → ℕ → (x y : ℤ) → OperandMeaning → Type 0
+RunIs first size x y r = (p : Place) → meaningTold p r ≡ sliceAt (wires (theWire (first .0)) (clipped (first .0) size)) x y
+
+-- the slice from x to y of what s stands for
+abbrev pub SliceIs : OperandMeaning → (x y : ℤ) → OperandMeaning → Type 0
+SliceIs s x y r = (p : Place) → meaningTold p r ≡ (meaningTold p s >>= (λ m. sliceAt m x y))
+
+-- an index out of range in a part of what s stands for
+abbrev pub OverIn : OperandMeaning → OperandMeaning → Type 0
+OverIn s r = (p : Place) → meaningTold p r ≡ (meaningTold p s >>= (λ m. endAt 24 p))
+
+-- the slice whose two indexes are the first in this content, of what the operand number n stands for, wherever it stands
+abbrev pub SliceMeans : List ℕ → List ℤ → OperandMeaning → OperandMeaning → Type 0
+SliceMeans content values s r = (ms : List Meaning) (n : ℕ) → OperandIs ms n s → (p q t : Place) → meaningTold p r
+    ≡ (found (getElem? ms n) >>= (λ m. runBounds p values (due outerIndex (badIndex 4 q) (fields t content)) (due outerIndex (badIndex 4 q) (drop 1 (fields t content))) (sliceAt m)))
 
 abbrev pub frameOf : Direction → Condition → List ℤ → List Meaning → Frame
 frameOf d c values ms = record { direction = d; condition = c; variables = values; operands = ms }

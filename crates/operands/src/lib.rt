@@ -8,8 +8,9 @@ ghost use Rattle.language.specs.Form.{inRange};
 ghost use Rattle.language.specs.Limits.{mostRegisters, mostParameters};
 ghost use Rattle.indexes.specs.Values.{mostValues};
 ghost use mathlib.Core.List.{[], _∷_, _++_, map};
-ghost use Rattle.operands.specs.Meanings.{registerNumbers, ofParameter, registerOf, registersOf, operandsOf, OperandIs, locationIn, locationOf, ElementIs, FieldMeans, AsWire, WireAt, AsBit, BitAt};
+ghost use Rattle.operands.specs.Meanings.{registerNumbers, ofParameter, registerOf, registersOf, clipped, operandsOf, OperandIs, locationIn, locationOf, ElementIs, RunIs, SliceIs, OverIn, SliceMeans, FieldMeans, AsWire, WireAt, AsBit, BitAt};
 use fields::Header;
+use indexes::Bounds;
 use indexes::VALUES;
 use indexes::Value;
 use kinds::Kind;
@@ -19,8 +20,8 @@ use limits::MOST_REGISTERS;
 // A table of registers has three numbers for each.
 pub const REGISTER_NUMBERS: usize = 3 * MOST_REGISTERS;
 
-// Locations that a number of two bytes can tell apart.
-const LOCATIONS: usize = 65_536;
+// Past the last location that a register can have; the first location of an empty slice may lie there.
+const LOCATIONS: usize = 65_535;
 
 // A quantum location.
 pub struct Wire(pub u16);
@@ -28,7 +29,7 @@ pub struct Wire(pub u16);
 // A classical location.
 pub struct Bit(pub u16);
 
-// What a parameter stands for: one wire, or a register with its first wire and its size.
+// What a parameter stands for: one wire, or a register or a run of its wires, with the first wire and the size.
 pub enum Operand {
     Single(Wire),
     Register { first: Wire, size: u16 },
@@ -189,6 +190,85 @@ fn element(s: OperandMeaning, z: i64) -> OperandMeaning
     }
 }
 
+// How many locations a register has, which is no more than its first one leaves.
+pub fn room_of(first: u16, size: u16) -> usize
+    ensures { λ r. ⌜ r ≡ clipped first size ⌝ }
+{
+    let most = LOCATIONS - fields::long(first);
+    let n = fields::long(size);
+    if n <= most {
+        return n;
+    }
+    most
+}
+
+// The run of wires from x to y in a register.
+fn run_of(first: Wire, size: u16, x: i64, y: i64) -> OperandMeaning
+    requires { ⌜ (inRange x ≡ true) × (inRange y ≡ true) ⌝ }
+    ensures { λ r. ⌜ RunIs first size x y r ⌝ }
+{
+    if x < 0 {
+        return OperandMeaning::Stuck;
+    }
+    let past = y + 1;
+    if past < x {
+        return OperandMeaning::Stuck;
+    }
+    let from = x as usize;
+    let to = past as usize;
+    if room_of(first.0, size) < to {
+        return OperandMeaning::Stuck;
+    }
+    let at = fields::long(first.0) + from;
+    let many = to - from;
+    OperandMeaning::Wires(Wire(at as u16), many as u16)
+}
+
+// What a slice from x to y stands for.
+fn sliced(s: OperandMeaning, x: i64, y: i64) -> OperandMeaning
+    requires { ⌜ (inRange x ≡ true) × (inRange y ≡ true) ⌝ }
+    ensures { λ r. ⌜ SliceIs s x y r ⌝ }
+{
+    match s {
+        OperandMeaning::Wires(first, size) => run_of(first, size, x, y),
+        OperandMeaning::Bits(b, n) => OperandMeaning::Stuck,
+        OperandMeaning::AWire(w) => OperandMeaning::Stuck,
+        OperandMeaning::ABit(b) => OperandMeaning::Stuck,
+        OperandMeaning::Over => OperandMeaning::Over,
+        OperandMeaning::Stuck => OperandMeaning::Stuck,
+    }
+}
+
+// The answer where an index of a part of s is out of range: none where s stands for nothing.
+fn over(s: OperandMeaning) -> OperandMeaning
+    ensures { λ r. ⌜ OverIn s r ⌝ }
+{
+    if let OperandMeaning::Stuck = s {
+        return OperandMeaning::Stuck;
+    }
+    OperandMeaning::Over
+}
+
+// What the slice of s stands for whose indexes are from `at` to `to`.
+fn slice_of(
+    bytes: &[u8],
+    at: usize,
+    to: usize,
+    vars: &[i32; VALUES],
+    many: usize,
+    s: OperandMeaning,
+) -> OperandMeaning
+    requires { ⌜ to ≤ length (now bytes) ⌝ }
+    requires { ⌜ many ≤ mostValues ⌝ }
+    ensures { λ r. ⌜ SliceMeans (slice at to (now (bytes .entry))) (take many (now (vars .entry))) s r ⌝ }
+{
+    match indexes::bounds_of(bytes, at, to, vars, many) {
+        Bounds::Are(x, y, _) => sliced(s, x, y),
+        Bounds::Over => over(s),
+        Bounds::Stuck => OperandMeaning::Stuck,
+    }
+}
+
 // What the operand with this tag, whose content is from `from` to `to`, stands for.
 pub fn meaning(
     bytes: &[u8],
@@ -211,18 +291,16 @@ pub fn meaning(
     if tag == fields::WHOLE {
         return s;
     }
+    let at = from + 1;
+    if tag == fields::SLICE {
+        return slice_of(bytes, at, to, vars, many, s);
+    }
     if tag != fields::ELEMENT {
         return OperandMeaning::Stuck;
     }
-    let at = from + 1;
     match indexes::index_at(bytes, at, to, vars, many) {
         Value::Is(z) => element(s, z),
-        Value::Over => {
-            if let OperandMeaning::Stuck = s {
-                return OperandMeaning::Stuck;
-            }
-            OperandMeaning::Over
-        }
+        Value::Over => over(s),
         Value::Stuck => OperandMeaning::Stuck,
     }
 }

@@ -17,12 +17,14 @@ use Rattle.operands.specs.declared.Scope.{Scope}
 use Rattle.operands.specs.Meanings.{operandsOf, frameOf}
 use Rattle.records.specs.Outcomes.{conditionOf}
 use Rattle.gates.specs.declared.Mode.{Mode}
-use Rattle.gates.specs.declared.Bounds.{Bounds}
-use Rattle.gates.specs.declared.Bounds.the-variants.{Are, Over, Stuck}
+use Rattle.indexes.specs.declared.Bounds.{Bounds}
+use Rattle.indexes.specs.declared.Bounds.the-variants.{Are, Over, Stuck}
+use Rattle.indexes.specs.Bounds.{bounding, Bounded}
+use Rattle.indexes.proofs.TwoBounds.{bounds-run}
 use Rattle.gates.specs.declared.Repeats.{Repeats}
 use Rattle.gates.specs.declared.Repeats.the-variants as R
-use Rattle.gates.specs.Gates.{directionOf, frameIn, deeperOf, innerOf, bounding, Bounded, Rounds, Looped, Repeated}
-use Rattle.gates.proofs.RoundValues.{rounds-body, rounds-start, rounds-turn}
+use Rattle.gates.specs.Gates.{directionOf, frameIn, deeperOf, innerOf, Rounds, Looped, Repeated}
+use Rattle.gates.proofs.RoundValues.{rounds-behind, rounds-start, rounds-turn}
 use Rattle.unroller.specs.Runs.{familiesIn, oneRun, listAt, timesRun, keptIn, Often, HasBody}
 use Rattle.unroller.proofs.Statements.{one-reverse, one-for, turned}
 
@@ -81,7 +83,7 @@ module _ (mode : Mode) (room base from to place tag : ℕ) (bytes program : List
         (λ z. runStatements (mode .limit) room (statementsBy (readStatement (mode .levels - 1)) (drop 2 (fields (place + 3) (slice from to bytes)))) (familiesIn mode room program) (inRound (frameIn mode (take (mode .variables) vars) scope regs) z))))
     unfolding runFor
     for-is b w = one-for mode room place tag (slice from to bytes) program (frameIn mode (take (mode .variables) vars) scope regs) deep t
-        ∙ ap (λ (x : Run (Unit {0})). step (mode .limit) room place >> x) (sym (w .same place place (place + 3) _))
+        ∙ ap (λ (x : Run (Unit {0})). step (mode .limit) room place >> x) (sym (bounds-run _ w place place (place + 3)))
 
     for-over : Bounded bytes from to (take (mode .variables) vars) Over → whole ≡ (step (mode .limit) room place >> endAt 24 place)
     unfolding bounding
@@ -94,7 +96,7 @@ module _ (mode : Mode) (room base from to place tag : ℕ) (bytes program : List
     for-are : (start : ℤ) (total body : ℕ) → Rounds bytes from to (take (mode .variables) vars) (mode .reversed) start total body → whole ≡ (step (mode .limit) room place >> bodied start total body)
     unfolding bounding inRound
     for-are start total body w =
-        let b = rounds-body w in
+        let b = rounds-behind w in
         let q : place + 3 + (body - from) ≡ base + body = omega (arith, at, b .past) in
         let fs : drop 2 (fields (place + 3) (slice from to bytes)) ≡ fields (base + body) (slice body to bytes) = b .rest (place + 3) ∙ ap (λ (n : ℕ). fields n (slice body to bytes)) q in
         let k : mode .variables ≡ mode .variables + 1 - 1 = omega arith in
@@ -127,7 +129,7 @@ module _ (mode : Mode) (room base from to place tag : ℕ) (bytes program : List
   for-opens : tag ≡ 38 → (start : ℤ) (total body : ℕ) → Rounds bytes from to (take (mode .variables) vars) (mode .reversed) start total body → Opens start total body
   unfolding Often
   for-opens t start total body w =
-      let b = rounds-body w in
+      let b = rounds-behind w in
       record {
         low = omega (arith, b .past);
         high = b .within;

@@ -34,6 +34,9 @@ fn bytes_hold(question: &Question, answer: &Answer) -> Result<(), String> {
     if !records.chunks_exact(RECORD_BYTES).all(sound_record) {
         return Err("a record has bytes that no record can have".into());
     }
+    if question.call == Call::Run && !all_declared(question.program, records) {
+        return Err("a record names a wire or bit that is not declared".into());
+    }
     if !untouched(answer.output.len()).ends_with(rest) {
         return Err("output past the last record was changed".into());
     }
@@ -91,6 +94,24 @@ fn declared(program: &[u8]) -> (u64, u64) {
         rest = next;
     }
     (qubits, bits)
+}
+
+/// Whether the records of a run name wires and bits of its program's registers only.
+fn all_declared(program: &[u8], records: &[u8]) -> bool {
+    if records.is_empty() {
+        return true;
+    }
+    let (qubits, bits) = declared(program);
+    let within = |record: &[u8]| {
+        let number = |place| u64::from(u16::from_le_bytes([record[place], record[place + 1]]));
+        let second = match record[0] {
+            4 | 9 | 10 => number(4) < qubits,
+            5 => number(4) < bits,
+            _ => true,
+        };
+        number(2) < qubits && second && (record[1] == 0 || number(6) < bits)
+    };
+    records.chunks_exact(RECORD_BYTES).all(within)
 }
 
 /// The bytes of so many records or characters at the beginning of a buffer, if it holds them.

@@ -32,12 +32,35 @@ fn calls_in_eight_loops(calls: usize) -> Vec<Field> {
     vec![called(), family(4, vec![qbits(all_sizes(8))], body)]
 }
 
-/// The program that takes the longest to check for each byte: as many calls as
-/// fit into one.
-pub fn slowest_check() -> Vec<Field> {
-    let bytes = |calls| program(&calls_in_eight_loops(calls)).len();
+/// A family of 4 index variables that makes so many calls inside 8 loops, with slices from
+/// the innermost loop's variable to the last size: what is shown of their first index, of
+/// their size and that it is large enough goes through all loops.
+fn slices_in_eight_loops(calls: usize) -> Vec<Field> {
+    let part = slice(0, variable(11), variable(3));
+    let one = call(0, vec![], vec![part; 8]);
+    let body = in_eight_loops(vec![one; calls]);
+    let size = sum(all_sizes(8), literal(1));
+    vec![
+        family(0, vec![qbits(literal(1)); 8], vec![]),
+        family(4, vec![qbits(size)], body),
+    ]
+}
+
+/// A program of as many calls as fit into one.
+fn full(calls: fn(usize) -> Vec<Field>) -> Vec<Field> {
+    let bytes = |count| program(&calls(count)).len();
     let each = bytes(1) - bytes(0);
-    calls_in_eight_loops((MOST_BYTES - bytes(0)) / each)
+    calls((MOST_BYTES - bytes(0)) / each)
+}
+
+/// The program that takes the longest to check for each byte.
+pub fn slowest_check() -> Vec<Field> {
+    full(calls_in_eight_loops)
+}
+
+/// The program of slices that takes the longest to check for each byte.
+pub fn sliced_check() -> Vec<Field> {
+    full(slices_in_eight_loops)
 }
 
 /// The index 0 as a sum of so many literals, halved at each level.

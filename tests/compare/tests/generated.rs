@@ -140,7 +140,27 @@ fn small_programs() -> Vec<Vec<u8>> {
     programs.push(program(&library::each_cell()));
     programs.push(program(&library::nested_loops()));
     programs.push(program(&phases()));
+    programs.push(program(&slices()));
     programs
+}
+
+/// Slices of registers and of parameters, in a loop, a reversal and a condition.
+fn slices() -> Vec<Field> {
+    let pair = family(0, vec![qbits(literal(2))], vec![cx(at(0, 0), at(0, 1))]);
+    let next = slice(0, variable(1), plus(1, 1));
+    let once = vec![call(0, vec![], vec![next])];
+    let each = vec![repeat(literal(0), minus(0, 1), once)];
+    let empty = slice(0, literal(4), literal(3));
+    vec![
+        pair,
+        family(1, vec![qbits(plus(0, 1))], each),
+        family(1, vec![qbits(variable(0))], vec![]),
+        qreg(4),
+        creg(1),
+        reverse(vec![call(1, vec![literal(1)], vec![between(0, 1, 3)])]),
+        call(2, vec![literal(0)], vec![empty]),
+        when(1, at(1, 0), vec![call(0, vec![], vec![between(0, 2, 3)])]),
+    ]
 }
 
 /// Phases in a family, a loop, a reversal and a condition, with k of all kinds.

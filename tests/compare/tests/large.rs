@@ -19,9 +19,14 @@ compared!(a_hundred_million_steps, has_run, many_steps);
 compared!(the_adder_at_8000_bits, has_instance, large_adder);
 compared!(fourier_of_64_wires, has_instance, small_transforms);
 compared!(fourier_of_5062_wires, has_instance, large_transforms);
+compared!(the_product_of_100_wires, has_instance, large_products);
+compared!(deepest_slices_of_a_check, has_check, deepest_slices_checked);
+compared!(deepest_slices_of_a_run, has_run, deepest_slices_run);
+compared!(slices_of_all_qubits, has_run, far_slices);
 compared!(a_full_library_of_families, has_check, full_library);
 compared!(a_library_of_4000_families, has_check, small_families);
 compared!(the_slowest_check, has_check, slowest_check);
+compared!(the_slowest_check_of_slices, has_check, sliced_check);
 compared!(the_slowest_steps, has_run, slowest_steps);
 
 /// Asks, and holds the reference to number, place, records and steps.
@@ -271,6 +276,82 @@ fn large_transforms(tally: &mut Tally) -> Result<(), String> {
     Ok(())
 }
 
+/// Unrolls the product without carries of twice 100 wires, and its inverse.
+fn large_products(tally: &mut Tally) -> Result<(), String> {
+    let program = program(&library::multiplier());
+    let sizes = sizes(&[100]);
+    // The outer loop; for each wire of x a round, a call and a loop; for each of y a round, a
+    // call and 15 gates. Backward, a reversal and a call come before.
+    let steps = 1 + 100 * (3 + 100 * 17);
+    for (family, steps) in [(2, steps), (3, steps + 2)] {
+        let question = Question {
+            length: RECORD_BYTES * 150_000,
+            ..instance(&program, family, &sizes)
+        };
+        due(tally, &question, [0, 0, 150_000, steps])?;
+    }
+    Ok(())
+}
+
+/// Families that each pass all but the first wire on, as many as fit.
+const SHORTENED: usize = 2_055;
+
+/// Those families, and a run that passes all but the first of one wire more.
+fn deepest_slices() -> Vec<u8> {
+    let mut fields = library::shortened(SHORTENED);
+    let wires = SHORTENED as u16;
+    let passed = between(0, 1, wires);
+    fields.extend([qreg(wires + 1), call(wires - 1, vec![], vec![passed])]);
+    program(&fields)
+}
+
+/// Checks the deepest slices.
+fn deepest_slices_checked(tally: &mut Tally) -> Result<(), String> {
+    let program = deepest_slices();
+    match program.len() {
+        65_505..=65_535 => due(tally, &other(&program, Call::Check), [0; 4]),
+        length => Err(format!("{length} bytes are not a full program")),
+    }
+}
+
+/// Runs and unrolls the deepest slices: a call for each family, and a gate.
+fn deepest_slices_run(tally: &mut Tally) -> Result<(), String> {
+    let work = |tally: &mut Tally| {
+        let program = deepest_slices();
+        let families = SHORTENED as u64;
+        let last = SHORTENED as u32 - 1;
+        due(tally, &instance(&program, last, &[]), [0, 0, 1, families])?;
+        due(tally, &other(&program, Call::Run), [0, 0, 1, families + 1])
+    };
+    on_a_deep_stack(work, tally)
+}
+
+/// Runs over neighbours in all qubits there may be, and unrolls as many.
+fn far_slices(tally: &mut Tally) -> Result<(), String> {
+    let mut fields = library::neighbours();
+    fields.extend([
+        qreg(u16::MAX),
+        call(1, vec![literal(65_534)], vec![whole(0)]),
+    ]);
+    let program = program(&fields);
+    // A loop; for each pair a round, a call and a gate. In a run, a call comes before.
+    let steps = 1 + 65_534 * 3;
+    let sizes = sizes(&[65_534]);
+    let length = RECORD_BYTES * 65_534;
+    let unrolled = instance(&program, 1, &sizes);
+    let ran = other(&program, Call::Run);
+    due(
+        tally,
+        &Question { length, ..unrolled },
+        [0, 0, 65_534, steps],
+    )?;
+    due(
+        tally,
+        &Question { length, ..ran },
+        [0, 0, 65_534, steps + 1],
+    )
+}
+
 /// Checks a program filled with families.
 fn full_library(tally: &mut Tally) -> Result<(), String> {
     let program = program(&library::large_library());
@@ -286,6 +367,15 @@ fn small_families(tally: &mut Tally) -> Result<(), String> {
 /// Checks the program that takes the longest for each byte.
 fn slowest_check(tally: &mut Tally) -> Result<(), String> {
     let program = program(&slow::slowest_check());
+    match program.len() {
+        65_400..=65_535 => due(tally, &other(&program, Call::Check), [0; 4]),
+        length => Err(format!("{length} bytes are not a full program")),
+    }
+}
+
+/// Checks the program of slices that takes the longest for each byte.
+fn sliced_check(tally: &mut Tally) -> Result<(), String> {
+    let program = program(&slow::sliced_check());
     match program.len() {
         65_400..=65_535 => due(tally, &other(&program, Call::Check), [0; 4]),
         length => Err(format!("{length} bytes are not a full program")),

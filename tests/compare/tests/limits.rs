@@ -39,6 +39,7 @@ type Small = (Vec<u8>, u32, Vec<u8>);
 fn instances() -> Vec<Small> {
     let adder = program(&library::reversed_adder());
     let fourier = program(&library::fourier());
+    let product = program(&library::multiplier());
     let mut list = vec![
         (program(&library::each_cell()), 0, build::sizes(&[3])),
         (program(&library::nested_loops()), 0, build::sizes(&[3])),
@@ -46,6 +47,10 @@ fn instances() -> Vec<Small> {
         (adder, 3, build::sizes(&[2])),
         (fourier.clone(), 1, build::sizes(&[5])),
         (fourier, 0, build::sizes(&[64])),
+        (product.clone(), 2, build::sizes(&[2])),
+        (product, 3, build::sizes(&[1])),
+        (program(&library::neighbours()), 1, build::sizes(&[9])),
+        (program(&library::shortened(12)), 11, build::sizes(&[])),
         (
             program(&library::deep_loops(9, 2, 1)),
             8,

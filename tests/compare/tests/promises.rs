@@ -75,6 +75,10 @@ const LIST: &[Damage] = &[
     (|answer| answer.output[8] = 1, "a record has bytes"),
     (|answer| answer.output[16] = 0, "a record has bytes"),
     (|answer| answer.output[22] = 1, "a record has bytes"),
+    (|answer| answer.output[2] = 2, "a record names a wire"),
+    (|answer| answer.output[3] = 1, "a record names a wire"),
+    (|answer| answer.output[16] = 2, "a record names a wire"),
+    (|answer| answer.output[1] = 1, "a record names a wire"),
     (
         |answer| answer.output[24] ^= 1,
         "output past the last record",

@@ -200,6 +200,16 @@ pub fn element(number: u8, index: Field) -> Field {
     Field::new(49, &[number], vec![index])
 }
 
+/// The part of the operand with a number from a first to a last element.
+pub fn slice(number: u8, first: Field, last: Field) -> Field {
+    Field::new(50, &[number], vec![first, last])
+}
+
+/// A part of which both ends are fixed.
+pub fn between(number: u8, first: u16, last: u16) -> Field {
+    slice(number, literal(first), literal(last))
+}
+
 /// An element at a fixed place.
 pub fn at(number: u8, index: u16) -> Field {
     element(number, literal(index))

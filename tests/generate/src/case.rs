@@ -21,10 +21,10 @@ pub struct Case {
 pub fn case(seed: u64) -> Case {
     let mut random = Random::new(seed);
     match random.below(100) {
-        0..=57 => whole_case(&mut random),
-        58..=73 => damaged_tree(&mut random),
-        74..=83 => damaged_bytes(&mut random),
-        84 | 85 => mixed(&mut random),
+        0..=54 => whole_case(&mut random),
+        55..=70 => damaged_tree(&mut random),
+        71..=80 => damaged_bytes(&mut random),
+        81 | 82 => mixed(&mut random),
         _ => targeted::case(&mut random),
     }
 }
@@ -42,9 +42,10 @@ fn damaged_tree(random: &mut Random) -> Case {
         mut fields,
         families,
     } = typed::program(random);
-    match random.percent(15) {
-        true => damage::some_phase(&mut fields, random),
-        false => damage::tree(&mut fields, random),
+    match random.below(100) {
+        0..=14 => damage::some_phase(&mut fields, random),
+        15..=39 => damage::some_slice(&mut fields, random),
+        _ => damage::tree(&mut fields, random),
     }
     arguments(program(&fields), &families, random)
 }

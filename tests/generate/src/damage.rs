@@ -1,12 +1,16 @@
 //! Damage: small changes to a program's tree or to its bytes.
 
+mod slices;
+
+pub use slices::{slice_field, some_slice};
+
 use crate::build::*;
 use crate::random::Random;
 
 /// All tags that mean something, and two that do not.
-const TAGS: [u8; 27] = [
-    1, 2, 3, 4, 5, 6, 16, 17, 32, 33, 34, 35, 36, 37, 38, 39, 40, 41, 48, 49, 64, 65, 66, 67, 68,
-    0, 42,
+const TAGS: [u8; 28] = [
+    1, 2, 3, 4, 5, 6, 16, 17, 32, 33, 34, 35, 36, 37, 38, 39, 40, 41, 48, 49, 50, 64, 65, 66, 67,
+    68, 0, 42,
 ];
 /// The tags of calls with a family number of one byte and of two.
 const CALL: u8 = 36;
@@ -101,25 +105,25 @@ pub fn phase_field(field: &mut Field, random: &mut Random) {
         4 => field.parts.swap(0, last),
         5 => field.tail = vec![random.byte(); 1 + random.below(4)],
         6 => field.parts.push(field.parts[random.below(2)].clone()),
-        _ => k_field(&mut field.parts[0], random),
+        _ => index_field(&mut field.parts[0], random),
     }
 }
 
-/// Changes the k of a phase: below 0, of another kind, cut off or too deep.
-fn k_field(k: &mut Field, random: &mut Random) {
-    let before = k.clone();
+/// Changes an index: below 0, of another kind, cut off or too deep.
+fn index_field(index: &mut Field, random: &mut Random) {
+    let before = index.clone();
     match random.below(8) {
-        0 => *k = difference(literal(random.below(3) as u16), before),
-        1 => *k = difference(before, literal(1 + random.below(64) as u16)),
-        2 => *k = product(before.clone(), before),
-        3 => *k = product(largest(), before),
-        4 => k.tag = random.pick(&[16, 48, 49, 63, 69, 65, 66]),
-        5 => *k = variable(random.below(14) as u8),
+        0 => *index = difference(literal(random.below(3) as u16), before),
+        1 => *index = difference(before, literal(1 + random.below(64) as u16)),
+        2 => *index = product(before.clone(), before),
+        3 => *index = product(largest(), before),
+        4 => index.tag = random.pick(&[16, 48, 49, 50, 63, 69, 65, 66]),
+        5 => *index = variable(random.below(14) as u8),
         6 => {
-            k.head.pop();
-            k.parts.pop();
+            index.head.pop();
+            index.parts.pop();
         }
-        _ => wrap(k, random),
+        _ => wrap(index, random),
     }
 }
 

@@ -1,6 +1,8 @@
 //! Counts of the answers that the reference gives to generated cases.
 
+use crate::build::program;
 use crate::case::{case, Case};
+use crate::read;
 use reference::{Outcome, RECORD_BYTES};
 use std::collections::BTreeMap;
 use std::ops::Range;
@@ -22,6 +24,10 @@ pub struct Histogram {
     pub accepted: u64,
     /// Accepted programs for which instance or run wrote a record.
     pub listed: u64,
+    /// Accepted programs with slices, and those of which a list is shorter without the
+    /// calls that pass them.
+    pub sliced: u64,
+    pub through_slices: u64,
     pub records: u64,
     pub longest: u64,
     /// By op: how many records have it.
@@ -42,13 +48,7 @@ impl Histogram {
     fn add(&mut self, case: &Case) {
         let mut output = vec![0; case.output];
         let checked = reference::check(&case.program);
-        let unrolled = reference::instance(
-            &case.program,
-            case.family,
-            &case.sizes,
-            case.limit,
-            &mut output,
-        );
+        let unrolled = unrolled(case, &mut output);
         self.count_ops(&output, unrolled);
         let ran = reference::run(&case.program, case.limit, &mut output);
         self.count_ops(&output, ran);
@@ -58,6 +58,26 @@ impl Histogram {
         self.records += unrolled.records + ran.records;
         self.longest = self.longest.max(unrolled.records).max(ran.records);
         self.count([checked, unrolled, ran]);
+        if checked.number == 0 {
+            self.count_slices(case, unrolled.records + ran.records);
+        }
+    }
+
+    /// Counts an accepted case with slices, whose two lists have so many records.
+    fn count_slices(&mut self, case: &Case, records: u64) {
+        let fields = read::fields(&case.program);
+        if !read::has_slices(&fields) {
+            return;
+        }
+        let without = Case {
+            program: program(&read::without_slices(&fields)),
+            ..case.clone()
+        };
+        let mut output = vec![0; case.output];
+        let unrolled = unrolled(&without, &mut output);
+        let ran = reference::run(&without.program, case.limit, &mut output);
+        self.sliced += 1;
+        self.through_slices += u64::from(unrolled.records + ran.records < records);
     }
 
     /// Counts the numbers of the three answers.
@@ -86,4 +106,10 @@ impl Histogram {
             .filter(|number| !self.counts.contains_key(number))
             .collect()
     }
+}
+
+/// The answer about a case's family.
+fn unrolled(case: &Case, output: &mut [u8]) -> Outcome {
+    let (program, sizes) = (&case.program, &case.sizes);
+    reference::instance(program, case.family, sizes, case.limit, output)
 }

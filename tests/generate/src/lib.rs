@@ -8,6 +8,7 @@ pub mod libraries;
 pub mod library;
 pub mod linear;
 pub mod random;
+pub mod read;
 pub mod shapes;
 pub mod targeted;
 pub mod texts;

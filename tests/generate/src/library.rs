@@ -1,4 +1,5 @@
-//! Named programs: the paper's adder, Fourier transforms, and programs at the limits.
+//! Named programs: the paper's adder, Fourier transforms, a product by slices, and programs
+//! at the limits.
 
 use crate::build::*;
 
@@ -67,6 +68,49 @@ pub fn reversed_adder() -> Vec<Field> {
     let same = call(2, vec![variable(0)], [0, 1, 2, 3].map(whole).to_vec());
     let types = vec![qbits(plus(0, 1)); 4];
     fields.push(family(1, types, vec![reverse(vec![same])]));
+    fields
+}
+
+/// A product without carries, by slices. Behind Toffoli, family 1 adds y to z where x is
+/// set, family 2 does so for each wire of x at z[i..i+n-1], and family 3 runs it backward.
+pub fn multiplier() -> Vec<Field> {
+    let (n, i) = (|| variable(0), || variable(1));
+    let cell = vec![whole(0), element(1, i()), element(2, i())];
+    let add = repeat(literal(0), minus(0, 1), vec![call(0, vec![], cell)]);
+    let part = slice(2, i(), sum(i(), minus(0, 1)));
+    let once = call(1, vec![n()], vec![element(0, i()), whole(1), part]);
+    let each = repeat(literal(0), minus(0, 1), vec![once]);
+    let types = vec![qbits(n()), qbits(n()), qbits(sum(n(), n()))];
+    let same = call(2, vec![n()], [0, 1, 2].map(whole).to_vec());
+    vec![
+        toffoli(),
+        family(1, vec![qbit(), qbits(n()), qbits(n())], vec![add]),
+        family(1, types.clone(), vec![each]),
+        family(1, types, vec![reverse(vec![same])]),
+    ]
+}
+
+/// A family on two wires, called by family 1 for each pair x[i..i+1] of n + 1 wires.
+pub fn neighbours() -> Vec<Field> {
+    let i = || variable(1);
+    let pair = slice(0, i(), plus(1, 1));
+    let once = call(0, vec![], vec![pair]);
+    let each = repeat(literal(0), minus(0, 1), vec![once]);
+    vec![
+        family(0, vec![qbits(literal(2))], vec![cx(at(0, 0), at(0, 1))]),
+        family(1, vec![qbits(plus(0, 1))], vec![each]),
+    ]
+}
+
+/// So many families: the first has h on its only wire, each further one is passed one wire
+/// more and passes the others on, without the first.
+pub fn shortened(families: usize) -> Vec<Field> {
+    let mut fields = vec![family(0, vec![qbits(literal(1))], vec![h(at(0, 0))])];
+    for number in 1..families as u16 {
+        let passed = between(0, 1, number);
+        let body = vec![call(number - 1, vec![], vec![passed])];
+        fields.push(family(0, vec![qbits(literal(number + 1))], body));
+    }
     fields
 }
 

@@ -30,10 +30,12 @@ enum Parameters {
     Wires(u8),
     /// So many registers over so many index variables, 1 to 4.
     Registers { count: u8, indexes: u8 },
+    /// The same, passed on as slices.
+    Slices { count: u8, indexes: u8 },
 }
 
 use Order::{InTurn, Listed, Single};
-use Parameters::{Registers, Wires};
+use Parameters::{Registers, Slices, Wires};
 
 /// One register over one index variable.
 const ONE: Parameters = Registers {
@@ -45,10 +47,19 @@ const MOST: Parameters = Registers {
     count: 8,
     indexes: 4,
 };
+/// One slice over one index variable, and the most over the most.
+const ONE_SLICE: Parameters = Slices {
+    count: 1,
+    indexes: 1,
+};
+const MOST_SLICES: Parameters = Slices {
+    count: 8,
+    indexes: 4,
+};
 
 /// From the most families without nesting to those of 16 levels. Reversals that hold
 /// nothing else take the fewest bytes; those that hold a list take the most stack each.
-pub const SHAPES: [Shape; 9] = [
+pub const SHAPES: [Shape; 12] = [
     shape("calls alone", Single, [0, 0], Wires(1)),
     shape("1 reversal", Single, [0, 1], Wires(1)),
     shape("15 reversals", Single, [0, 15], Wires(1)),
@@ -58,6 +69,9 @@ pub const SHAPES: [Shape; 9] = [
     shape("8 loops in 7 reversals", Single, [8, 7], Wires(1)),
     shape("in turn, 1 register", InTurn, [8, 7], ONE),
     shape("in turn, 8 registers", InTurn, [8, 7], MOST),
+    shape("slices alone", Single, [0, 0], ONE_SLICE),
+    shape("in turn, 1 slice", InTurn, [8, 7], ONE_SLICE),
+    shape("in turn, 8 slices", InTurn, [8, 7], MOST_SLICES),
 ];
 
 /// A shape of so many loops and reversals.
@@ -80,7 +94,7 @@ impl Parameters {
     /// How many there are.
     fn count(self) -> u8 {
         match self {
-            Wires(count) | Registers { count, .. } => count,
+            Wires(count) | Registers { count, .. } | Slices { count, .. } => count,
         }
     }
 
@@ -88,7 +102,7 @@ impl Parameters {
     fn indexes(self) -> u8 {
         match self {
             Wires(_) => 0,
-            Registers { indexes, .. } => indexes,
+            Registers { indexes, .. } | Slices { indexes, .. } => indexes,
         }
     }
 
@@ -96,7 +110,7 @@ impl Parameters {
     fn types(self) -> Vec<Field> {
         match self {
             Wires(count) => vec![qbit(); usize::from(count)],
-            Registers { count, indexes } => {
+            Registers { count, indexes } | Slices { count, indexes } => {
                 let others = (1..count).map(|number| qbits(variable(number % indexes)));
                 [qbits(plus(0, 1))].into_iter().chain(others).collect()
             }
@@ -107,7 +121,24 @@ impl Parameters {
     fn wire(self, index: Field) -> Field {
         match self {
             Wires(_) => whole(0),
-            Registers { .. } => element(0, index),
+            Registers { .. } | Slices { .. } => element(0, index),
+        }
+    }
+
+    /// A parameter as it is passed on: all of it.
+    fn passed(self, number: u8) -> Field {
+        match (self, number) {
+            (Wires(_) | Registers { .. }, _) => whole(number),
+            (Slices { .. }, 0) => slice(0, literal(0), variable(0)),
+            (Slices { indexes, .. }, _) => slice(number, literal(0), minus(number % indexes, 1)),
+        }
+    }
+
+    /// A part of the first parameter that is one wire or more, from and to index 0.
+    fn part(self, first: Field, last: Field) -> Field {
+        match self {
+            Wires(_) | Registers { .. } => whole(0),
+            Slices { .. } => slice(0, first, last),
         }
     }
 }
@@ -152,8 +183,16 @@ impl Shape {
     /// A call that passes all index variables and parameters on.
     fn call(&self, number: u16) -> Field {
         let sizes = (0..self.parameters.indexes()).map(variable).collect();
-        let operands = (0..self.parameters.count()).map(whole).collect();
+        let passed = |number| self.parameters.passed(number);
+        let operands = (0..self.parameters.count()).map(passed).collect();
         call(number, sizes, operands)
+    }
+
+    /// A call of a family like this one with the deepest indexes, of 16 levels.
+    fn deep_call(&self, number: u16) -> Field {
+        let sizes = times(self.parameters.indexes(), left_deep());
+        let part = self.parameters.part(left_deep(), right_deep());
+        call(number, sizes, times(self.parameters.count(), part))
     }
 
     /// What the first family has at the bottom: gates, on elements with indexes of 16
@@ -161,7 +200,7 @@ impl Shape {
     fn gates(&self) -> Vec<Field> {
         match self.parameters {
             Wires(_) => vec![t(whole(0)), phase(literal(0), whole(0))],
-            Registers { .. } => vec![
+            Registers { .. } | Slices { .. } => vec![
                 t(element(0, left_deep())),
                 t(element(0, right_deep())),
                 phase(left_deep(), element(0, right_deep())),
@@ -174,18 +213,33 @@ impl Shape {
         let operand = match self.parameters {
             Wires(_) => at(0, 0),
             Registers { .. } => whole(0),
+            Slices { .. } => between(0, 0, 0),
         };
         let sizes = times(self.parameters.indexes(), literal(0));
         let operands = times(self.parameters.count(), operand);
         self.nest(vec![call(number, sizes, operands)])
     }
 
+    /// The families that the others lead to: one with gates, and where slices are passed
+    /// also a call that passes those with the deepest indexes to a family before it.
+    fn lowest(&self) -> Vec<Field> {
+        let mut statements = self.gates();
+        let mut families = Vec::new();
+        if let Slices { .. } = self.parameters {
+            families.push(self.family(vec![]));
+            statements.push(self.deep_call(0));
+        }
+        families.push(self.family(statements));
+        families
+    }
+
     /// A whole program: as many families as fit, each of which calls the one before
     /// from the bottom, and a run that calls the last one from as deep.
     pub fn deepest(&self) -> Vec<Field> {
-        let mut fields = vec![qreg(1), self.family(self.gates())];
+        let mut fields = vec![qreg(1)];
+        fields.extend(self.lowest());
         let mut bytes = length(&fields);
-        let mut last = 0;
+        let mut last = families(&fields) as u16 - 1;
         while usize::from(last) + 1 < MOST_FAMILIES {
             let next = self.family(vec![self.call(last)]);
             bytes += next.size();
@@ -211,11 +265,9 @@ impl Shape {
         let mut fields = vec![small; 256];
         fields.push(self.family(vec![]));
         let wire = |index| self.parameters.wire(index);
-        let sizes = times(self.parameters.indexes(), left_deep());
-        let operands = times(self.parameters.count(), whole(0));
         let statements = vec![
             call(255, vec![right_deep()], vec![wire(left_deep())]),
-            call(256, sizes, operands),
+            self.deep_call(256),
             cx(wire(left_deep()), wire(right_deep())),
             phase(right_deep(), wire(left_deep())),
             cphase(left_deep(), wire(left_deep()), wire(right_deep())),

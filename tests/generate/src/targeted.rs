@@ -1,6 +1,7 @@
 //! Programs near one limit or one rule each, for answers that chance misses.
 
 mod phases;
+mod slices;
 
 use crate::build::*;
 use crate::case::Case;
@@ -13,7 +14,7 @@ use reference::RECORD_BYTES;
 type Writer = fn(&mut Random) -> Case;
 
 /// The writers of short programs.
-const WRITERS: [Writer; 23] = [
+const WRITERS: [Writer; 36] = [
     statement_depth,
     index_depth,
     wide_calls,
@@ -37,6 +38,19 @@ const WRITERS: [Writer; 23] = [
     phases::ended,
     phases::far_values,
     phases::transforms,
+    slices::shown,
+    slices::over_sizes,
+    slices::sliding,
+    slices::sliding,
+    slices::chains,
+    slices::read,
+    slices::kinds,
+    slices::kinds,
+    slices::large_ends,
+    slices::large_ends,
+    slices::far_values,
+    slices::ended,
+    slices::products,
 ];
 
 /// The writers of long programs, which come up less.

@@ -6,12 +6,14 @@
 
 mod libraries;
 mod phases;
+mod slices;
 
 pub use libraries::library;
 
 use crate::build::*;
-use crate::linear::{Bounds, Linear, VARIABLES};
+use crate::linear::{Bounds, Linear};
 use crate::random::Random;
+use slices::{apart, overlap, Chosen, Part};
 
 /// How often an index is tried before the writer gives up.
 const TRIES: usize = 10;
@@ -26,20 +28,6 @@ enum Kind {
     Wire,
     Wires(Linear),
     Bits(u16),
-}
-
-/// A wire: an operand's number, and the index of an element.
-type Chosen = (usize, Option<Linear>);
-
-/// Whether two wires differ by number or by a fixed distance.
-fn apart(first: &Chosen, second: &Chosen) -> bool {
-    match (first.1, second.1) {
-        (Some(one), Some(two)) if first.0 == second.0 => {
-            let distance = one.plus(-1, &two);
-            distance.constant != 0 && distance.coefficients == [0; VARIABLES]
-        }
-        _ => first.0 != second.0,
-    }
 }
 
 /// What the statements being written can name.
@@ -99,6 +87,14 @@ impl Scope {
     /// Whether an index is likely to be shown inside a register.
     fn inside(&self, index: &Linear, size: &Linear) -> bool {
         self.natural(index) && self.natural(&size.shift(-1).plus(-1, index))
+    }
+
+    /// The size of the quantum register with a number; 0 for what is none.
+    fn size(&self, number: usize) -> Linear {
+        match &self.kinds[number] {
+            Kind::Wires(size) => *size,
+            _ => Linear::number(0),
+        }
     }
 
     /// The numbers of the operands that are quantum registers.
@@ -272,7 +268,7 @@ impl Writer<'_> {
     fn bounds(&mut self, scope: &Scope) -> Bounds {
         let size = self.some_size(scope);
         let zero = Linear::number(0);
-        let (low, high) = match self.random.below(12) {
+        let (low, high) = match self.random.below(14) {
             0..=3 => (zero, size.shift(-1)),
             4 | 5 => (zero.shift(1), size),
             6 => (zero, size.shift(-2)),
@@ -280,7 +276,8 @@ impl Writer<'_> {
             8 => (self.some_variable(scope).shift(1), size.shift(-1)),
             9 => (zero, self.some_variable(scope)),
             10 => (zero.shift(-2), zero.shift(self.random.between(-3, 3))),
-            _ => (zero.plus(-1, &size).shift(1), zero),
+            11 => (zero.plus(-1, &size).shift(1), zero),
+            _ => (zero, size.plus(-1, &self.some_size(scope))),
         };
         Bounds { low, high }
     }
@@ -291,10 +288,7 @@ impl Writer<'_> {
         if registers.is_empty() {
             return Linear::number(self.random.between(0, 4));
         }
-        match &scope.kinds[self.random.pick(&registers)] {
-            Kind::Wires(size) => *size,
-            _ => Linear::number(2),
-        }
+        scope.size(self.random.pick(&registers))
     }
 
     /// An index variable in scope, loop variables first, or a small number.
@@ -323,11 +317,11 @@ impl Writer<'_> {
         for _ in 0..TRIES {
             let number = self.random.below(scope.kinds.len());
             match scope.kinds.get(number)? {
-                Kind::Wire => return Some((number, None)),
+                Kind::Wire => return Some((number, Part::Whole)),
                 Kind::Wires(size) => {
                     let index = self.index(scope, size);
                     if scope.inside(&index, size) || self.misses() {
-                        return Some((number, Some(index)));
+                        return Some((number, Part::Element(index)));
                     }
                 }
                 Kind::Bits(_) => {}
@@ -339,14 +333,6 @@ impl Writer<'_> {
     /// Whether an index is left unfit on purpose.
     fn misses(&mut self) -> bool {
         self.near_misses && self.random.below(2_000) == 0
-    }
-
-    /// Writes a wire that has been chosen.
-    fn chosen(&mut self, (number, index): Chosen) -> Field {
-        match index {
-            None => whole(number as u8),
-            Some(index) => element(number as u8, index.render(self.random)),
-        }
     }
 
     /// Writes two wires that are mostly different, if they are found.
@@ -453,7 +439,7 @@ impl Writer<'_> {
         for parameter in &called.parameters {
             let chosen = match parameter {
                 None => self.fresh_wire(scope, &taken)?,
-                Some(size) => self.fresh_register(scope, &size.put_in(forms), &taken)?,
+                Some(size) => self.fresh_wires(scope, &size.put_in(forms), &taken)?,
             };
             taken.push(chosen);
         }
@@ -462,10 +448,7 @@ impl Writer<'_> {
 
     /// A wire that is no part of what is taken, or else any wire.
     fn fresh_wire(&mut self, scope: &Scope, taken: &[Chosen]) -> Option<Chosen> {
-        let fresh = |chosen: &Chosen| {
-            let same = |other: &Chosen| other == chosen || *other == (chosen.0, None);
-            !taken.iter().any(same)
-        };
+        let fresh = |chosen: &Chosen| !taken.iter().any(|other| overlap(other, chosen));
         (0..LOOKS)
             .filter_map(|_| self.choose(scope))
             .find(fresh)
@@ -479,15 +462,12 @@ impl Writer<'_> {
         asked: &Linear,
         taken: &[Chosen],
     ) -> Option<Chosen> {
-        let large = |number: &usize| match &scope.kinds[*number] {
-            Kind::Wires(have) => scope.natural(&have.plus(-1, asked)),
-            _ => false,
-        };
+        let large = |number: &usize| scope.natural(&scope.size(*number).plus(-1, asked));
         let suitable: Vec<usize> = scope.registers().into_iter().filter(large).collect();
         let start = self.random.below(suitable.len());
         let mut turned = suitable.iter().cycle().skip(start).take(suitable.len());
         let fresh = turned.find(|number| !taken.iter().any(|other| other.0 == **number));
         let number = *fresh.or(suitable.first())?;
-        Some((number, None))
+        Some((number, Part::Whole))
     }
 }

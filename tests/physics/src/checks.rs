@@ -1,10 +1,16 @@
 //! Checks that the examples' lists do what they are meant to do.
 
 mod fourier;
+mod multiplier;
 
 pub use fourier::{
     fourier_adder_adds, fourier_and_back_is_no_change, fourier_run_adds_one_and_one,
     fourier_transforms,
+};
+pub use multiplier::{
+    fourier_by_slices_is_the_same, multiplier_and_back_is_no_change,
+    multiplier_as_printed_loses_carries, multiplier_multiplies, multiplier_run_gives_nine,
+    multiplies,
 };
 
 use crate::{branches, play, records, Branch, Calls, Complex, Outcome, Record, State};
@@ -24,6 +30,8 @@ const LOOP_DOWN: &str = include_str!("../../../examples/loop-down.mq");
 const THERE_AND_BACK: &str = include_str!("../../../examples/there-and-back.mq");
 const LIBRARY: &str = include_str!("../../../examples/library.mq");
 const QFT: &str = include_str!("../../../examples/qft.mq");
+/// The multiplier's text.
+pub const MULTIPLIER: &str = include_str!("../../../examples/multiplier.mq");
 
 /// What a check answers: nothing, or what went wrong.
 pub type Answer = Result<(), String>;
@@ -32,7 +40,7 @@ pub type Answer = Result<(), String>;
 pub type Check = fn(&Calls) -> Answer;
 
 /// Every check by its name.
-pub const ALL: [(&str, Check); 17] = [
+pub const ALL: [(&str, Check); 22] = [
     ("bell_pair_agrees", bell_pair_agrees),
     ("coin_is_put_back", coin_is_put_back),
     ("teleport_moves_the_state", teleport_moves_the_state),
@@ -54,6 +62,20 @@ pub const ALL: [(&str, Check); 17] = [
     ),
     ("fourier_adder_adds", fourier_adder_adds),
     ("fourier_run_adds_one_and_one", fourier_run_adds_one_and_one),
+    ("multiplier_multiplies", multiplier_multiplies),
+    (
+        "multiplier_and_back_is_no_change",
+        multiplier_and_back_is_no_change,
+    ),
+    (
+        "multiplier_as_printed_loses_carries",
+        multiplier_as_printed_loses_carries,
+    ),
+    ("multiplier_run_gives_nine", multiplier_run_gives_nine),
+    (
+        "fourier_by_slices_is_the_same",
+        fourier_by_slices_is_the_same,
+    ),
     ("reversed_lists_are_mirrored", reversed_lists_are_mirrored),
     ("lists_of_both_calls_agree", lists_of_both_calls_agree),
 ];
@@ -320,6 +342,7 @@ pub fn reversed_lists_are_mirrored(calls: &Calls) -> Answer {
         (LOOP_DOWN, "down", "down_reversed"),
         (QFT, "qft", "unqft"),
         (QFT, "add", "sub"),
+        (MULTIPLIER, "mult", "unmult"),
     ];
     for (text, forward, backward) in pairs {
         for n in 0..12 {

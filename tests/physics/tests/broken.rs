@@ -1,4 +1,5 @@
-//! The checks notice unrollers that are wrong in ways that look finished.
+//! The checks notice unrollers that are wrong in ways that look finished, and
+//! multipliers with wrong slices.
 
 use physics::{checks, Calls, Outcome, REFERENCE};
 use reference::RECORD_BYTES;
@@ -132,21 +133,30 @@ const FOURIER: [&str; 3] = [
     "fourier_adder_adds",
 ];
 
+/// The checks of what the multiplier's families give.
+const MULTIPLIER: [&str; 2] = [
+    "multiplier_multiplies",
+    "multiplier_as_printed_loses_carries",
+];
+
 #[test]
 fn inverse_phases_that_are_not_exchanged_are_noticed() {
-    let due = [&FOURIER[1..], &["reversed_lists_are_mirrored"]].concat();
+    let mirrored = ["reversed_lists_are_mirrored"];
+    let due = [&FOURIER[1..], &MULTIPLIER, &mirrored].concat();
     assert_eq!(failing(&NO_INVERSE_PHASES), due);
 }
 
 #[test]
 fn a_k_that_is_one_off_is_noticed() {
-    assert_eq!(failing(&LARGER_K), [FOURIER[0], FOURIER[2]]);
-    assert_eq!(failing(&SMALLER_K), [FOURIER[0], FOURIER[2]]);
+    let due = [&[FOURIER[0], FOURIER[2]], &MULTIPLIER[..]].concat();
+    assert_eq!(failing(&LARGER_K), due);
+    assert_eq!(failing(&SMALLER_K), due[..3]);
 }
 
 #[test]
 fn a_phase_on_another_pair_of_wires_is_noticed() {
-    assert_eq!(failing(&OTHER_PAIR), [FOURIER[0], FOURIER[2]]);
+    let due = [&[FOURIER[0], FOURIER[2]], &MULTIPLIER[..]].concat();
+    assert_eq!(failing(&OTHER_PAIR), due);
 }
 
 #[test]
@@ -169,6 +179,9 @@ fn a_missing_record_is_noticed() {
         "fourier_and_back_is_no_change",
         "fourier_adder_adds",
         "fourier_run_adds_one_and_one",
+        "multiplier_multiplies",
+        "multiplier_and_back_is_no_change",
+        "multiplier_run_gives_nine",
     ] {
         assert!(failed.contains(&name), "{name}");
     }
@@ -184,4 +197,26 @@ fn forgotten_conditions_are_noticed() {
 fn writing_nothing_and_refusing_all_are_noticed() {
     assert!(failing(&SILENT).len() >= 10);
     assert_eq!(failing(&REFUSING).len(), checks::ALL.len());
+}
+
+/// Shows that a multiplier with another slice is accepted and does not multiply two bits by two.
+fn wrong_slice(right: &str, wrong: &str) {
+    assert!(checks::MULTIPLIER.contains(right), "{right}");
+    let text = checks::MULTIPLIER.replace(right, wrong);
+    let bytes = programs::assemble(&text).unwrap().bytes;
+    assert_eq!(reference::check(&bytes).number, 0, "{wrong}");
+    assert!(
+        checks::multiplies(&REFERENCE, &text, "mult", 2).is_err(),
+        "{wrong}"
+    );
+}
+
+#[test]
+fn wrong_slices_are_noticed() {
+    wrong_slice("x[0..n-i]", "x[i-1..n-1]");
+    wrong_slice("b[j..n+m-1]", "b[0..n+m-1-j]");
+    wrong_slice("z[i..i+n]", "z[n-1-i..2*n-1-i]");
+    wrong_slice("(n, 1)(x[i], y, z[i..i+n])", "(n, 0)(x[i], y, z[i+1..i+n])");
+    wrong_slice("(n, 1)(x[i], y, z[i..i+n])", "(n, 0)(x[i], y, z[i..i+n-1])");
+    checks::multiplies(&REFERENCE, checks::MULTIPLIER, "mult", 2).unwrap();
 }

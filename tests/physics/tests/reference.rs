@@ -29,6 +29,11 @@ with_the_reference! {
     fourier_and_back_is_no_change
     fourier_adder_adds
     fourier_run_adds_one_and_one
+    multiplier_multiplies
+    multiplier_and_back_is_no_change
+    multiplier_as_printed_loses_carries
+    multiplier_run_gives_nine
+    fourier_by_slices_is_the_same
     reversed_lists_are_mirrored
     lists_of_both_calls_agree
 }

@@ -87,7 +87,8 @@ fn refuse<T>(place: usize, message: impl Into<String>) -> Result<T, ByteError> {
 fn head_length(tag: u8) -> usize {
     match tag {
         tags::FAMILY | tags::QREG | tags::CREG | tags::LONG_CALL | tags::LITERAL => 2,
-        tags::IF | tags::CALL | tags::WHOLE | tags::ELEMENT | tags::VARIABLE => 1,
+        tags::IF | tags::CALL | tags::VARIABLE => 1,
+        tags::WHOLE | tags::ELEMENT | tags::SLICE => 1,
         _ => 0,
     }
 }
@@ -100,6 +101,7 @@ fn parts_due(tag: u8, head: &[u8]) -> (Vec<Class>, Option<Class>) {
             Some(Class::Statement),
         ),
         tags::QBITS | tags::ELEMENT => (vec![Class::Index], None),
+        tags::SLICE => (vec![Class::Index; 2], None),
         tags::SUM | tags::DIFFERENCE | tags::PRODUCT => (vec![Class::Index; 2], None),
         tags::MEASURE | tags::CX => (vec![Class::Operand; 2], None),
         tags::RESET | tags::H | tags::T | tags::TDG => (vec![Class::Operand], None),

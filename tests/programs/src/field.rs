@@ -24,6 +24,7 @@ pub mod tags {
     pub const CPHASE: u8 = 41;
     pub const WHOLE: u8 = 48;
     pub const ELEMENT: u8 = 49;
+    pub const SLICE: u8 = 50;
     pub const LITERAL: u8 = 64;
     pub const VARIABLE: u8 = 65;
     pub const SUM: u8 = 66;
@@ -69,7 +70,7 @@ pub mod tags {
 
     /// Whether a field with this tag is an operand.
     pub fn is_operand(tag: u8) -> bool {
-        matches!(tag, WHOLE | ELEMENT)
+        (WHOLE..=SLICE).contains(&tag)
     }
 
     /// Whether a field with this tag stands at the top only.

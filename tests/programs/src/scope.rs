@@ -145,9 +145,10 @@ impl Scope<'_> {
     /// The text of an operand.
     pub fn operand(&self, field: &Field) -> String {
         let name = self.operand_name(usize::from(field.head[0]));
-        match field.parts.first() {
-            None => name,
-            Some(index) => format!("{name}[{}]", self.index(index)),
+        match &field.parts[..] {
+            [] => name,
+            [index] => format!("{name}[{}]", self.index(index)),
+            [first, last, ..] => format!("{name}[{}..{}]", self.index(first), self.index(last)),
         }
     }
 

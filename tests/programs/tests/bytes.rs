@@ -176,6 +176,47 @@ fn calls() {
 }
 
 #[test]
+fn slices() {
+    let start = "family(n) f(x: Qbit[n]) {} qreg q[5];";
+    let bytes = "01 09 00 01 01 11 04 00 41 01 00 00 02 02 00 05 00";
+    let literal = |number: &str| format!("40 02 00 {number} 00");
+    let (one, three) = (literal("01"), literal("03"));
+    let call = format!("{bytes} 24 14 00 00 {three} 32 0b 00 00 {one} {three}");
+    for slice in [
+        "q[1..3]",
+        "q[1 .. 3]",
+        "q [ 1.. 3 ]",
+        "q[(1)..(3)]",
+        "#0[1..3]",
+    ] {
+        gives(&format!("{start} f(3)({slice});"), &call);
+    }
+    gives(
+        &format!("{start} f(0)(q[5..4]);"),
+        &format!(
+            "{bytes} 24 14 00 00 {} 32 0b 00 00 {} {}",
+            literal("00"),
+            literal("05"),
+            literal("04")
+        ),
+    );
+}
+
+#[test]
+fn slices_have_indexes_at_both_ends() {
+    let (n, i, one) = ("41 01 00 00", "41 01 00 01", "40 02 00 01 00");
+    let sum = format!("42 08 00 {i} {n}");
+    let last = format!("43 10 00 {sum} {one}");
+    gives(
+        "gate g(a: Qbit) {} family(n) f(z: Qbit[2*n]) { for i=0..n-1 { g(z[i..i+n-1]) } }",
+        &format!(
+            "01 05 00 00 01 10 00 00 01 44 00 01 01 11 0c 00 44 09 00 40 02 00 02 00 {n} \
+             26 30 00 40 02 00 00 00 43 09 00 {n} {one} 24 1c 00 00 32 18 00 00 {i} {last}"
+        ),
+    );
+}
+
+#[test]
 fn families_from_256_on_are_called_by_two_bytes() {
     let gates = (0..299).map(|number| format!("gate f{number}(a: Qbit) {{}}\n"));
     let before: String = gates.collect();
@@ -193,6 +234,10 @@ fn what_the_checker_refuses_can_be_written() {
     gives("h #7;", "20 04 00 30 01 00 07");
     gives("h #7[#9];", "20 08 00 31 05 00 07 41 01 00 09");
     gives("phase(#9) #7;", "28 08 00 41 01 00 09 30 01 00 07");
+    gives(
+        "h #7[#9..#8];",
+        "20 0c 00 32 09 00 07 41 01 00 09 41 01 00 08",
+    );
     gives("#3(1)(#0);", "24 0a 00 03 40 02 00 01 00 30 01 00 00");
     gives("#255(); #256();", "24 01 00 ff 27 02 00 00 01");
     gives("##3(1)(#0);", "27 0b 00 03 00 40 02 00 01 00 30 01 00 00");

@@ -204,3 +204,26 @@ fn every_row_has_its_marks_in_order() {
     }
     assert!(marks > 5000 && phases > 100, "{marks}, {phases}");
 }
+
+/// What is said of slices that are not shown, or of the wrong kind.
+const OF_SLICES: [&str; 5] = [
+    ": the first index ",
+    ": the last index ",
+    ": its number of cells is not shown",
+    "]' has ",
+    " is a slice of ",
+];
+
+#[test]
+fn slices_are_explained() {
+    let mut found = [0; OF_SLICES.len()];
+    for seed in 0..6000 {
+        let (_, output, messages) = tool(&["check", "--bytes", "-"], &case(seed).program);
+        if matches!(number(&output), 9 | 12) {
+            for (count, words) in found.iter_mut().zip(OF_SLICES) {
+                *count += usize::from(messages.contains(words));
+            }
+        }
+    }
+    assert!(found.iter().all(|count| *count > 3), "{found:?}");
+}

@@ -112,6 +112,92 @@ fn registers_that_are_too_small() {
     );
 }
 
+/// Shows what is said of a slice of x: Qbit[n], handed over for n cells with i from 0 to n - 1.
+fn slice_not_shown(slice: &str, details: &str) {
+    let text = format!(
+        "family(k) f(y: Qbit[k]) {{}}
+         family(n) g(x: Qbit[n]) {{ for i = 0..n-1 {{ f(n)({slice}); }} }}"
+    );
+    not_shown(&text, details);
+}
+
+#[test]
+fn slices_that_start_below_zero() {
+    slice_not_shown(
+        "x[i-1..i]",
+        "x[i - 1..i]: the first index i - 1 is not shown to be 0 or more: \
+         it comes to -1 with i at its low bound 0",
+    );
+    slice_not_shown(
+        "x[0-n..n]",
+        "x[0 - n..n]: the first index 0 - n is not shown to be 0 or more: \
+         it comes to -n, which falls below 0 as n grows",
+    );
+}
+
+#[test]
+fn slices_that_end_past_the_size() {
+    slice_not_shown(
+        "x[0..n]",
+        "x[0..n]: the last index n, which is in the slice, is not shown to be below the size n: \
+         size - 1 - last comes to -1",
+    );
+    slice_not_shown(
+        "x[i..i+1]",
+        "x[i..i + 1]: the last index i + 1, which is in the slice, is not shown to be below the \
+         size n: size - 1 - last comes to -1 with i at its high bound n - 1",
+    );
+    mend(
+        "family(k) f(y: Qbit[k]) {}\nqreg q[3];\nf(2)(q[2..3]);",
+        "3:6",
+        "end 12 26 0 0\n",
+        12,
+        "q[2..3]: the last index 3, which is in the slice, is not shown to be below the size 3: \
+         size - 1 - last comes to -1",
+    );
+}
+
+#[test]
+fn slices_with_fewer_cells_than_none() {
+    slice_not_shown(
+        "x[n..i]",
+        "x[n..i]: its number of cells is not shown to be 0 or more: last - first + 1 comes to \
+         -n + 1 with i at its low bound 0, which falls below 0 as n grows",
+    );
+    not_shown(
+        "family(k) f(y: Qbit[k]) {} qreg q[5]; f(0)(q[3..1]);",
+        "q[3..1]: its number of cells is not shown to be 0 or more: last - first + 1 comes to -1",
+    );
+}
+
+#[test]
+fn slices_that_are_too_small() {
+    slice_not_shown(
+        "x[i..n-1]",
+        "'x[i..n - 1]' has n - i cells, and 'y' of 'f' takes n here: \
+         the one less the other comes to -n + 1 with i at its high bound n - 1, \
+         which falls below 0 as n grows",
+    );
+    not_shown(
+        "family(n) f(x: Qbit[n+1]) {} qreg q[5]; f(0)(q[5..4]);",
+        "'q[5..4]' has 0 cells, and 'x' of 'f' takes 1 here: the one less the other comes to -1",
+    );
+    let accepted = "family(n) f(x: Qbit[n]) {} qreg q[5]; f(0)(q[5..4]); f(1)(q[1..4]);";
+    gives(&["check", "-"], accepted, 0, "end 0 0 0 0\n", "");
+}
+
+#[test]
+fn slices_in_calls_by_two_bytes() {
+    not_shown(
+        &format!(
+            "{}family(k) f(x: Qbit[k]) {{}} qreg q[5]; f(1)(q[1..5]);",
+            families(256)
+        ),
+        "q[1..5]: the last index 5, which is in the slice, is not shown to be below the size 5: \
+         size - 1 - last comes to -1",
+    );
+}
+
 #[test]
 fn details_of_bytes_have_invented_names() {
     let text = "family(n) f(x: Qbit[n]) { h x[0]; }";
@@ -221,7 +307,8 @@ fn operands_of_the_wrong_kind() {
     );
     kind(
         "family(n) f(x: Qbit[n]) {} qreg q[2]; f(2)(q[0]);",
-        "'f' takes a whole register of qubits here, and q[0] is one qubit: write q",
+        "'f' takes a register of qubits here, and q[0] is one qubit: \
+         write q, or the slice q[0..0]",
     );
     kind(
         "qreg q[2]; measure q[0] -> q[1];",
@@ -230,6 +317,37 @@ fn operands_of_the_wrong_kind() {
     kind(
         "creg c[2]; t c[1];",
         "t takes one qubit here, and c[1] is a bit",
+    );
+}
+
+#[test]
+fn slices_of_the_wrong_kind() {
+    let one = "is a slice of a register of qubits: write q[1], or another element";
+    kind(
+        "qreg q[3]; h q[1..2];",
+        &format!("h takes one qubit here, and q[1..2] {one}"),
+    );
+    kind(
+        "gate g(a: Qbit) {} qreg q[3]; g(q[1..1]);",
+        &format!("'g' takes one qubit here, and q[1..1] {one}"),
+    );
+    kind(
+        "qreg q[3]; creg c[2]; measure q[0] -> c[0..1];",
+        "measure takes one bit of a creg here, and c[0..1] is a slice of a register of bits: \
+         write c[0], or another element",
+    );
+    kind(
+        "gate g(a: Qbit) { h a[0..0]; }",
+        "h takes one qubit here, and a[0..0] is a slice of what is one qubit: write a",
+    );
+    let f = "family(n) f(x: Qbit[n]) {}";
+    kind(
+        &format!("{f} creg c[2]; f(2)(c[0..1]);"),
+        "'f' takes a register of qubits here, and c[0..1] is a slice of a register of bits",
+    );
+    kind(
+        &format!("{f} gate g(a: Qbit) {{ f(1)(a[0..0]); }}"),
+        "'f' takes a register of qubits here, and a[0..0] is a slice of what is one qubit",
     );
 }
 
@@ -275,6 +393,24 @@ fn counts_and_numbers() {
         "end 8 8 0 0\n",
         8,
         "#3 is asked for, and there is 1 register here, number 0",
+    );
+}
+
+#[test]
+fn slices_out_of_scope() {
+    mend(
+        "family(n) f(x: Qbit[n]) {} gate g(a: Qbit, b: Qbit) { f(1)(#2[#9..#8]); }",
+        "1:60",
+        "end 8 32 0 0\n",
+        8,
+        "#2 is asked for, and there are 2 parameters here, from number 0 on",
+    );
+    mend(
+        "family(n) f(x: Qbit[n]) {} qreg q[3]; f(1)(q[0..#0]);",
+        "1:49",
+        "end 8 35 0 0\n",
+        8,
+        "#0 is asked for, and there is no index variable here",
     );
 }
 
@@ -402,6 +538,13 @@ fn numbers_out_of_range() {
         "end 11 15 0 0\n",
         11,
         "it is built for x[40000 * 50000]",
+    );
+    mend(
+        "family(k) f(x: Qbit[k]) {}\nfamily(n) g(x: Qbit[n]) { f(0)(x[0..40000*50000]); }",
+        "2:32",
+        "end 11 33 0 0\n",
+        11,
+        "it is built for x[0..40000 * 50000]",
     );
 }
 

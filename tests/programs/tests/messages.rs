@@ -213,6 +213,31 @@ fn phases_without_their_parts() {
 }
 
 #[test]
+fn slices_without_their_parts() {
+    let start = "family(n) f(x: Qbit[n]) {} qreg q[5];\n";
+    let call = |slice: &str, message: &str| says(&format!("{start}f(2)({slice});"), message);
+    let more = "expected ']', or '..' and the last index of a slice (as q[0..2])";
+    call("q[1 3]", &format!("2:10: {more}, found '3'"));
+    call("q[1:3]", &format!("2:9: {more}, found ':'"));
+    call("q[1,3]", &format!("2:9: {more}, found ','"));
+    call("q[1", &format!("2:9: {more}, found ')'"));
+    call("q[1..3", "2:12: expected ']', found ')'");
+    call("q[1..3..4]", "2:12: expected ']', found '..'");
+    call("q[1..]", "2:11: expected an index, found ']'");
+    call("q[..3]", "2:8: expected an index, found '..'");
+    call("q[1.3]", "2:9: the character '.' has no meaning here");
+    call("q[1...3]", "2:11: the character '.' has no meaning here");
+    call("q[1..m]", "2:11: no index variable named 'm' here");
+    call("q[1..65536]", "2:11: the number 65536 is above 65535");
+    call("q[1..3][0]", "2:13: expected ',', found '['");
+    says("qreg q[0..2];", "1:9: expected ']', found '..'");
+    says(
+        "family(n) f(x: Qbit[0..n]) {}",
+        "1:22: expected ']', found '..'",
+    );
+}
+
+#[test]
 fn sizes_where_operands_are_due() {
     says(
         "family(n) f(x: Qbit[n]) {} f(3);",
@@ -315,6 +340,34 @@ fn phases_that_do_not_read() {
     says_of_bytes(
         &[42, 0, 0],
         "byte 0: a declaration or statement is due here, and tag 42 is none",
+    );
+}
+
+#[test]
+fn slices_that_do_not_read() {
+    let call = |slice: &[u8]| {
+        let length = 1 + slice.len() as u8;
+        [&[0x24, length, 0, 0], slice].concat()
+    };
+    says_of_bytes(
+        &call(&[50, 0, 0]),
+        "byte 4: this field ends before its own bytes do",
+    );
+    for one_or_none in [&[50, 1, 0, 0][..], &[50, 6, 0, 0, 64, 2, 0, 1, 0]] {
+        let missing = "byte 4: this field ends where an index is due";
+        says_of_bytes(&call(one_or_none), missing);
+    }
+    says_of_bytes(
+        &call(&[50, 9, 0, 0, 64, 2, 0, 1, 0, 48, 0, 0]),
+        "byte 13: an index is due here, and tag 48 is none",
+    );
+    says_of_bytes(
+        &call(&[50, 10, 0, 0, 65, 1, 0, 0, 65, 1, 0, 0, 0]),
+        "byte 4: this field has bytes left over",
+    );
+    says_of_bytes(
+        &call(&[51, 0, 0]),
+        "byte 4: an index or operand is due here, and tag 51 is none",
     );
 }
 

@@ -40,8 +40,12 @@ fn index(dice: &mut Dice, depth: usize) -> Vec<u8> {
 
 fn operand(dice: &mut Dice) -> Vec<u8> {
     let number = dice.byte(4);
-    match dice.below(3) {
+    match dice.below(4) {
         0 => field(48, vec![number]),
+        1 => {
+            let (first, last) = (index(dice, 1), index(dice, 1));
+            field(50, [vec![number], first, last].concat())
+        }
         _ => field(49, [vec![number], index(dice, 1)].concat()),
     }
 }
@@ -179,11 +183,14 @@ family(n0) f0(x0: Qbit[n0 + 1], x1: Qbit) {
             phase(n0) x1;
         }
         cphase(i1 + 2 * n0) x0[i1], x1;
+        ##0(i1)(x0[i1..i1 + n0 - 1], x1);
     }
 }
 qreg q0[3];
 creg c1[1];
 f0(2)(q0, q0[0]);
+f0(1)(q0[1..2], q0[0]);
+f0(0)(q0[3 - 1..(1 + 1) * 1], #9[#3..0]);
 measure q0[0] -> c1[0];
 reset q0[1];
 phase(0) q0[2];

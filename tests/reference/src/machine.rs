@@ -4,7 +4,7 @@ use crate::bytes::{refuse, Refusal};
 use crate::form::{in_range, OutOfRange, VARIABLES};
 use crate::tree::{
     Action, Argument, Bit, BitOperand, Call, Cphase, Gate, Index, Loop, Parameter, Program,
-    Register, Statement, Wire, WireOperand,
+    Register, Slice, Statement, Wire, WireOperand,
 };
 use crate::Outcome;
 
@@ -380,11 +380,17 @@ impl Frame<'_> {
             },
             WireOperand::Element(number, index) => {
                 let value = evaluate(index, &self.values, place)?;
-                match self.meanings[usize::from(*number)] {
-                    Meaning::Wires { first, size } => Ok(Wire(first.0 + inside(value, size))),
-                    _ => stuck("an element's operand is no quantum register"),
-                }
+                let (first, size) = self.wires(*number);
+                Ok(Wire(first.0 + inside(value, size)))
             }
+        }
+    }
+
+    /// The first wire and the size of what a number stands for.
+    fn wires(&self, number: u8) -> (Wire, u16) {
+        match self.meanings[usize::from(number)] {
+            Meaning::Wires { first, size } => (first, size),
+            _ => stuck("the operand of an element or slice is no quantum register"),
         }
     }
 
@@ -403,7 +409,20 @@ impl Frame<'_> {
         match argument {
             Argument::Wire(wire) => Ok(Meaning::Wire(self.wire(wire, place)?)),
             Argument::Register(number) => Ok(self.meanings[usize::from(*number)]),
+            Argument::Slice(slice) => self.slice(slice, place),
         }
+    }
+
+    /// The run of wires that a slice stands for.
+    fn slice(&self, slice: &Slice, place: u32) -> Result<Meaning, End> {
+        let from = evaluate(&slice.first, &self.values, place)?;
+        let to = evaluate(&slice.last, &self.values, place)?;
+        let (first, size) = self.wires(slice.number);
+        let (skipped, size) = span(from, to, size);
+        Ok(Meaning::Wires {
+            first: Wire(first.0 + skipped),
+            size,
+        })
     }
 }
 
@@ -451,6 +470,16 @@ fn inside(value: i64, size: u16) -> u16 {
     match u16::try_from(value) {
         Ok(number) if number < size => number,
         _ => stuck("an element lies outside its register"),
+    }
+}
+
+/// How many wires of a register come before a slice and how many it has, which typing
+/// shows to lie inside.
+fn span(from: i64, to: i64, size: u16) -> (u16, u16) {
+    let behind = i64::from(size) - 1 - to;
+    match (u16::try_from(from), u16::try_from(to - from + 1)) {
+        (Ok(skipped), Ok(held)) if behind >= 0 => (skipped, held),
+        _ => stuck("a slice lies outside its register"),
     }
 }
 

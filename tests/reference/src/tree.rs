@@ -67,6 +67,14 @@ pub struct BitOperand(pub u8, pub Index);
 pub enum Argument {
     Wire(WireOperand),
     Register(u8),
+    Slice(Box<Slice>),
+}
+
+/// The part of a register from a first to a last element; it may be empty.
+pub struct Slice {
+    pub number: u8,
+    pub first: Index,
+    pub last: Index,
 }
 
 /// A gate on one wire.

@@ -2,7 +2,6 @@
 use borrow.Author.Needs.{needs}
 use Rattle.check_operand.proofs.element.Statement.{statement}
 use Rattle.check_operand.proofs.element.Tie as tie
-use borrow.Author.Needs.{needs}
 use mathlib.Core.Path.{_≡_, ap, _∙_}
 use mathlib.Core.List.{List, []}
 use Prim.Native.Nat.{ℕ, _+_}
@@ -175,7 +174,7 @@ returns-5 c =
     let size = asForm (widened (getD (now (a .sizes)) (sizeOfRow (getD (now (a .kinds)) row 0)) [])) in
     let fits = c .before .before .element-kind .ensures .0 size (now (a .size)) ∙ ap (λ (k : Kind). elementSize (a .at) d (kindIn k size)) (c .before .before .before .kind-by .ensures ∙ ap (λ (j : ℕ). kindOfRow (getD (now (a .kinds)) (a .s .first + j) 0)) v) in
     let good : (fs : List Signature) → (elementSize (a .at) d k >>= λ size. checkWithin (a .at) (scopeAt fs (a .s) (now (a .kinds)) (now (a .sizes)) (now (a .lows)) (now (a .highs))) size (asForm l)) ≡ checkOperand (scopeAt fs (a .s) (now (a .kinds)) (now (a .sizes)) (now (a .lows)) (now (a .highs))) d (readElement (a .at) (slice from (a .next) program)) = λ fs. element-good (scopeAt fs (a .s) (now (a .kinds)) (now (a .sizes)) (now (a .lows)) (now (a .highs))) d (a .at) (slice from (a .next) program) n program (a .next) e k get (c .before .before .before .before .before .before .before .before .before .index .result) l (c .before .before .before .before .before .before .before .before .before .index .ensures .0 ∙ scope-forms fs ks (a .s .variables) (a .s .loops) (now (a .lows)) (now (a .highs)) i) end (c .before .before .before .before .before .before .before .r .given .1) (u .0) (c .before .before .before .before .before .if3 .left) in
-    (λ fs. kind-stops (scopeAt fs (a .s) (now (a .kinds)) (now (a .sizes)) (now (a .lows)) (now (a .highs))) d (a .at) k size (asForm l) (c .before .before .element-kind .result) fits (c .before .match2 .keys2) ∙ good fs, ends-stops (c .before .before .element-kind .result) (a .next) (c .before .match2 .keys2))
+    (λ fs. kind-stops (elementSize (a .at) d k) (λ m. checkWithin (a .at) (scopeAt fs (a .s) (now (a .kinds)) (now (a .sizes)) (now (a .lows)) (now (a .highs))) m (asForm l)) size (c .before .before .element-kind .result) fits (c .before .match2 .keys2) ∙ good fs, ends-stops (c .before .before .element-kind .result) (a .next) (c .before .match2 .keys2))
 
 size-by-requires : tie.Need-size-by-requires
 size-by-requires c κs =
@@ -236,7 +235,7 @@ returns-6 c =
     let good : (fs : List Signature) → (elementSize (a .at) d k >>= λ size. checkWithin (a .at) (scopeAt fs (a .s) (now (a .kinds)) (now (a .sizes)) (now (a .lows)) (now (a .highs))) size (asForm l)) ≡ checkOperand (scopeAt fs (a .s) (now (a .kinds)) (now (a .sizes)) (now (a .lows)) (now (a .highs))) d (readElement (a .at) (slice from (a .next) program)) = λ fs. element-good (scopeAt fs (a .s) (now (a .kinds)) (now (a .sizes)) (now (a .lows)) (now (a .highs))) d (a .at) (slice from (a .next) program) n program (a .next) e k get (c .before .before .before .before .before .before .before .before .before .before .before .before .before .index .result) l (c .before .before .before .before .before .before .before .before .before .before .before .before .before .index .ensures .0 ∙ scope-forms fs ks (a .s .variables) (a .s .loops) (now (a .lows)) (now (a .highs)) i) end (c .before .before .before .before .before .before .before .before .before .before .before .r .given .1) (u .0) (c .before .before .before .before .before .before .before .before .before .if3 .left) in (
       λ fs. c .within .ensures .0 fs ks
           ∙ ap (λ (j : ℕ). checkWithin (a .at) (scopeAt fs (a .s) (now (a .kinds)) (now (a .sizes)) (now (a .lows)) (now (a .highs))) (asForm (widened (getD (now (a .sizes)) j []))) (asForm l)) (c .before .before .before .size-by .ensures ∙ ap (λ (j : ℕ). sizeOfRow (getD (now (a .kinds)) (a .s .first + j) 0)) v)
-          ∙ kind-goes (scopeAt fs (a .s) (now (a .kinds)) (now (a .sizes)) (now (a .lows)) (now (a .highs))) d (a .at) k size (asForm l) (c .before .before .before .before .before .before .element-kind .result) fits (c .before .before .before .before .before .match2 .keys1)
+          ∙ kind-goes (elementSize (a .at) d k) (λ m. checkWithin (a .at) (scopeAt fs (a .s) (now (a .kinds)) (now (a .sizes)) (now (a .lows)) (now (a .highs))) m (asForm l)) size (c .before .before .before .before .before .before .element-kind .result) fits (c .before .before .before .before .before .match2 .keys1)
           ∙ good fs,
       c .within .ensures .1,
     )

@@ -9,7 +9,7 @@ use Rattle.fields.proofs.Headers.{when-whole, when-end, when-cut}
 use Rattle.check_index.specs.Answers.{checkedPart}
 use Rattle.check_operand.specs.Tables.{scopeAt}
 use Rattle.check_operand.specs.Operands.{wantedOf}
-use Rattle.check_operand.proofs.Operands.{operand-end, operand-cut, operand-whole, operand-element, operand-other}
+use Rattle.check_operand.proofs.Operands.{operand-end, operand-cut, operand-whole, operand-element, operand-slice, operand-other}
 use Rattle.check_index.proofs.Answers.{ends-passes}
 
 header-at-requires : tie.Need-header-at-requires
@@ -52,6 +52,18 @@ element-requires c κs =
     let k = c .before .before .before .before .before .before .before .pre .0 in
     ((w .low, omega arith), c .before .before .before .before .before .before .before .pre .1 .1)
 
+part-requires : tie.Need-part-requires
+part-requires c κs =
+    let a = c .before .before .before .before .before .before .before .args in
+    let program = now (a .program) in
+    let d = wantedOf (a .wanted) (now (a .size)) in
+    let tag = c .before .before .tag .given .0 .0 in
+    let next = c .before .before .tag .given .0 .1 .0 in
+    let w = when-whole program (a .at) (a .to) tag next (c .before .before .before .before .before .before .before .pre .0) (sym (c .before .before .before .before .header-at .ensures) ∙ c .before .before .tag .given .1) in
+    let h = w .high in
+    let k = c .before .before .before .before .before .before .before .pre .0 in
+    ((w .low, omega arith), (c .before .before .before .before .before .before .before .pre .1 .0, c .before .before .before .before .before .before .before .pre .1 .1))
+
 returns : tie.Need-returns
 unfolding checkedPart
 returns c =
@@ -93,8 +105,20 @@ returns-4 c =
     (λ fs. c .element .ensures .0 fs ∙ operand-element (scopeAt fs (a .s) (now (a .kinds)) (now (a .sizes)) (now (a .lows)) (now (a .highs))) d program (a .at) (a .to) (a .parent) tag next w (c .before .match2 .keys2), ends-passes program (a .at) (a .to) tag next (c .element .result) w (c .element .ensures .1))
 
 returns-5 : tie.Need-returns-5
-unfolding checkedPart
 returns-5 c =
+    let a = c .before .before .before .before .before .before .before .before .args in
+    let program = now (a .program) in
+    let d = wantedOf (a .wanted) (now (a .size)) in
+    let tag = c .before .before .before .tag .given .0 .0 in
+    let next = c .before .before .before .tag .given .0 .1 .0 in
+    let w = when-whole program (a .at) (a .to) tag next (c .before .before .before .before .before .before .before .before .pre .0) (sym (c .before .before .before .before .before .header-at .ensures) ∙ c .before .before .before .tag .given .1) in
+    let h = w .high in
+    let k = c .before .before .before .before .before .before .before .before .pre .0 in
+    (λ fs. c .part .ensures .0 fs ∙ operand-slice (scopeAt fs (a .s) (now (a .kinds)) (now (a .sizes)) (now (a .lows)) (now (a .highs))) d program (a .at) (a .to) (a .parent) tag next w (c .before .match2 .keys3), ends-passes program (a .at) (a .to) tag next (c .part .result) w (c .part .ensures .1))
+
+returns-6 : tie.Need-returns-6
+unfolding checkedPart
+returns-6 c =
     let a = c .before .before .before .before .before .before .before .args in
     let program = now (a .program) in
     let d = wantedOf (a .wanted) (now (a .size)) in
@@ -103,7 +127,7 @@ returns-5 c =
     let w = when-whole program (a .at) (a .to) tag next (c .before .before .before .before .before .before .before .pre .0) (sym (c .before .before .before .before .header-at .ensures) ∙ c .before .before .tag .given .1) in
     let h = w .high in
     let k = c .before .before .before .before .before .before .before .pre .0 in
-    (λ fs. operand-other (scopeAt fs (a .s) (now (a .kinds)) (now (a .sizes)) (now (a .lows)) (now (a .highs))) d program (a .at) (a .to) (a .parent) tag next w (c .match2 .rest .0 .1) (c .match2 .rest .1), tt)
+    (λ fs. operand-other (scopeAt fs (a .s) (now (a .kinds)) (now (a .sizes)) (now (a .lows)) (now (a .highs))) d program (a .at) (a .to) (a .parent) tag next w (c .match2 .rest .0 .0 .1) (c .match2 .rest .0 .1) (c .match2 .rest .1), tt)
 
 pub operand-spec : {M : Type 1} → statement M
 operand-spec =
@@ -115,8 +139,10 @@ operand-spec =
     enum-known-tag
     whole-requires
     element-requires
+    part-requires
     returns
     returns-2
     returns-3
     returns-4
-    returns-5)
+    returns-5
+    returns-6)

@@ -20,4 +20,4 @@ pub +list+one-statement+repeated-spec : {M : Type 1} → statement M
     (λ t. one-statement-lts.spec (one-statement-calls t) (one-statement-at t) one-statement.Post
     (OneStatement.too-deep-requires t) (OneStatement.returns t) (OneStatement.sub-below t) (OneStatement.add-from t) (OneStatement.statement-tag-requires t) (OneStatement.enum-told t) (OneStatement.one-wire-requires t) (OneStatement.enum-told-2 t) (OneStatement.two-wires-requires t) (OneStatement.enum-told-3 t) (OneStatement.phase-requires t) (OneStatement.enum-told-4 t) (OneStatement.cphase-requires t) (OneStatement.enum-told-5 t) (OneStatement.call-requires t) (OneStatement.enum-told-6 t) (OneStatement.list-requires t) (OneStatement.enum-told-7 t) (OneStatement.repeated-requires t) (OneStatement.enum-told-8 t) (OneStatement.returns-2 t) (OneStatement.returns-3 t) (OneStatement.returns-4 t) (OneStatement.returns-5 t) (OneStatement.returns-6 t) (OneStatement.returns-7 t) (OneStatement.returns-8 t) (OneStatement.returns-9 t))
     (λ t. repeated-lts.spec (repeated-calls t) (repeated-at t) repeated.Post
-    (Repeated.returns t) (Repeated.add-loops t) (Repeated.add-variables t) (Repeated.loop-bounds-requires t) (Repeated.enum-known-r t) (Repeated.enum-told t) (Repeated.returns-2 t) (Repeated.mul-inner-lows t) (Repeated.array-set-from-inner-lows t) (Repeated.mul-inner-highs t) (Repeated.array-set-from-inner-highs t) (Repeated.list-requires t) (Repeated.returns-3 t))
+    (Repeated.returns t) (Repeated.add-loops t) (Repeated.add-variables t) (Repeated.add-inside t) (Repeated.two-indexes-requires t) (Repeated.enum-known-r t) (Repeated.enum-told t) (Repeated.returns-2 t) (Repeated.mul-inner-lows t) (Repeated.array-set-from-inner-lows t) (Repeated.mul-inner-highs t) (Repeated.array-set-from-inner-highs t) (Repeated.list-requires t) (Repeated.returns-3 t))

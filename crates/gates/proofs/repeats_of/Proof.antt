@@ -10,9 +10,11 @@ use lib.IntN.{_-ℤ_}
 use Rattle.language.specs.Form.{inRange}
 use Rattle.language.specs.Machine.{startOf, roundsOf}
 use Rattle.language.proofs.Integers.{range-back}
-use Rattle.gates.specs.declared.Bounds.the-variants.{Are}
-use Rattle.gates.specs.Gates.{directionOf, Bounded, Looped}
-use Rattle.gates.proofs.RoundValues.{bounded-body, start-between}
+use Rattle.indexes.specs.declared.Bounds.the-variants.{Are}
+use Rattle.indexes.specs.Bounds.{Bounded}
+use Rattle.gates.specs.Gates.{directionOf, Looped}
+use Rattle.indexes.proofs.TwoBounds.{bounds-behind}
+use Rattle.gates.proofs.RoundValues.{start-between}
 
 returns : tie.Need-returns
 returns c =
@@ -44,7 +46,7 @@ tally-requires c κs =
     let x = c .before .before .x .given .0 .0 in
     let y = c .before .before .x .given .0 .1 .0 in
     let b : Bounded (now (a .bytes)) (a .from) (a .to) (take (a .many) (now (a .vars))) (Are x y (c .before .before .x .given .0 .1 .1 .0)) = rw (c .before .before .x .given .1) at (c .before .before .before .before .bounds-of .ensures) in
-    let d = bounded-body b in
+    let d = bounds-behind b in
     rw (range-back {z = x} (d .low), range-back {z = y} (d .high)) (d .low, d .high)
 
 returns-2 : tie.Need-returns-2
@@ -64,7 +66,7 @@ returns-4 c =
     let x = c .before .before .before .x .given .0 .0 in
     let y = c .before .before .before .x .given .0 .1 .0 in
     let b : Bounded (now (a .bytes)) (a .from) (a .to) (take (a .many) (now (a .vars))) (Are x y (c .before .before .before .x .given .0 .1 .1 .0)) = rw (c .before .before .before .x .given .1) at (c .before .before .before .before .before .bounds-of .ensures) in
-    let d = bounded-body b in
+    let d = bounds-behind b in
     let f : c .before .first-value .result ≡ startOf (directionOf (a .reversed)) x y = rw (range-back {z = x} (d .low), range-back {z = y} (d .high)) at (c .before .first-value .ensures) in
     let t : c .tally .result ≡ roundsOf (y -ℤ x) = rw (range-back {z = x} (d .low), range-back {z = y} (d .high)) at (c .tally .ensures .0) in
     let s : inRange (c .before .first-value .result) ≡ true = ap inRange f ∙ start-between (a .reversed) x y (d .low) (d .high) in

@@ -23,7 +23,7 @@ two-bytes-requires c κs = search needs
 returns-2 : tie.Need-returns-2
 returns-2 c =
     let a = c .before .before .before .args in
-    (c .two-bytes .ensures .0 ∙ sym (size-is (now (a .program)) (a .from) (a .to) (omega arith) (omega arith)), c .two-bytes .ensures .1)
+    (c .two-bytes .ensures .0 ∙ sym (size-is (now (a .program)) (a .from) (a .to) (omega arith) (omega arith)), omega (arith, c .two-bytes .ensures .1))
 
 pub register-size-spec : {M : Type 1} → statement M
 register-size-spec = tie.close (tie.spec sub-if1 returns two-bytes-requires returns-2)

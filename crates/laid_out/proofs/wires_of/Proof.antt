@@ -7,44 +7,27 @@ use Rattle.language.specs.Sound.{wiresIn}
 use Rattle.operands.specs.Meanings.{parameterOf}
 
 enum-told : tie.Need-enum-told
-enum-told c = search needs
+enum-told c =
+    search needs
 
 enum-known-operand : tie.Need-enum-known-operand
-enum-known-operand c = search needs
+enum-known-operand c =
+    search needs
 
-long-requires : tie.Need-long-requires
-long-requires c κs = search needs
-
-sub-room : tie.Need-sub-room
-sub-room c = search needs
-
-long-requires-2 : tie.Need-long-requires-2
-long-requires-2 c κs = search needs
+room-of-requires : tie.Need-room-of-requires
+room-of-requires c κs =
+    search needs
 
 returns : tie.Need-returns
 unfolding wiresIn parameterOf
 returns c =
-    (rw (c .before .before .before .before .operand .given .1) (omega (arith, c .before .before .long .ensures, c .before .long2 .ensures)), omega (arith, c .before .before .long .ensures, c .before .long2 .ensures))
+    (rw (c .enum-told .given .1) (omega arith), omega arith)
 
 returns-2 : tie.Need-returns-2
 unfolding wiresIn parameterOf
 returns-2 c =
-    (rw (c .enum-told .given .1) (omega arith), omega arith)
-
-returns-3 : tie.Need-returns-3
-unfolding wiresIn parameterOf
-returns-3 c =
-    (rw (c .before .before .before .before .operand .given .1) (omega (arith, c .before .before .long .ensures, c .before .long2 .ensures)), omega (arith, c .before .before .long .ensures, c .before .long2 .ensures))
+    (rw (c .before .before .operand .given .1) (omega (arith, c .room-of .ensures)), omega (arith, c .room-of .ensures))
 
 pub wires-of-spec : {M : Type 1} → statement M
 wires-of-spec =
-    tie.close
-    (tie.spec
-    enum-told
-    enum-known-operand
-    long-requires
-    sub-room
-    long-requires-2
-    returns
-    returns-2
-    returns-3)
+    tie.close (tie.spec enum-told enum-known-operand room-of-requires returns returns-2)

@@ -113,10 +113,28 @@ fn calls(family: u16, times: u16) -> Vec<Field> {
     vec![qreg(1), repeat(literal(1), literal(times), vec![once])]
 }
 
+/// Lists that are written through slices: z[i..i+n-1] in a loop, two wires each time, and
+/// slices of slices.
+fn sliced() -> Vec<Workload> {
+    let product = programs::multiplier();
+    let gates = 15 * 100 * 100;
+    let pairs = programs::neighbours();
+    let mut deep = programs::shortened(254);
+    let once = call(253, vec![], vec![whole(0)]);
+    deep.extend([qreg(254), repeat(literal(1), literal(2_000), vec![once])]);
+    vec![
+        Workload::instance("multiplier, 400 wires", &product, (2, &[100]), gates),
+        Workload::instance("multiplier reversed", &product, (3, &[100]), gates),
+        Workload::instance("pairs by slices", &pairs, (1, &[65_534]), 65_534),
+        Workload::run("slices of slices", &deep, 2_000),
+    ]
+}
+
 /// Everything that is measured.
 fn workloads() -> Vec<Workload> {
     let mut rows = checks();
     rows.extend(lists());
+    rows.extend(sliced());
     rows.extend(small_calls());
     rows.extend(printed());
     rows
@@ -144,6 +162,7 @@ fn checks() -> Vec<Workload> {
         Workload::check("check, a full library", &library),
         Workload::check("check, 4,000 families", &small),
         Workload::check("check, the slowest", &slow::slowest_check()),
+        Workload::check("check, slices", &slow::sliced_check()),
     ]
 }
 

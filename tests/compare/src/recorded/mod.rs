@@ -5,6 +5,7 @@ mod families;
 mod limits;
 mod phases;
 mod refusals;
+mod slices;
 mod states;
 mod texts;
 
@@ -44,6 +45,7 @@ pub fn recorded() -> Vec<Recorded> {
     rows.extend(limits::rows());
     rows.extend(families::rows());
     rows.extend(phases::rows());
+    rows.extend(slices::rows());
     rows.extend(states::rows());
     rows.extend(texts::rows());
     rows

@@ -37,6 +37,10 @@ fn print(first: u64, count: u64) -> Result<(), String> {
         "{} cases, {} accepted, {} with records, {} records, {} in the longest list",
         histogram.cases, histogram.accepted, histogram.listed, histogram.records, histogram.longest,
     );
+    println!(
+        "{} accepted with slices, {} with records through slices",
+        histogram.sliced, histogram.through_slices,
+    );
     let (numbers, ops) = (histogram.missing(), histogram.missing_ops());
     match numbers.is_empty() && ops.is_empty() {
         true => Ok(()),

@@ -23,7 +23,7 @@ fn gate(k: Field, wires: [Field; 2], random: &mut Random) -> Field {
 }
 
 /// A statement as it is, reversed, in a loop of two rounds, or with a gate before it.
-fn around(statement: Field, random: &mut Random) -> Vec<Field> {
+pub(super) fn around(statement: Field, random: &mut Random) -> Vec<Field> {
     match random.below(4) {
         0 => vec![reverse(vec![statement, h(at(0, 0))])],
         1 => vec![repeat(literal(1), literal(2), vec![statement])],

@@ -20,39 +20,77 @@ enum Due {
     Bit,
 }
 
+/// How an operand is written.
+#[derive(Clone, Copy, PartialEq)]
+enum Shape {
+    Whole,
+    Element,
+    Slice,
+}
+
 /// What is due at an operand of the wrong kind, and what is there.
 pub fn wrong_kind(found: &Found) -> Option<String> {
     let (field, scope) = (found.field(), &found.scope);
     let (taker, due) = due(found)?;
-    let is_element = field.tag == Some(tags::ELEMENT);
+    let shape = shape(field)?;
     let kind = kind(usize::from(field.head[0]), scope)?;
-    let there = match (kind, is_element) {
-        (Kind::Qubit, true) => "is an element of what is one qubit",
-        (Kind::Qubit, false) => "is one qubit",
-        (Kind::Qubits, true) => "is one qubit",
-        (Kind::Qubits, false) => "is a whole register of qubits",
-        (Kind::Bits, true) => "is a bit",
-        (Kind::Bits, false) => "is a whole register of bits",
-    };
     let takes = match due {
         Due::Qubit => "one qubit",
-        Due::Qubits => "a whole register of qubits",
+        Due::Qubits => "a register of qubits",
         Due::Bit => "one bit of a creg",
     };
-    let name = scope.operand_name(usize::from(field.head[0]));
-    let mend = match (due, kind, is_element) {
-        (Due::Qubit, Kind::Qubit, true) | (Due::Qubits, Kind::Qubits, true) => {
-            format!(": write {name}")
-        }
-        (Due::Qubit, Kind::Qubits, false) | (Due::Bit, Kind::Bits, false) => {
-            format!(": write {name}[0], or another element")
-        }
-        _ => String::new(),
-    };
-    let operand = scope.operand(field);
     Some(format!(
-        "{taker} takes {takes} here, and {operand} {there}{mend}"
+        "{taker} takes {takes} here, and {} {}{}",
+        scope.operand(field),
+        there(kind, shape),
+        mend(due, kind, field, scope).unwrap_or_default()
     ))
+}
+
+/// How an operand is written, by its tag.
+fn shape(operand: &Field) -> Option<Shape> {
+    match operand.tag? {
+        tags::WHOLE => Some(Shape::Whole),
+        tags::ELEMENT => Some(Shape::Element),
+        tags::SLICE => Some(Shape::Slice),
+        _ => None,
+    }
+}
+
+/// What an operand is.
+fn there(kind: Kind, shape: Shape) -> &'static str {
+    match (kind, shape) {
+        (Kind::Qubit, Shape::Whole) => "is one qubit",
+        (Kind::Qubit, Shape::Element) => "is an element of what is one qubit",
+        (Kind::Qubit, Shape::Slice) => "is a slice of what is one qubit",
+        (Kind::Qubits, Shape::Whole) => "is a whole register of qubits",
+        (Kind::Qubits, Shape::Element) => "is one qubit",
+        (Kind::Qubits, Shape::Slice) => "is a slice of a register of qubits",
+        (Kind::Bits, Shape::Whole) => "is a whole register of bits",
+        (Kind::Bits, Shape::Element) => "is a bit",
+        (Kind::Bits, Shape::Slice) => "is a slice of a register of bits",
+    }
+}
+
+/// What to write instead, where the name is one that can stand there.
+fn mend(due: Due, kind: Kind, operand: &Field, scope: &Scope) -> Option<String> {
+    let name = scope.operand_name(usize::from(operand.head[0]));
+    match (due, kind, &operand.parts[..]) {
+        (Due::Qubit, Kind::Qubit, [_, ..]) => Some(format!(": write {name}")),
+        (Due::Qubits, Kind::Qubits, [index]) => {
+            let index = scope.index(index);
+            Some(format!(
+                ": write {name}, or the slice {name}[{index}..{index}]"
+            ))
+        }
+        (Due::Qubit, Kind::Qubits, parts) | (Due::Bit, Kind::Bits, parts) => {
+            let index = parts
+                .first()
+                .map_or("0".to_string(), |one| scope.index(one));
+            Some(format!(": write {name}[{index}], or another element"))
+        }
+        _ => None,
+    }
 }
 
 /// What a name stands for.

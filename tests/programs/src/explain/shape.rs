@@ -142,7 +142,7 @@ fn out_of_scope(field: &Field, scope: &Scope) -> Option<String> {
     let (what, count) = match field.tag? {
         tags::CALL | tags::LONG_CALL => ("family", scope.families.len()),
         tags::VARIABLE => ("index variable", scope.variables()),
-        tags::WHOLE | tags::ELEMENT => match scope.inside {
+        tags::WHOLE | tags::ELEMENT | tags::SLICE => match scope.inside {
             Some(family) => ("parameter", parameter_count(family)),
             None => ("register", scope.registers.len()),
         },

@@ -19,6 +19,9 @@ pub fn not_shown(found: &Found) -> Option<String> {
             natural("size", &field.parts[0], &of, scope)
         }
         (tags::WHOLE, tags::CALL | tags::LONG_CALL) => argument(found, around),
+        (tags::SLICE, tags::CALL | tags::LONG_CALL) => {
+            slice(field, scope).or_else(|| argument(found, around))
+        }
         (_, tags::CALL | tags::LONG_CALL) => {
             let number = called_number(around);
             let called = scope.families.get(number)?;
@@ -52,6 +55,35 @@ fn element(field: &Field, scope: &Scope) -> Option<String> {
     ))
 }
 
+/// A slice's own showings: where it starts, where it ends, and how many cells it has.
+fn slice(field: &Field, scope: &Scope) -> Option<String> {
+    let [first_field, last_field] = &field.parts[..] else {
+        return None;
+    };
+    let (variables, operand) = (scope.variables(), scope.operand(field));
+    let first = Form::of(first_field, variables)?;
+    let last = Form::of(last_field, variables)?;
+    if let Some(reason) = below_zero(&first, scope) {
+        let text = scope.index(first_field);
+        return Some(format!(
+            "{operand}: the first index {text} is not shown to be 0 or more: it {reason}"
+        ));
+    }
+    let (size, size_text) = size_of(usize::from(field.head[0]), scope)?;
+    let one = Form::constant(1, variables);
+    if let Some(reason) = below_zero(&size.plus(-1, &one).plus(-1, &last), scope) {
+        let text = scope.index(last_field);
+        return Some(format!(
+            "{operand}: the last index {text}, which is in the slice, is not shown to be below \
+             the size {size_text}: size - 1 - last {reason}"
+        ));
+    }
+    let reason = below_zero(&last.plus(-1, &first).plus(1, &one), scope)?;
+    Some(format!(
+        "{operand}: its number of cells is not shown to be 0 or more: last - first + 1 {reason}"
+    ))
+}
+
 /// A size or a k, which must be 0 or more.
 fn natural(what: &str, index: &Field, of: &str, scope: &Scope) -> Option<String> {
     let reason = below_zero(&Form::of(index, scope.variables())?, scope)?;
@@ -61,7 +93,7 @@ fn natural(what: &str, index: &Field, of: &str, scope: &Scope) -> Option<String>
     ))
 }
 
-/// A register handed to a parameter that asks for more cells.
+/// A register or slice handed to a parameter that asks for more cells.
 fn argument(found: &Found, call: &Field) -> Option<String> {
     let scope = &found.scope;
     let number = called_number(call);
@@ -74,7 +106,7 @@ fn argument(found: &Found, call: &Field) -> Option<String> {
     for (factor, size) in asked.factors.iter().zip(sizes) {
         due = due.plus(*factor, &Form::of(size, scope.variables())?);
     }
-    let (has, has_text) = size_of(usize::from(field.head[0]), scope)?;
+    let (has, has_text) = cells(field, scope)?;
     let reason = below_zero(&has.plus(-1, &due), scope)?;
     Some(format!(
         "'{}' has {has_text} cells, and '{}' of '{}' takes {} here: \
@@ -84,6 +116,19 @@ fn argument(found: &Found, call: &Field) -> Option<String> {
         scope.family(number),
         due.text(|variable| scope.variable(variable)),
     ))
+}
+
+/// How many cells a register or slice has, as a form and as text.
+fn cells(operand: &Field, scope: &Scope) -> Option<(Form, String)> {
+    let [first, last] = &operand.parts[..] else {
+        return size_of(usize::from(operand.head[0]), scope);
+    };
+    let variables = scope.variables();
+    let count = Form::of(last, variables)?
+        .plus(-1, &Form::of(first, variables)?)
+        .plus(1, &Form::constant(1, variables));
+    let text = count.text(|variable| scope.variable(variable));
+    Some((count, text))
 }
 
 /// The size of a register or parameter as a form and as text.

@@ -6,7 +6,7 @@ use crate::token::{Spot, TextError, Token, Word};
 
 /// Operands and indexes.
 impl Parser {
-    /// `x`, `x[i]`, `#2` or `#2[i]`.
+    /// `x`, `x[i]` or `x[i..j]`; also `#2`, `#2[i]` or `#2[i..j]`.
     pub(super) fn operand(&mut self) -> Answer<Field> {
         let Token { word, spot } = self.take();
         let number = match word {
@@ -21,8 +21,15 @@ impl Parser {
             return field(tags::WHOLE, vec![number], vec![], spot);
         }
         let index = self.index()?;
+        if self.accept("]") {
+            return field(tags::ELEMENT, vec![number], vec![index], spot);
+        }
+        if !self.accept("..") {
+            return self.wrong("']', or '..' and the last index of a slice (as q[0..2])");
+        }
+        let last = self.index()?;
         self.expect("]")?;
-        field(tags::ELEMENT, vec![number], vec![index], spot)
+        field(tags::SLICE, vec![number], vec![index, last], spot)
     }
 
     /// The number of the register or parameter of a name.

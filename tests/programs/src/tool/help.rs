@@ -49,9 +49,12 @@ The text form, by example:
   h q[0]; t q[0]; tdg q[0]; cx q[0], q[1];      gates
   phase(3) q[0]; cphase(j-i+1) q[j], q[i];      phases: k, then operands
   f(4)(q, q[0]); g(q[1]);                       calls: sizes, then operands
+  f(2)(q[1..3], q[0]);                          a slice: cells 1, 2 and 3
   for i = 1..n { .. } reverse { .. }            loops and reversals
   measure q[0] -> c[1]; reset q[0];             at the top only
   if (c[0] == 1) { .. }                         at the top only
+A slice stands for a register: only a parameter Qbit[..] takes one. Its last
+cell is in it, and q[2..1] is empty.
 A phase turns by one turn divided by 2 to the k, and k goes from 0 to 63.
 Indexes are made of numbers up to 65535, names, +, -, * and parentheses.
 #3 is the operand, family or index variable of that number, in scope or not,

@@ -1,5 +1,5 @@
 -- What the borrow checker leaves of `repeated`. Assumes nothing.
-use Prim.Native.Nat.{ℕ, _+_, _-_, _<_}
+use Prim.Native.Nat.{ℕ, _+_, _<_}
 use Rattle.check_statement.proofs.+list+one_statement+repeated.Lts-repeated as lts
 use Rattle.check_statement.proofs.repeated.Reads.{Post}
 use Rattle.check_statement.proofs.+list+one_statement+repeated.Proof.Shared.{repeated-calls as calls, repeated-at as at}
@@ -17,8 +17,9 @@ use mathlib.Core.List.{List}
 use lib.ListN.{length}
 use Rattle.language.specs.Form.{Loop}
 use Rattle.forms.specs.Rows.{loopsOf}
-use Rattle.check_operand.proofs.Tables.{length-loops, rows-set}
-use Rattle.check_statement.proofs.Loops.{for-many, for-stops, for-good, loops-more, bounds-same, bounds-upto}
+use Rattle.check_index.proofs.TwoBounds.{bounds-upto}
+use Rattle.check_operand.proofs.Tables.{length-loops, bounds-same, rows-set}
+use Rattle.check_statement.proofs.Loops.{for-many, for-stops, for-good, loops-more}
 
 module _ (t : ℕ) where
   pub returns : lts.Need-returns (calls t) (at t) Post
@@ -42,11 +43,15 @@ module _ (t : ℕ) where
       let z = c .before .if1 .left in
       omega arith
 
-  pub loop-bounds-requires : lts.Need-loop-bounds-requires (calls t) (at t) Post
-  loop-bounds-requires c κs =
+  pub add-inside : lts.Need-add-inside (calls t) (at t) Post
+  add-inside c =
+      search needs
+
+  pub two-indexes-requires : lts.Need-two-indexes-requires (calls t) (at t) Post
+  two-indexes-requires c κs =
       let q = c .before .before .before .before .before .before .pre .1 .1 .0 .few in
       let z = c .before .before .before .if1 .left in
-      (c .before .before .before .before .before .before .pre .1 .0, omega arith)
+      (c .before .before .before .before .before .before .pre .1 .0 .1, omega arith)
 
   pub enum-known-r : lts.Need-enum-known-r (calls t) (at t) Post
   enum-known-r c =
@@ -65,11 +70,11 @@ module _ (t : ℕ) where
       let n = a .s .loops in
       let ks = kindsAt (a .s .count) (a .s .first) (now (a .kinds)) (now (a .sizes)) in
       let long = length-loops n (now (a .lows)) (now (a .highs)) in
-      let l = c .before .before .loop-bounds .last .1 .1 .1 .1 .0 in
-      let h = c .before .before .loop-bounds .last .1 .1 .1 .1 .1 .0 in
-      let e = c .before .before .loop-bounds .ensures .0 ∙ bounds-same fs ks (a .s .variables) n (now (a .lows)) (now (a .highs)) (a .at) (fieldsAt program (a .at + 3) (a .next)) in
+      let l = c .before .before .two-indexes .last .1 .1 .1 .1 .1 .0 in
+      let h = c .before .before .two-indexes .last .1 .1 .1 .1 .1 .1 .0 in
+      let e = c .before .before .two-indexes .ensures .0 ∙ bounds-same fs ks (a .s .variables) n (now (a .lows)) (now (a .highs)) (a .at) (fieldsAt program (a .at + 3) (a .next)) in
       let few : length (loopsOf n (now (a .lows)) (now (a .highs))) < 8 = (let z = c .before .before .before .before .before .before .if1 .left in omega arith) in
-      for-stops (readStatement (a .levels)) s program (a .at) (a .at + 3) (a .next) few (c .before .before .loop-bounds .result) l h e (c .before .match .keys2)
+      for-stops (readStatement (a .levels)) s program (a .at) (a .at + 3) (a .next) few (c .before .before .two-indexes .result) l h e (c .before .match .keys2)
 
   pub mul-inner-lows : lts.Need-mul-inner-lows (calls t) (at t) Post
   mul-inner-lows c =
@@ -96,12 +101,12 @@ module _ (t : ℕ) where
       let n = a .s .loops in
       let ks = kindsAt (a .s .count) (a .s .first) (now (a .kinds)) (now (a .sizes)) in
       let long = length-loops n (now (a .lows)) (now (a .highs)) in
-      let l = c .before .before .before .before .before .before .before .loop-bounds .last .1 .1 .1 .1 .0 in
-      let h = c .before .before .before .before .before .before .before .loop-bounds .last .1 .1 .1 .1 .1 .0 in
-      let e = c .before .before .before .before .before .before .before .loop-bounds .ensures .0 ∙ bounds-same fs ks (a .s .variables) n (now (a .lows)) (now (a .highs)) (a .at) (fieldsAt program (a .at + 3) (a .next)) in
+      let l = c .before .before .before .before .before .before .before .two-indexes .last .1 .1 .1 .1 .1 .0 in
+      let h = c .before .before .before .before .before .before .before .two-indexes .last .1 .1 .1 .1 .1 .1 .0 in
+      let e = c .before .before .before .before .before .before .before .two-indexes .ensures .0 ∙ bounds-same fs ks (a .s .variables) n (now (a .lows)) (now (a .highs)) (a .at) (fieldsAt program (a .at + 3) (a .next)) in
       let few : length (loopsOf n (now (a .lows)) (now (a .highs))) < 8 = (let z = c .before .before .before .before .before .before .before .before .before .before .before .if1 .left in omega arith) in
       let mid = c .before .before .before .before .before .r .given .0 .0 in
-      let v = bounds-upto program (a .at + 3) (a .next) (c .before .before .before .before .before .before .before .loop-bounds .result) l h mid (c .before .before .before .before .before .r .given .1) (c .before .before .before .before .before .before .before .loop-bounds .ensures .1) in
+      let v = bounds-upto program (a .at + 3) (a .next) (c .before .before .before .before .before .before .before .two-indexes .result) l h mid (c .before .before .before .before .before .r .given .1) (c .before .before .before .before .before .before .before .two-indexes .ensures .1) in
       let r = c .before .before .before .before .before .before .before .before .before .before .before .before .before .before .pre .1 .1 .0 in
       let d = c .before .before .before .before .before .before .before .before .before .before .before .before .before .before .pre .1 .1 .1 in
       let z = c .before .before .before .before .before .before .before .before .before .before .before .if1 .left in (
@@ -125,16 +130,16 @@ module _ (t : ℕ) where
       let n = a .s .loops in
       let ks = kindsAt (a .s .count) (a .s .first) (now (a .kinds)) (now (a .sizes)) in
       let long = length-loops n (now (a .lows)) (now (a .highs)) in
-      let l = c .before .before .before .before .before .before .before .before .loop-bounds .last .1 .1 .1 .1 .0 in
-      let h = c .before .before .before .before .before .before .before .before .loop-bounds .last .1 .1 .1 .1 .1 .0 in
-      let e = c .before .before .before .before .before .before .before .before .loop-bounds .ensures .0 ∙ bounds-same fs ks (a .s .variables) n (now (a .lows)) (now (a .highs)) (a .at) (fieldsAt program (a .at + 3) (a .next)) in
+      let l = c .before .before .before .before .before .before .before .before .two-indexes .last .1 .1 .1 .1 .1 .0 in
+      let h = c .before .before .before .before .before .before .before .before .two-indexes .last .1 .1 .1 .1 .1 .1 .0 in
+      let e = c .before .before .before .before .before .before .before .before .two-indexes .ensures .0 ∙ bounds-same fs ks (a .s .variables) n (now (a .lows)) (now (a .highs)) (a .at) (fieldsAt program (a .at + 3) (a .next)) in
       let few : length (loopsOf n (now (a .lows)) (now (a .highs))) < 8 = (let z = c .before .before .before .before .before .before .before .before .before .before .before .before .if1 .left in omega arith) in
       let mid = c .before .before .before .before .before .before .r .given .0 .0 in
-      let v = bounds-upto program (a .at + 3) (a .next) (c .before .before .before .before .before .before .before .before .loop-bounds .result) l h mid (c .before .before .before .before .before .before .r .given .1) (c .before .before .before .before .before .before .before .before .loop-bounds .ensures .1) in
+      let v = bounds-upto program (a .at + 3) (a .next) (c .before .before .before .before .before .before .before .before .two-indexes .result) l h mid (c .before .before .before .before .before .before .r .given .1) (c .before .before .before .before .before .before .before .before .two-indexes .ensures .1) in
       let r = c .before .before .before .before .before .before .before .before .before .before .before .before .before .before .before .pre .1 .1 .0 in
       let z = c .before .before .before .before .before .before .before .before .before .before .before .before .if1 .left in
       let x = r .lowRows .enough in
       let y = r .highRows .enough in
       c .list .ensures
       ∙ ap (λ (ls : List Loop). checkStatements (statementsBy (readStatement (a .levels)) (fieldsAt program mid (a .next))) (scopeWith fs ks (a .s .variables) ls)) (loops-more n (now (a .lows)) (now (a .highs)) l h (omega arith) (omega arith))
-      ∙ for-good (readStatement (a .levels)) s program (a .at) (a .at + 3) (a .next) few (c .before .before .before .before .before .before .before .before .loop-bounds .result) l h e mid (c .before .before .before .before .before .before .r .given .1) (v .0)
+      ∙ for-good (readStatement (a .levels)) s program (a .at) (a .at + 3) (a .next) few (c .before .before .before .before .before .before .before .before .two-indexes .result) l h e mid (c .before .before .before .before .before .before .r .given .1) (v .0)

@@ -12,11 +12,11 @@ use Rattle.check_statement.proofs.repeated.Reads as repeated
 use Rattle.check_statement.proofs.repeated.Kinds as repeated-kinds
 use Rattle.check_statement.proofs.+list+one_statement+repeated.Lts-repeated as repeated-lts
 use Rattle.check_call.proofs.call.Reads as call-reads
+use Rattle.check_index.proofs.two_indexes.Reads as two-indexes-reads
 use Rattle.check_operand.proofs.one_wire.Reads as one-wire-reads
 use Rattle.check_operand.proofs.two_wires.Reads as two-wires-reads
 use Rattle.check_phase.proofs.cphase.Reads as cphase-reads
 use Rattle.check_phase.proofs.phase.Reads as phase-reads
-use Rattle.check_statement.proofs.loop_bounds.Reads as loop-bounds-reads
 use Rattle.check_statement.proofs.statement_tag.Reads as statement-tag-reads
 use Rattle.check_statement.proofs.too_deep.Reads as too-deep-reads
 use Rattle.fields.proofs.header_at.Reads as header-at-reads
@@ -65,4 +65,4 @@ one-statement-calls t = (too-deep-reads.Asked, too-deep-reads.Learnt, statement-
 
 -- what the calls of `repeated` ask and tell
 abbrev pub repeated-calls : ℕ → repeated-lts.Claims
-repeated-calls t = (loop-bounds-reads.Asked, loop-bounds-reads.Learnt, list-below t, list.Post)
+repeated-calls t = (two-indexes-reads.Asked, two-indexes-reads.Learnt, list-below t, list.Post)

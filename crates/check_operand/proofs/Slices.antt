@@ -1,0 +1,154 @@
+-- Slices: which kinds have them, where they lie, whether they fit, and the one at a place. Assumes nothing.
+use mathlib.Core.Path.{_≡_, refl, sym, ap, _∙_}
+use mathlib.Core.List.{List, [], _∷_}
+use mathlib.Core.Bool.{Bool}
+use mathlib.Core.Option.{Option, none, some}
+use Prim.Native.Nat.{ℕ, _+_, _≤_, _<_}
+use native.Mathlib.Omega.{arith}
+use lib.IntN.{ℤ}
+use lib.ListN.{length, drop, getElem?}
+use lib.Seq.{slice}
+use types.Run.{OneOf, miss}
+use denote.Enum.Declared.{tagOf}
+use Rattle.language.specs.Tree.{badIndex}
+use Rattle.language.specs.Read.{Field, ending, due, outerIndex, readSlice, sliceOf}
+use Rattle.language.specs.Form.{Form, Loop, Built, built, outOfRange}
+use Rattle.language.specs.Check.{Checked, good, refused, _>>=_, _>>_, noLeftover, inForm, inScope, formOf, Kind, mustShow, wholeFits, roomAfter, slicedSize, sliceSize, checkSlice, sliceFits, checkOperand}
+use Rattle.kinds.specs.declared.Kind.the-variants.{Qubit, Quantum, Classical}
+use Rattle.fields.specs.Header.{fieldsAt}
+use Rattle.forms.specs.Flat.{asForm}
+use Rattle.check_index.proofs.Read.{the-type}
+use Rattle.check_index.specs.Answers.{checkedForm, checkedPart, Beyond}
+use Rattle.check_index.specs.Bounds.{checkedBounds, boundsDue}
+use Rattle.check_index.specs.declared.Read.{Read}
+use Rattle.check_index.specs.declared.Read.the-variants.{Upto}
+use Rattle.check_index.proofs.Answers.{form-stops, form-goes, part-went, part-form-stops, part-form}
+use Rattle.check_index.proofs.TwoBounds.{bounds-are, bounds-end, bounds-then}
+use Rattle.check_operand.specs.Tables.{kindIn}
+use Rattle.check_operand.specs.Operands.{wantedOf, checkedSize}
+use Rattle.check_operand.specs.declared.Wanted.the-variants.{Wire, Bit, Register}
+use Rattle.check_operand.proofs.Operands.{left-long, left-good, kind-stops, kind-goes}
+use Rattle.kinds.proofs.Kind as K
+use Rattle.kinds.specs.declared.Kind as D
+use Rattle.language.specs.Check as C
+
+-- the kind k of an operand whose slice is due
+module _ (p : ℕ) (f : Form) (l : List ℤ) where
+  pub slice-no-wire : (k : Kind) → refused 9 p ≡ slicedSize p (wantedOf Wire l) k
+  unfolding wantedOf slicedSize
+  slice-no-wire k = refl
+
+  pub slice-no-bit : (k : Kind) → refused 9 p ≡ slicedSize p (wantedOf Bit l) k
+  unfolding wantedOf slicedSize
+  slice-no-bit k = refl
+
+  pub slice-register : (t : Bool) → good f ≡ slicedSize p (wantedOf (Register t) l) (kindIn Quantum f)
+  unfolding wantedOf slicedSize kindIn
+  slice-register t = refl
+
+  pub slice-no-register : (t : Bool) (k : D.Kind) → OneOf (0 ∷ 2 ∷ []) (tagOf K.the-type k) → refused 9 p ≡ slicedSize p (wantedOf (Register t) l) (kindIn k f)
+  unfolding wantedOf slicedSize kindIn
+  slice-no-register t Qubit h = refl
+  slice-no-register t Quantum h = absurd (miss (0 ∷ 2 ∷ []) 1 tt h)
+  slice-no-register t Classical h = refl
+
+-- a slice of a register of a size: what is shown of it, one after the other
+module _ (at : ℕ) (s : C.Scope) (size first last : Form) where
+  abbrev sizeShown : Built → Checked Form
+  sizeShown b = inForm at b >>= λ n. (mustShow at s (built n) >> good n)
+
+  abbrev lastShown : Checked Form
+  lastShown = mustShow at s (roomAfter size last) >> sizeShown (sliceSize first last)
+
+  module _ (r : Read) (e : checkedPart r ≡ mustShow at s (built first)) where
+    pub first-stops : (l : List ℤ) → OneOf (1 ∷ []) (tagOf the-type r) → checkedForm r l ≡ checkSlice at s size first last
+    unfolding checkSlice
+    first-stops l h = part-form-stops r l (mustShow at s (built first)) lastShown e h
+
+    module _ (h : OneOf (0 ∷ []) (tagOf the-type r)) (t : Read) (d : checkedPart t ≡ mustShow at s (roomAfter size last)) where
+      first-goes : checkSlice at s size first last ≡ lastShown
+      unfolding checkSlice
+      first-goes = part-went r (mustShow at s (built first)) lastShown e h
+
+      pub last-stops : (l : List ℤ) → OneOf (1 ∷ []) (tagOf the-type t) → checkedForm t l ≡ checkSlice at s size first last
+      last-stops l k = part-form-stops t l (mustShow at s (roomAfter size last)) (sizeShown (sliceSize first last)) d k ∙ sym first-goes
+
+      module _ (k : OneOf (0 ∷ []) (tagOf the-type t)) where
+        last-goes : checkSlice at s size first last ≡ sizeShown (sliceSize first last)
+        last-goes = first-goes ∙ part-went t (mustShow at s (roomAfter size last)) (sizeShown (sliceSize first last)) d k
+
+        pub size-outside : sliceSize first last ≡ outOfRange → refused 11 at ≡ checkSlice at s size first last
+        unfolding inForm _>>=_
+        size-outside q = sym (last-goes ∙ ap sizeShown q)
+
+        pub size-shown : (l : List ℤ) → sliceSize first last ≡ built (asForm l) → (u : Read) → checkedPart u ≡ mustShow at s (built (asForm l)) → checkedForm u l ≡ checkSlice at s size first last
+        unfolding inForm _>>=_
+        size-shown l q u v = part-form u l ∙ ap (λ (c : Checked (Unit {0})). c >> good (asForm l)) v ∙ sym (last-goes ∙ ap sizeShown q)
+
+-- whether a slice fits, from the answers on its kind and on where it lies
+module _ (at : ℕ) (s : C.Scope) (d : C.Due) (k : Kind) (size first last : Form) (r : Read) (e : checkedSize r size ≡ slicedSize at d k) where
+  abbrev sliced : Form → Checked (Unit {0})
+  sliced m = checkSlice at s m first last >>= λ n. wholeFits at s d (C.quantum n)
+
+  pub fits-stops : OneOf (1 ∷ []) (tagOf the-type r) → checkedPart r ≡ sliceFits at s d k first last
+  unfolding sliceFits
+  fits-stops h = kind-stops (slicedSize at d k) sliced size r e h
+
+  module _ (h : OneOf (0 ∷ []) (tagOf the-type r)) (t : Read) (l : List ℤ) (v : checkedForm t l ≡ checkSlice at s size first last) where
+    fits-goes : (checkedForm t l >>= λ n. wholeFits at s d (C.quantum n)) ≡ sliceFits at s d k first last
+    unfolding sliceFits
+    fits-goes = ap (λ (c : Checked Form). c >>= λ n. wholeFits at s d (C.quantum n)) v ∙ kind-goes (slicedSize at d k) sliced size r e h
+
+    pub lies-stops : OneOf (1 ∷ []) (tagOf the-type t) → checkedPart t ≡ sliceFits at s d k first last
+    lies-stops q = form-stops t l (λ n. wholeFits at s d (C.quantum n)) q ∙ fits-goes
+
+    pub lies-goes : OneOf (0 ∷ []) (tagOf the-type t) → wholeFits at s d (kindIn Quantum (asForm l)) ≡ sliceFits at s d k first last
+    unfolding kindIn
+    lies-goes q = sym (form-goes t l (λ n. wholeFits at s d (C.quantum n)) q) ∙ fits-goes
+
+module _ (s : C.Scope) (d : C.Due) (at : ℕ) (content : List ℕ) where
+  pub slice-empty : content ≡ [] → refused 4 at ≡ checkOperand s d (readSlice at content)
+  unfolding checkOperand readSlice
+  slice-empty e = sym (ap (λ (l : List ℕ). checkOperand s d (readSlice at l)) e)
+
+  module _ (n : ℕ) (program : List ℕ) (next : ℕ) (e : content ≡ (n ∷ slice (at + 3 + 1) next program)) where
+    abbrev inside : List Field
+    inside = fieldsAt program (at + 4) next
+
+    abbrev fits : Kind → Loop → Checked (Unit {0})
+    fits k b = noLeftover at (ending (drop 2 inside)) >> sliceFits at s d k (b .low) (b .high)
+
+    abbrev bounded : Kind → Checked (Unit {0})
+    bounded k = formOf s (due outerIndex (badIndex 4 at) inside) >>= λ f. (formOf s (due outerIndex (badIndex 4 at) (drop 1 inside)) >>= λ l. (noLeftover at (ending (drop 2 inside)) >> sliceFits at s d k f l))
+
+    slice-is : checkOperand s d (readSlice at content) ≡ (inScope at (getElem? (s .operands) n) >>= bounded)
+    unfolding checkOperand readSlice sliceOf fieldsAt
+    slice-is =
+        let q : at + 3 + 1 ≡ at + 4 = omega arith in
+        ap (λ (l : List ℕ). checkOperand s d (readSlice at l)) (e ∙ ap (λ (k : ℕ). n ∷ slice k next program) q)
+
+    pub slice-beyond : getElem? (s .operands) n ≡ none → refused 8 at ≡ checkOperand s d (readSlice at content)
+    unfolding inScope _>>=_
+    slice-beyond q = sym (slice-is ∙ ap (λ (o : Option Kind). inScope at o >>= bounded) q)
+
+    module _ (k : Kind) (q : getElem? (s .operands) n ≡ some k) (r : Read) (l h : List ℤ) (t : checkedBounds r l h ≡ boundsDue s at inside) where
+      slice-some : checkOperand s d (readSlice at content) ≡ (checkedBounds r l h >>= fits k)
+      unfolding inScope _>>=_
+      slice-some =
+          slice-is ∙ ap (λ (o : Option Kind). inScope at o >>= bounded) q
+          ∙ sym (bounds-are s (due outerIndex (badIndex 4 at) inside) (due outerIndex (badIndex 4 at) (drop 1 inside)) (fits k)) ∙ ap (λ (c : Checked Loop). c >>= fits k) (sym t)
+
+      pub slice-stops : OneOf (1 ∷ []) (tagOf the-type r) → checkedPart r ≡ checkOperand s d (readSlice at content)
+      slice-stops z = bounds-end r l h (fits k) z ∙ sym slice-some
+
+      module _ (end : ℕ) (u : r ≡ Upto end) (v : Beyond program (at + 4) next 2 end) where
+        slice-end : checkOperand s d (readSlice at content) ≡ (noLeftover at (ending (fieldsAt program end next)) >> sliceFits at s d k (asForm l) (asForm h))
+        slice-end =
+            slice-some ∙ bounds-then r l h end (fits k) u
+            ∙ ap (λ (fs : List Field). noLeftover at (ending fs) >> sliceFits at s d k (asForm l) (asForm h)) (v .rest)
+
+        pub slice-long : end < next → next ≤ length program → refused 4 at ≡ checkOperand s d (readSlice at content)
+        slice-long z w = left-long program at end next (sliceFits at s d k (asForm l) (asForm h)) z w ∙ sym slice-end
+
+        pub slice-good : next ≤ end → sliceFits at s d k (asForm l) (asForm h) ≡ checkOperand s d (readSlice at content)
+        slice-good z = left-good program at end next (sliceFits at s d k (asForm l) (asForm h)) z ∙ sym slice-end

@@ -1,0 +1,13 @@
+OPENQASM 2.0;
+include "qelib1.inc";
+qreg q[6];
+h q[1];
+h q[2];
+h q[3];
+h q[4];
+h q[5];
+h q[5];
+h q[4];
+h q[5];
+h q[4];
+h q[3];
