@@ -1,7 +1,7 @@
 // The numbers laid out: the qubits and bits that a program declares, and the wires of an instance.
 ghost use mathlib.Core.Path.{_≡_};
 ghost use mathlib.Core.List.{[], _∷_, map};
-ghost use Prim.Native.Nat.{_<_, _≤_};
+ghost use Prim.Native.Nat.{_≤_};
 ghost use lib.ListN.{length, take};
 ghost use lib.Seq.{slice};
 ghost use Rattle.language.specs.Limits.{longestProgram, mostParameters};
