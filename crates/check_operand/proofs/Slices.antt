@@ -1,4 +1,4 @@
--- Slices: which kinds have them, where they lie, whether they fit, and the one at a place. Assumes nothing.
+-- Slices: where they lie, whether they fit, and the one at a place. Assumes nothing.
 use mathlib.Core.Path.{_≡_, refl, sym, ap, _∙_}
 use mathlib.Core.List.{List, [], _∷_}
 use mathlib.Core.Bool.{Bool}
@@ -25,32 +25,14 @@ use Rattle.check_index.specs.declared.Read.the-variants.{Upto}
 use Rattle.check_index.proofs.Answers.{form-stops, form-goes, part-went, part-form-stops, part-form}
 use Rattle.check_index.proofs.TwoBounds.{bounds-are, bounds-end, bounds-then}
 use Rattle.check_operand.specs.Tables.{kindIn}
-use Rattle.check_operand.specs.Operands.{wantedOf, checkedSize}
+use Rattle.check_operand.specs.Operands.{wantedOf}
+use Rattle.check_operand.specs.declared.Wanted.{Wanted}
 use Rattle.check_operand.specs.declared.Wanted.the-variants.{Wire, Bit, Register}
-use Rattle.check_operand.proofs.Operands.{left-long, left-good, kind-stops, kind-goes}
+use Rattle.check_operand.proofs.Wanted.{the-type as wanted-type}
+use Rattle.check_operand.proofs.Operands.{left-long, left-good}
 use Rattle.kinds.proofs.Kind as K
 use Rattle.kinds.specs.declared.Kind as D
 use Rattle.language.specs.Check as C
-
--- the kind k of an operand whose slice is due
-module _ (p : ℕ) (f : Form) (l : List ℤ) where
-  pub slice-no-wire : (k : Kind) → refused 9 p ≡ slicedSize p (wantedOf Wire l) k
-  unfolding wantedOf slicedSize
-  slice-no-wire k = refl
-
-  pub slice-no-bit : (k : Kind) → refused 9 p ≡ slicedSize p (wantedOf Bit l) k
-  unfolding wantedOf slicedSize
-  slice-no-bit k = refl
-
-  pub slice-register : (t : Bool) → good f ≡ slicedSize p (wantedOf (Register t) l) (kindIn Quantum f)
-  unfolding wantedOf slicedSize kindIn
-  slice-register t = refl
-
-  pub slice-no-register : (t : Bool) (k : D.Kind) → OneOf (0 ∷ 2 ∷ []) (tagOf K.the-type k) → refused 9 p ≡ slicedSize p (wantedOf (Register t) l) (kindIn k f)
-  unfolding wantedOf slicedSize kindIn
-  slice-no-register t Qubit h = refl
-  slice-no-register t Quantum h = absurd (miss (0 ∷ 2 ∷ []) 1 tt h)
-  slice-no-register t Classical h = refl
 
 -- a slice of a register of a size: what is shown of it, one after the other
 module _ (at : ℕ) (s : C.Scope) (size first last : Form) where
@@ -85,26 +67,31 @@ module _ (at : ℕ) (s : C.Scope) (size first last : Form) where
         unfolding inForm _>>=_
         size-shown l q u v = part-form u l ∙ ap (λ (c : Checked (Unit {0})). c >> good (asForm l)) v ∙ sym (last-goes ∙ ap sizeShown q)
 
--- whether a slice fits, from the answers on its kind and on where it lies
-module _ (at : ℕ) (s : C.Scope) (d : C.Due) (k : Kind) (size first last : Form) (r : Read) (e : checkedSize r size ≡ slicedSize at d k) where
-  abbrev sliced : Form → Checked (Unit {0})
-  sliced m = checkSlice at s m first last >>= λ n. wholeFits at s d (C.quantum n)
+-- whether a slice fits: not where no register is due or none stands there, else by the answer on where it lies
+module _ (at : ℕ) (s : C.Scope) (m : List ℤ) (size first last : Form) where
+  pub slice-unwanted : (w : Wanted) (k : Kind) → OneOf (0 ∷ 1 ∷ []) (tagOf wanted-type w) → refused 9 at ≡ sliceFits at s (wantedOf w m) k first last
+  unfolding sliceFits slicedSize wantedOf _>>=_
+  slice-unwanted Wire k h = refl
+  slice-unwanted Bit k h = refl
+  slice-unwanted (Register b) k h = absurd (miss (0 ∷ 1 ∷ []) 2 tt h)
 
-  pub fits-stops : OneOf (1 ∷ []) (tagOf the-type r) → checkedPart r ≡ sliceFits at s d k first last
-  unfolding sliceFits
-  fits-stops h = kind-stops (slicedSize at d k) sliced size r e h
+  pub slice-no-register : (b : Bool) (k : D.Kind) → OneOf (0 ∷ 2 ∷ []) (tagOf K.the-type k) → refused 9 at ≡ sliceFits at s (wantedOf (Register b) m) (kindIn k size) first last
+  unfolding sliceFits slicedSize wantedOf kindIn _>>=_
+  slice-no-register b Qubit h = refl
+  slice-no-register b Quantum h = absurd (miss (0 ∷ 2 ∷ []) 1 tt h)
+  slice-no-register b Classical h = refl
 
-  module _ (h : OneOf (0 ∷ []) (tagOf the-type r)) (t : Read) (l : List ℤ) (v : checkedForm t l ≡ checkSlice at s size first last) where
-    fits-goes : (checkedForm t l >>= λ n. wholeFits at s d (C.quantum n)) ≡ sliceFits at s d k first last
-    unfolding sliceFits
-    fits-goes = ap (λ (c : Checked Form). c >>= λ n. wholeFits at s d (C.quantum n)) v ∙ kind-goes (slicedSize at d k) sliced size r e h
+  module _ (b : Bool) (t : Read) (l : List ℤ) (v : checkedForm t l ≡ checkSlice at s size first last) where
+    fits-goes : (checkedForm t l >>= λ n. wholeFits at s (wantedOf (Register b) m) (C.quantum n)) ≡ sliceFits at s (wantedOf (Register b) m) (kindIn Quantum size) first last
+    unfolding sliceFits slicedSize wantedOf kindIn _>>=_
+    fits-goes = ap (λ (c : Checked Form). c >>= λ n. wholeFits at s (wantedOf (Register b) m) (C.quantum n)) v
 
-    pub lies-stops : OneOf (1 ∷ []) (tagOf the-type t) → checkedPart t ≡ sliceFits at s d k first last
-    lies-stops q = form-stops t l (λ n. wholeFits at s d (C.quantum n)) q ∙ fits-goes
+    pub lies-stops : OneOf (1 ∷ []) (tagOf the-type t) → checkedPart t ≡ sliceFits at s (wantedOf (Register b) m) (kindIn Quantum size) first last
+    lies-stops q = form-stops t l (λ n. wholeFits at s (wantedOf (Register b) m) (C.quantum n)) q ∙ fits-goes
 
-    pub lies-goes : OneOf (0 ∷ []) (tagOf the-type t) → wholeFits at s d (kindIn Quantum (asForm l)) ≡ sliceFits at s d k first last
+    pub lies-goes : OneOf (0 ∷ []) (tagOf the-type t) → wholeFits at s (wantedOf (Register b) m) (kindIn Quantum (asForm l)) ≡ sliceFits at s (wantedOf (Register b) m) (kindIn Quantum size) first last
     unfolding kindIn
-    lies-goes q = sym (form-goes t l (λ n. wholeFits at s d (C.quantum n)) q) ∙ fits-goes
+    lies-goes q = sym (form-goes t l (λ n. wholeFits at s (wantedOf (Register b) m) (C.quantum n)) q) ∙ fits-goes
 
 module _ (s : C.Scope) (d : C.Due) (at : ℕ) (content : List ℕ) where
   pub slice-empty : content ≡ [] → refused 4 at ≡ checkOperand s d (readSlice at content)

@@ -9,7 +9,7 @@ ghost use lib.IntN.{ℤ, pos};
 ghost use Rattle.language.specs.Tree.{badOperand};
 ghost use Rattle.language.specs.Read.{due, readOperand, readWhole, readElement, readSlice};
 ghost use Rattle.language.specs.Form.{Form, built, differenceOf, _thenBuild_};
-ghost use Rattle.language.specs.Check.{Kind, Signature, elementSize, roomAfter, mustShow, wire, wholeFits, checkWithin, sliceSize, slicedSize, checkSlice, sliceFits, checkOperand};
+ghost use Rattle.language.specs.Check.{Kind, Signature, elementSize, roomAfter, mustShow, wire, wholeFits, checkWithin, sliceSize, checkSlice, sliceFits, checkOperand};
 ghost use Rattle.language.specs.Limits.{allVariables};
 ghost use Rattle.fields.specs.Header.{fieldsAt};
 ghost use Rattle.forms.specs.Flat.{formNumbers, Kept, Short, widened, asForm, builtOf};
@@ -222,12 +222,12 @@ fn large_enough(
     Read::Refused(11, at)
 }
 
-// Whether an operand of a kind and an own size, which is then of no use, is what is due.
+// Whether an operand of a kind and an own size, taken whole, is what is due.
 fn whole_fits(
     wanted: Wanted,
     size: &Form,
     kind: kinds::Kind,
-    own: &mut Form,
+    own: &Size,
     at: usize,
     next: usize,
     variables: usize,
@@ -236,11 +236,11 @@ fn whole_fits(
     highs: &[Form],
 ) -> Read
     requires { ⌜ SizeRight wanted (now size) ⌝ }
-    requires { ⌜ Kept (now own) ⌝ }
+    requires { ⌜ Short (now own) ⌝ }
     requires { ⌜ variables + loops ≤ allVariables ⌝ }
     requires { ⌜ Rows (now lows) loops ⌝ }
     requires { ⌜ Rows (now highs) loops ⌝ }
-    ensures { λ r. ⌜ ((fs : List Signature) (ks : List Kind) → checkedPart r ≡ wholeFits at (scopeWith fs ks variables (loopsOf loops (now (lows .entry)) (now (highs .entry)))) (wantedOf wanted (now (size .entry))) (kindIn kind (asForm (now (own .entry))))) ⌝ }
+    ensures { λ r. ⌜ ((fs : List Signature) (ks : List Kind) → checkedPart r ≡ wholeFits at (scopeWith fs ks variables (loopsOf loops (now (lows .entry)) (now (highs .entry)))) (wantedOf wanted (now (size .entry))) (kindIn kind (asForm (widened (now (own .entry)))))) ⌝ }
     ensures { λ r. ⌜ EndsAt next r ⌝ }
 {
     match wanted {
@@ -251,7 +251,19 @@ fn whole_fits(
         Wanted::Bit => Read::Refused(9, at),
         Wanted::Register(known) => match kind {
             kinds::Kind::Quantum => {
-                large_enough(known, size, own, at, next, variables, loops, lows, highs)
+                let mut room = [0i64; FORM_NUMBERS];
+                forms::load(&mut room, own);
+                large_enough(
+                    known,
+                    size,
+                    &mut room,
+                    at,
+                    next,
+                    variables,
+                    loops,
+                    lows,
+                    highs,
+                )
             }
             _ => Read::Refused(9, at),
         },
@@ -273,21 +285,6 @@ fn element_kind(wanted: Wanted, kind: kinds::Kind, at: usize, next: usize) -> Re
             _ => Read::Refused(9, at),
         },
         Wanted::Register(_) => Read::Refused(9, at),
-    }
-}
-
-// Whether a slice of an operand of a kind is what is due, for the field from `at` to `next`.
-fn slice_kind(wanted: Wanted, kind: kinds::Kind, at: usize, next: usize) -> Read
-    ensures { λ r. ⌜ ((f : Form) (l : List ℤ) → checkedSize r f ≡ slicedSize at (wantedOf wanted l) (kindIn kind f)) ⌝ }
-    ensures { λ r. ⌜ EndsAt next r ⌝ }
-{
-    match wanted {
-        Wanted::Wire => Read::Refused(9, at),
-        Wanted::Bit => Read::Refused(9, at),
-        Wanted::Register(_) => match kind {
-            kinds::Kind::Quantum => Read::Upto(next),
-            _ => Read::Refused(9, at),
-        },
     }
 }
 
@@ -324,13 +321,12 @@ fn whole(
     let row = s.first + n;
     let number = kinds[row];
     let kind = kind_by(number);
-    let mut own = [0i64; FORM_NUMBERS];
-    forms::load(&mut own, &sizes[size_by(number)]);
+    let own = size_by(number);
     whole_fits(
         wanted,
         size,
         kind,
-        &mut own,
+        &sizes[own],
         at,
         next,
         s.variables,
@@ -412,26 +408,17 @@ fn slice_fits(
     ensures { λ r. ⌜ ((fs : List Signature) (ks : List Kind) → checkedPart r ≡ sliceFits at (scopeWith fs ks variables (loopsOf loops (now (lows .entry)) (now (highs .entry)))) (wantedOf wanted (now (size .entry))) (kindIn kind (asForm (widened (now (own .entry))))) (asForm (now (first .entry))) (asForm (now (last .entry)))) ⌝ }
     ensures { λ r. ⌜ EndsAt next r ⌝ }
 {
-    let r = slice_kind(wanted, kind, at, next);
+    let Wanted::Register(known) = wanted else {
+        return Read::Refused(9, at);
+    };
+    let kinds::Kind::Quantum = kind else {
+        return Read::Refused(9, at);
+    };
+    let r = slice_within(first, last, own, at, next, variables, loops, lows, highs);
     let Read::Upto(_) = r else {
         return r;
     };
-    let t = slice_within(first, last, own, at, next, variables, loops, lows, highs);
-    let Read::Upto(_) = t else {
-        return t;
-    };
-    whole_fits(
-        wanted,
-        size,
-        kinds::Kind::Quantum,
-        last,
-        at,
-        next,
-        variables,
-        loops,
-        lows,
-        highs,
-    )
+    large_enough(known, size, last, at, next, variables, loops, lows, highs)
 }
 
 // The slice at `at`, whose field ends at `next`.

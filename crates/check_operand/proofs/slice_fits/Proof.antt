@@ -2,92 +2,107 @@
 use borrow.Author.Needs.{needs}
 use Rattle.check_operand.proofs.slice_fits.Statement.{statement}
 use Rattle.check_operand.proofs.slice_fits.Tie as tie
-use mathlib.Core.Path.{_∙_}
+use mathlib.Core.Path.{sym, ap, _∙_}
 use mathlib.Core.List.{List}
 use denote.Ref.{now}
-use Rattle.language.specs.Check.{Kind, Signature, Scope}
+use Rattle.language.specs.Check.{Checked, Kind, Signature, Scope, sliceFits}
 use Rattle.forms.specs.Flat.{widened, asForm}
 use Rattle.forms.specs.Rows.{loopsOf}
+use Rattle.kinds.specs.declared.Kind as K
+use Rattle.check_index.specs.Answers.{checkedPart}
+use Rattle.check_index.proofs.Answers.{ends-stops, form-kept}
 use Rattle.check_operand.specs.Tables.{kindIn, scopeWith}
 use Rattle.check_operand.specs.Operands.{wantedOf}
-use Rattle.check_operand.proofs.Slices.{fits-stops, lies-stops, lies-goes}
-use Rattle.check_index.proofs.Answers.{ends-stops, form-kept}
+use Rattle.check_operand.specs.declared.Wanted.{Wanted}
+use Rattle.check_operand.proofs.OperandKinds.{register-good}
+use Rattle.check_operand.proofs.Slices.{slice-unwanted, slice-no-register, lies-stops, lies-goes}
 
-slice-kind-requires : tie.Need-slice-kind-requires
-slice-kind-requires c κs = search needs
-
-enum-told : tie.Need-enum-told
-enum-told c = search needs
-
-enum-told-2 : tie.Need-enum-told-2
-enum-told-2 c = search needs
+enum-known-wanted : tie.Need-enum-known-wanted
+enum-known-wanted c =
+    search needs
 
 returns : tie.Need-returns
+unfolding checkedPart
 returns c =
-    let a = c .before .before .before .args in
+    let a = c .before .args in
     let ls = loopsOf (a .loops) (now (a .lows)) (now (a .highs)) in
     let s : List Signature → List Kind → Scope = λ fs ks. scopeWith fs ks (a .variables) ls in
-    let d = wantedOf (a .wanted) (now (a .size)) in
+    let m = now (a .size) in
     let size = asForm (widened (now (a .own))) in
-    let k = kindIn (a .kind) size in
     let first = asForm (now (a .first)) in
     let last = asForm (now (a .last)) in
-    let kind = c .before .before .slice-kind .ensures .0 size (now (a .size)) in
-    (λ fs ks. fits-stops (a .at) (s fs ks) d k size first last (c .before .before .slice-kind .result) kind (c .before .match .keys2), ends-stops (c .before .before .slice-kind .result) (a .next) (c .before .match .keys2))
+    (λ fs ks. slice-unwanted (a .at) (s fs ks) m size first last (a .wanted) (kindIn (a .kind) size) (c .match .keys2), tt)
+
+enum-told : tie.Need-enum-told
+enum-told c =
+    search needs
+
+returns-2 : tie.Need-returns-2
+unfolding checkedPart
+returns-2 c =
+    let a = c .before .before .before .before .args in
+    let ls = loopsOf (a .loops) (now (a .lows)) (now (a .highs)) in
+    let s : List Signature → List Kind → Scope = λ fs ks. scopeWith fs ks (a .variables) ls in
+    let m = now (a .size) in
+    let size = asForm (widened (now (a .own))) in
+    let first = asForm (now (a .first)) in
+    let last = asForm (now (a .last)) in
+    let fits : List Signature → List Kind → Wanted → K.Kind → Checked (Unit {0}) = λ fs ks w k. sliceFits (a .at) (s fs ks) (wantedOf w m) (kindIn k size) first last in
+    (λ fs ks. slice-no-register (a .at) (s fs ks) m size first last (c .before .before .wanted .given .0 .0) (a .kind) (c .match2 .keys2) ∙ ap (λ (w : Wanted). fits fs ks w (a .kind)) (sym (c .before .before .wanted .given .1)), tt)
 
 slice-within-requires : tie.Need-slice-within-requires
 slice-within-requires c κs =
-    (c .before .before .before .before .pre .1 .1 .0, (c .before .before .before .before .pre .1 .1 .1 .0, (c .before .before .before .before .pre .1 .0, c .before .before .before .before .pre .1 .1 .1 .1)))
+    (c .before .before .before .before .before .before .pre .1 .1 .0, (c .before .before .before .before .before .before .pre .1 .1 .1 .0, (c .before .before .before .before .before .before .pre .1 .0, c .before .before .before .before .before .before .pre .1 .1 .1 .1)))
+
+enum-told-2 : tie.Need-enum-told-2
+enum-told-2 c =
+    search needs
 
 enum-told-3 : tie.Need-enum-told-3
-enum-told-3 c = search needs
-
-enum-told-4 : tie.Need-enum-told-4
-enum-told-4 c = search needs
-
-returns-2 : tie.Need-returns-2
-returns-2 c =
-    let a = c .before .before .before .before .before .before .before .args in
-    let ls = loopsOf (a .loops) (now (a .lows)) (now (a .highs)) in
-    let s : List Signature → List Kind → Scope = λ fs ks. scopeWith fs ks (a .variables) ls in
-    let d = wantedOf (a .wanted) (now (a .size)) in
-    let size = asForm (widened (now (a .own))) in
-    let k = kindIn (a .kind) size in
-    let first = asForm (now (a .first)) in
-    let last = asForm (now (a .last)) in
-    let kind = c .before .before .before .before .before .before .slice-kind .ensures .0 size (now (a .size)) in
-    let l = c .before .before .slice-within .last .1 .0 in
-    (λ fs ks. lies-stops (a .at) (s fs ks) d k size first last (c .before .before .before .before .before .before .slice-kind .result) kind (c .before .before .before .before .before .match .keys1) (c .before .before .slice-within .result) l (c .before .before .slice-within .ensures .0 fs ks) (c .before .match2 .keys2), ends-stops (c .before .before .slice-within .result) (a .next) (c .before .match2 .keys2))
-
-whole-fits-requires : tie.Need-whole-fits-requires
-whole-fits-requires c κs =
-    (c .before .before .before .before .before .before .before .before .pre .0, (form-kept (c .before .before .before .before .before .before .before .before .args .next) (c .before .before .before .slice-within .result) (c .before .before .before .slice-within .last .1 .0) (c .before .before .match2 .keys1) (c .before .before .before .slice-within .ensures .1), c .before .before .before .before .before .before .before .before .pre .1 .1 .1 .1))
+enum-told-3 c =
+    search needs
 
 returns-3 : tie.Need-returns-3
 returns-3 c =
     let a = c .before .before .before .before .before .before .before .before .before .args in
     let ls = loopsOf (a .loops) (now (a .lows)) (now (a .highs)) in
     let s : List Signature → List Kind → Scope = λ fs ks. scopeWith fs ks (a .variables) ls in
-    let d = wantedOf (a .wanted) (now (a .size)) in
+    let m = now (a .size) in
     let size = asForm (widened (now (a .own))) in
-    let k = kindIn (a .kind) size in
     let first = asForm (now (a .first)) in
     let last = asForm (now (a .last)) in
-    let kind = c .before .before .before .before .before .before .before .before .slice-kind .ensures .0 size (now (a .size)) in
+    let fits : List Signature → List Kind → Wanted → K.Kind → Checked (Unit {0}) = λ fs ks w k. sliceFits (a .at) (s fs ks) (wantedOf w m) (kindIn k size) first last in
+    let l = c .before .before .slice-within .last .1 .0 in
+    (λ fs ks. lies-stops (a .at) (s fs ks) m size first last (c .before .before .before .before .before .before .before .wanted .given .0 .0) (c .before .before .slice-within .result) l (c .before .before .slice-within .ensures .0 fs ks) (c .before .match3 .keys2) ∙ (λ i. fits fs ks (sym (c .before .before .before .before .before .before .before .wanted .given .1) i) (sym (c .before .before .before .before .enum-told .given .1) i)), ends-stops (c .before .before .slice-within .result) (a .next) (c .before .match3 .keys2))
+
+large-enough-requires : tie.Need-large-enough-requires
+large-enough-requires c κs =
+    (rw (c .before .before .before .before .before .before .before .before .wanted .given .1) at (c .before .before .before .before .before .before .before .before .before .before .pre .0), (form-kept (c .before .before .before .before .before .before .before .before .before .before .args .next) (c .before .before .before .slice-within .result) (c .before .before .before .slice-within .last .1 .0) (c .before .before .match3 .keys1) (c .before .before .before .slice-within .ensures .1), c .before .before .before .before .before .before .before .before .before .before .pre .1 .1 .1 .1))
+
+returns-4 : tie.Need-returns-4
+returns-4 c =
+    let a = c .before .before .before .before .before .before .before .before .before .before .before .args in
+    let ls = loopsOf (a .loops) (now (a .lows)) (now (a .highs)) in
+    let s : List Signature → List Kind → Scope = λ fs ks. scopeWith fs ks (a .variables) ls in
+    let m = now (a .size) in
+    let size = asForm (widened (now (a .own))) in
+    let first = asForm (now (a .first)) in
+    let last = asForm (now (a .last)) in
+    let fits : List Signature → List Kind → Wanted → K.Kind → Checked (Unit {0}) = λ fs ks w k. sliceFits (a .at) (s fs ks) (wantedOf w m) (kindIn k size) first last in
     let l = c .before .before .before .before .slice-within .last .1 .0 in
-    (λ fs ks. c .whole-fits .ensures .0 fs ks ∙ lies-goes (a .at) (s fs ks) d k size first last (c .before .before .before .before .before .before .before .before .slice-kind .result) kind (c .before .before .before .before .before .before .before .match .keys1) (c .before .before .before .before .slice-within .result) l (c .before .before .before .before .slice-within .ensures .0 fs ks) (c .before .before .before .match2 .keys1), c .whole-fits .ensures .1)
+    (λ fs ks. c .large-enough .ensures .0 fs ks ∙ register-good (a .at) (s fs ks) (asForm l) m (c .before .before .before .before .before .before .before .before .before .wanted .given .0 .0) ∙ lies-goes (a .at) (s fs ks) m size first last (c .before .before .before .before .before .before .before .before .before .wanted .given .0 .0) (c .before .before .before .before .slice-within .result) l (c .before .before .before .before .slice-within .ensures .0 fs ks) (c .before .before .before .match3 .keys1) ∙ (λ i. fits fs ks (sym (c .before .before .before .before .before .before .before .before .before .wanted .given .1) i) (sym (c .before .before .before .before .before .before .enum-told .given .1) i)), c .large-enough .ensures .1)
 
 pub slice-fits-spec : {M : Type 1} → statement M
 slice-fits-spec =
     tie.close
     (tie.spec
-    slice-kind-requires
-    enum-told
-    enum-told-2
+    enum-known-wanted
     returns
-    slice-within-requires
-    enum-told-3
-    enum-told-4
+    enum-told
     returns-2
-    whole-fits-requires
-    returns-3)
+    slice-within-requires
+    enum-told-2
+    enum-told-3
+    returns-3
+    large-enough-requires
+    returns-4)

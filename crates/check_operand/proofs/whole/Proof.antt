@@ -2,12 +2,12 @@
 use borrow.Author.Needs.{needs}
 use Rattle.check_operand.proofs.whole.Statement.{statement}
 use Rattle.check_operand.proofs.whole.Tie as tie
+use borrow.Author.Needs.{needs}
 use mathlib.Core.Path.{_≡_, ap, _∙_}
-use mathlib.Core.List.{List, []}
+use mathlib.Core.List.{[]}
 use Prim.Native.Nat.{ℕ, _+_}
 use native.Mathlib.Omega.{arith}
 use denote.Ref.{now}
-use lib.IntN.{ℤ}
 use lib.ListN.{getD}
 use lib.Seq.{slice, length-slice}
 use Rattle.language.specs.Check.{wholeFits}
@@ -103,46 +103,40 @@ size-by-requires : tie.Need-size-by-requires
 size-by-requires c κs =
     search needs
 
-mul-load : tie.Need-mul-load
-mul-load c =
-    let r = c .before .before .before .before .before .before .before .before .before .before .before .before .before .pre .1 .1 in
-    omega (arith, c .before .before .before .before .before .before .before .before .before .before .before .before .before .good, c .size-by .ensures, r .named (c .before .before .before .before .before .before .before .before .before .before .before .before .before .args .s .first + c .before .before .before .before .before .before .before .before .wide .result))
+mul-whole-fits : tie.Need-mul-whole-fits
+mul-whole-fits c =
+    let r = c .before .before .before .before .before .before .before .before .before .before .before .before .pre .1 .1 in
+    omega (arith, c .before .before .before .before .before .before .before .before .before .before .before .before .good, c .size-by .ensures, r .named (c .before .before .before .before .before .before .before .before .before .before .before .before .args .s .first + c .before .before .before .before .before .before .before .wide .result))
 
-shared-slice-element-load : tie.Need-shared-slice-element-load
-shared-slice-element-load c =
-    let r = c .before .before .before .before .before .before .before .before .before .before .before .before .before .pre .1 .1 in
-    omega (arith, c .before .before .before .before .before .before .before .before .before .before .before .before .before .good, c .size-by .ensures, r .named (c .before .before .before .before .before .before .before .before .before .before .before .before .before .args .s .first + c .before .before .before .before .before .before .before .before .wide .result))
-
-load-requires : tie.Need-load-requires
-load-requires c κs =
-    let r = c .before .before .before .before .before .before .before .before .before .before .before .before .before .before .pre .1 .1 in
-    r .sizeRows .each (c .before .size-by .result) (omega (arith, c .before .size-by .ensures, r .named (c .before .before .before .before .before .before .before .before .before .before .before .before .before .before .args .s .first + c .before .before .before .before .before .before .before .before .before .wide .result)))
+shared-slice-element-whole-fits : tie.Need-shared-slice-element-whole-fits
+shared-slice-element-whole-fits c =
+    let r = c .before .before .before .before .before .before .before .before .before .before .before .before .pre .1 .1 in
+    omega (arith, c .before .before .before .before .before .before .before .before .before .before .before .before .good, c .size-by .ensures, r .named (c .before .before .before .before .before .before .before .before .before .before .before .before .args .s .first + c .before .before .before .before .before .before .before .wide .result))
 
 whole-fits-requires : tie.Need-whole-fits-requires
 whole-fits-requires c κs =
-    let r = c .before .before .before .before .before .before .before .before .before .before .before .before .before .before .before .before .pre .1 .1 in
+    let r = c .before .before .before .before .before .before .before .before .before .before .before .before .before .pre .1 .1 in
     let f = r .few in
     let g = r .nested in
-    (c .before .before .before .before .before .before .before .before .before .before .before .before .before .before .before .before .pre .1 .0, (c .before .load .ensures .1, (omega arith, (fewer (r .lowRows) g, fewer (r .highRows) g))))
+    (c .before .before .before .before .before .before .before .before .before .before .before .before .before .pre .1 .0, (r .sizeRows .each (c .before .size-by .result) (omega (arith, c .before .size-by .ensures, r .named (c .before .before .before .before .before .before .before .before .before .before .before .before .before .args .s .first + c .before .before .before .before .before .before .before .before .wide .result))), (omega arith, (fewer (r .lowRows) g, fewer (r .highRows) g))))
 
 returns-4 : tie.Need-returns-4
 returns-4 c =
-    let a = c .before .before .before .before .before .before .before .before .before .before .before .before .before .before .before .before .before .args in
+    let a = c .before .before .before .before .before .before .before .before .before .before .before .before .before .before .args in
     let program = now (a .program) in
     let from = a .at + 3 in
     let ls = loopsOf (a .s .loops) (now (a .lows)) (now (a .highs)) in
     let d = wantedOf (a .wanted) (now (a .size)) in
     let n = getD program from 0 in
     let more = slice (from + 1) (a .next) program in
-    let e = one-byte from (a .next) program (c .before .before .before .before .before .before .before .before .before .before .before .before .before .before .if1 .left) (c .before .before .before .before .before .before .before .before .before .before .before .before .before .before .before .before .before .pre .0 .1) in
-    let v : c .before .before .before .before .before .before .before .before .before .before .before .before .wide .result ≡ n = c .before .before .before .before .before .before .before .before .before .before .before .before .wide .ensures .0 in
-    let h = length-slice (from + 1) (a .next) program (c .before .before .before .before .before .before .before .before .before .before .before .before .before .before .before .before .before .pre .0 .1) in
+    let e = one-byte from (a .next) program (c .before .before .before .before .before .before .before .before .before .before .before .if1 .left) (c .before .before .before .before .before .before .before .before .before .before .before .before .before .before .pre .0 .1) in
+    let v : c .before .before .before .before .before .before .before .before .before .wide .result ≡ n = c .before .before .before .before .before .before .before .before .before .wide .ensures .0 in
+    let h = length-slice (from + 1) (a .next) program (c .before .before .before .before .before .before .before .before .before .before .before .before .before .before .pre .0 .1) in
     let k = kindAt (a .s .first + n) (now (a .kinds)) (now (a .sizes)) in
-    let get = kinds-get (a .s .count) (a .s .first) n (now (a .kinds)) (now (a .sizes)) (let q = c .before .before .before .before .before .before .before .before .before .before .if2 .left in omega arith) in
-    let y = c .before .before .before .before .before .before .before .before .before .if3 .left in (
+    let get = kinds-get (a .s .count) (a .s .first) n (now (a .kinds)) (now (a .sizes)) (let q = c .before .before .before .before .before .before .before .if2 .left in omega arith) in
+    let y = c .before .before .before .before .before .before .if3 .left in (
       λ fs. c .whole-fits .ensures .0 fs (kindsAt (a .s .count) (a .s .first) (now (a .kinds)) (now (a .sizes)))
-          ∙ ap (λ (x : List ℤ). wholeFits (a .at) (scopeAt fs (a .s) (now (a .kinds)) (now (a .sizes)) (now (a .lows)) (now (a .highs))) d (kindIn (c .before .before .before .before .before .before .kind-by .result) (asForm x))) (c .before .before .load .ensures .0)
-          ∙ (λ i. wholeFits (a .at) (scopeAt fs (a .s) (now (a .kinds)) (now (a .sizes)) (now (a .lows)) (now (a .highs))) d (kindIn (c .before .before .before .before .before .before .kind-by .ensures i) (asForm (widened (getD (now (a .sizes)) (c .before .before .before .before .size-by .ensures i) [])))))
+          ∙ (λ i. wholeFits (a .at) (scopeAt fs (a .s) (now (a .kinds)) (now (a .sizes)) (now (a .lows)) (now (a .highs))) d (kindIn (c .before .before .before .kind-by .ensures i) (asForm (widened (getD (now (a .sizes)) (c .before .before .size-by .ensures i) [])))))
           ∙ ap (λ (i : ℕ). wholeFits (a .at) (scopeAt fs (a .s) (now (a .kinds)) (now (a .sizes)) (now (a .lows)) (now (a .highs))) d (kindAt (a .s .first + i) (now (a .kinds)) (now (a .sizes)))) v
           ∙ whole-good (scopeAt fs (a .s) (now (a .kinds)) (now (a .sizes)) (now (a .lows)) (now (a .highs))) d (a .at) (slice from (a .next) program) n more e k get (slice-none (from + 1) (a .next) program (omega arith)),
       c .whole-fits .ensures .1,
@@ -164,8 +158,7 @@ whole-spec =
     shared-slice-read-number
     kind-by-requires
     size-by-requires
-    mul-load
-    shared-slice-element-load
-    load-requires
+    mul-whole-fits
+    shared-slice-element-whole-fits
     whole-fits-requires
     returns-4)

@@ -4,8 +4,11 @@ use Rattle.check_operand.proofs.whole_fits.Statement.{statement}
 use Rattle.check_operand.proofs.whole_fits.Tie as tie
 use mathlib.Core.Path.{refl, sym, ap, _∙_}
 use denote.Ref.{now}
-use Rattle.language.specs.Check.{wholeFits}
-use Rattle.forms.specs.Flat.{asForm}
+use mathlib.Core.List.{List}
+use lib.IntN.{ℤ}
+use Rattle.language.specs.Form.{differenceOf, _thenBuild_}
+use Rattle.language.specs.Check.{mustShow, wholeFits}
+use Rattle.forms.specs.Flat.{widened, asForm, builtOf}
 use Rattle.forms.specs.Rows.{loopsOf}
 use Rattle.check_operand.specs.declared.Wanted.{Wanted}
 use Rattle.check_index.specs.Answers.{checkedPart}
@@ -33,16 +36,20 @@ enum-told-4 : tie.Need-enum-told-4
 enum-told-4 c =
     search needs
 
+load-requires : tie.Need-load-requires
+load-requires c κs =
+    search needs
+
 large-enough-requires : tie.Need-large-enough-requires
 large-enough-requires c κs =
-    (rw (c .before .before .before .before .wanted .given .1) at (c .before .before .before .before .before .before .pre .0), c .before .before .before .before .before .before .pre .1)
+    (rw (c .before .before .before .before .before .before .wanted .given .1) at (c .before .before .before .before .before .before .before .before .pre .0), (c .before .load .ensures .1, c .before .before .before .before .before .before .before .before .pre .1 .1))
 
 returns : tie.Need-returns
 unfolding checkedPart
 returns c =
     let a = c .before .before .before .before .args in
     let ls = loopsOf (a .loops) (now (a .lows)) (now (a .highs)) in
-    let f = asForm (now (a .own)) in
+    let f = asForm (widened (now (a .own))) in
     let l = now (a .size) in
     (λ fs ks. wire-good (a .at) (scopeWith fs ks (a .variables) ls) f l ∙ (λ i. wholeFits (a .at) (scopeWith fs ks (a .variables) ls) (wantedOf (sym (c .before .before .enum-told .given .1) i) l) (kindIn (sym (c .enum-told2 .given .1) i) f)), refl)
 
@@ -51,7 +58,7 @@ unfolding checkedPart
 returns-2 c =
     let a = c .before .before .before .args in
     let ls = loopsOf (a .loops) (now (a .lows)) (now (a .highs)) in
-    let f = asForm (now (a .own)) in
+    let f = asForm (widened (now (a .own))) in
     let l = now (a .size) in
     (λ fs ks. wire-bad (a .at) (scopeWith fs ks (a .variables) ls) f l (a .kind) (c .match2 .keys2) ∙ ap (λ (w : Wanted). wholeFits (a .at) (scopeWith fs ks (a .variables) ls) (wantedOf w l) (kindIn (a .kind) f)) (sym (c .before .enum-told .given .1)), tt)
 
@@ -60,24 +67,24 @@ unfolding checkedPart
 returns-3 c =
     let a = c .before .before .args in
     let ls = loopsOf (a .loops) (now (a .lows)) (now (a .highs)) in
-    let f = asForm (now (a .own)) in
+    let f = asForm (widened (now (a .own))) in
     let l = now (a .size) in
     (λ fs ks. bit-bad (a .at) (scopeWith fs ks (a .variables) ls) f l (kindIn (a .kind) f) ∙ ap (λ (w : Wanted). wholeFits (a .at) (scopeWith fs ks (a .variables) ls) (wantedOf w l) (kindIn (a .kind) f)) (sym (c .enum-told3 .given .1)), tt)
 
 returns-4 : tie.Need-returns-4
 returns-4 c =
-    let a = c .before .before .before .before .before .before .before .args in
+    let a = c .before .before .before .before .before .before .before .before .before .args in
     let ls = loopsOf (a .loops) (now (a .lows)) (now (a .highs)) in
-    let f = asForm (now (a .own)) in
+    let f = asForm (widened (now (a .own))) in
     let l = now (a .size) in
-    (λ fs ks. c .large-enough .ensures .0 fs ks ∙ register-good (a .at) (scopeWith fs ks (a .variables) ls) f l (c .before .before .before .before .before .wanted .given .0 .0) ∙ (λ i. wholeFits (a .at) (scopeWith fs ks (a .variables) ls) (wantedOf (sym (c .before .before .before .before .before .wanted .given .1) i) l) (kindIn (sym (c .before .before .enum-told4 .given .1) i) f)), c .large-enough .ensures .1)
+    (λ fs ks. c .large-enough .ensures .0 fs ks ∙ ap (λ (x : List ℤ). mustShow (a .at) (scopeWith fs ks (a .variables) ls) (builtOf (c .before .before .before .before .before .before .before .wanted .given .0 .0) l thenBuild differenceOf (asForm x))) (c .before .before .load .ensures .0) ∙ register-good (a .at) (scopeWith fs ks (a .variables) ls) f l (c .before .before .before .before .before .before .before .wanted .given .0 .0) ∙ (λ i. wholeFits (a .at) (scopeWith fs ks (a .variables) ls) (wantedOf (sym (c .before .before .before .before .before .before .before .wanted .given .1) i) l) (kindIn (sym (c .before .before .before .before .enum-told4 .given .1) i) f)), c .large-enough .ensures .1)
 
 returns-5 : tie.Need-returns-5
 unfolding checkedPart
 returns-5 c =
     let a = c .before .before .before .before .args in
     let ls = loopsOf (a .loops) (now (a .lows)) (now (a .highs)) in
-    let f = asForm (now (a .own)) in
+    let f = asForm (widened (now (a .own))) in
     let l = now (a .size) in
     (λ fs ks. register-bad (a .at) (scopeWith fs ks (a .variables) ls) f l (c .before .before .wanted .given .0 .0) (a .kind) (c .match3 .keys2) ∙ ap (λ (w : Wanted). wholeFits (a .at) (scopeWith fs ks (a .variables) ls) (wantedOf w l) (kindIn (a .kind) f)) (sym (c .before .before .wanted .given .1)), tt)
 
@@ -90,6 +97,7 @@ whole-fits-spec =
     enum-told-3
     enum-known-wanted
     enum-told-4
+    load-requires
     large-enough-requires
     returns
     returns-2
