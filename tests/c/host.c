@@ -2,6 +2,7 @@
  * the paper's adder, then with the Fourier transform, then with a multiplier, which hands on slices. After the check the guest
  * changes its own bytes, and the lists stay what they are. Run it from the repository's root; it compares the lists with those
  * in examples. */
+#include "answers.h"
 #include "expect.h"
 #include "load.h"
 #include <metaqasm.h>
@@ -159,12 +160,6 @@ static int all(const uint8_t *bytes, size_t length, uint8_t byte)
         }
     }
     return 1;
-}
-
-/* Whether a result is the one that is due. */
-static int is(metaqasm_result result, uint32_t number, uint32_t place, uint64_t records, uint64_t steps)
-{
-    return result.number == number && result.place == place && result.records == records && result.steps == steps;
 }
 
 /* Asks for what cannot be had: no such family, no sizes, and an output that is too small. */

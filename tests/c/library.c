@@ -1,5 +1,6 @@
 /* Libraries past 255 families. A call by a two-byte number (tag 39) enters the family of that number and no other, beside
  * calls by one byte (tag 36); instances go by number; what such a call is refused with, and where; and a full library. */
+#include "answers.h"
 #include "build.h"
 #include "expect.h"
 #include <metaqasm.h>
@@ -62,20 +63,6 @@ static size_t build_library(const unsigned *calls, size_t count)
     last = built.length;
     put_family(LAST, calls, count);
     return last;
-}
-
-/* Whether a result is the one that is due. */
-static int is(metaqasm_result result, uint32_t number, uint32_t place, uint64_t records, uint64_t steps)
-{
-    return result.number == number && result.place == place && result.records == records && result.steps == steps;
-}
-
-/* Whether a record is h on a wire. */
-static int is_h(const uint8_t *record, unsigned wire)
-{
-    const uint8_t due[METAQASM_RECORD_BYTES] = {METAQASM_OP_H, METAQASM_ALWAYS, (uint8_t)wire, (uint8_t)(wire >> 8)};
-
-    return memcmp(record, due, sizeof due) == 0;
 }
 
 /* Whether records are those of the last family, read forward or backward. */

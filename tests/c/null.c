@@ -1,4 +1,5 @@
 /* NULL with length 0, at each pointer of each call and at all of them; by name and through a pointer to the function. */
+#include "answers.h"
 #include "expect.h"
 #include <metaqasm.h>
 #include <string.h>
@@ -19,12 +20,6 @@ typedef metaqasm_result run_call(const uint8_t *, size_t, uint64_t, uint8_t *, s
 typedef metaqasm_text_result instance_text_call(const uint8_t *, size_t, uint32_t, const uint8_t *, size_t, uint64_t,
                                                 uint8_t *, size_t, uint8_t *, size_t);
 typedef metaqasm_text_result run_text_call(const uint8_t *, size_t, uint64_t, uint8_t *, size_t, uint8_t *, size_t);
-
-/* Whether a result is the one that is due. */
-static int is(metaqasm_result result, uint32_t number, uint32_t place, uint64_t records, uint64_t steps)
-{
-    return result.number == number && result.place == place && result.records == records && result.steps == steps;
-}
 
 /* Whether the result of a call that prints a text is the one that is due. */
 static int is_text(metaqasm_text_result result, uint32_t number, uint32_t place, uint64_t records, uint64_t steps,

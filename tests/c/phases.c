@@ -1,5 +1,6 @@
 /* Phases: what their records are, forward and reversed; the largest k and those above it; which end of a run comes first; and
  * what the check says of a k. */
+#include "answers.h"
 #include "build.h"
 #include "expect.h"
 #include <metaqasm.h>
@@ -59,12 +60,6 @@ static void put_cphase(unsigned k, unsigned first, unsigned second)
     put_wire(first);
     put_wire(second);
     finish(cphase);
-}
-
-/* Whether a result is the one that is due. */
-static int is(metaqasm_result result, uint32_t number, uint32_t place, uint64_t records, uint64_t steps)
-{
-    return result.number == number && result.place == place && result.records == records && result.steps == steps;
 }
 
 /* Runs what is built. */

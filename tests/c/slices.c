@@ -1,5 +1,6 @@
 /* Slices as arguments: every slice of a register, with the cells that it stands for; slices with a loop variable, and slices of
  * slices, in instances at several sizes, forward and reversed; and what the check says of a slice, and where. */
+#include "answers.h"
 #include "build.h"
 #include "expect.h"
 #include <metaqasm.h>
@@ -166,20 +167,6 @@ static size_t put_call(int size, int first, int last)
     finish(slice);
     finish(call);
     return slice;
-}
-
-/* Whether a result is the one that is due. */
-static int is(metaqasm_result result, uint32_t number, size_t place, uint64_t records, uint64_t steps)
-{
-    return result.number == number && result.place == place && result.records == records && result.steps == steps;
-}
-
-/* Whether a record is h on a wire. */
-static int is_h(const uint8_t *record, unsigned wire)
-{
-    const uint8_t due[METAQASM_RECORD_BYTES] = {METAQASM_OP_H, METAQASM_ALWAYS, (uint8_t)wire, (uint8_t)(wire >> 8)};
-
-    return memcmp(record, due, sizeof due) == 0;
 }
 
 /* Whether records are h on so many wires from one on. */
