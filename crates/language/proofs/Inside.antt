@@ -11,7 +11,7 @@ use lib.ListN.{getElem?}
 use Rattle.language.specs.Tree.{Place, Operand, whole, element, slice, badOperand, Argument, index, operand, badArgument}
 use Rattle.language.specs.Machine as M
 use Rattle.language.specs.Machine.{Meaning, aWire, aBit, wires, bits, Frame, State, Outcome, going, ended, stuck, Run}
-use Rattle.language.specs.Inside.{Inside, here, later, Lies, AllLie, Gives, OperandLaw, CallLaw}
+use Rattle.language.specs.Inside.{Inside, here, later, Lies, AllLie, Gives, SliceLaw, OperandLaw, CallLaw}
 use Rattle.language.proofs.Integers.{slice-within}
 
 -- a part of a run of wires lies where the run lies
@@ -146,6 +146,9 @@ call-lies rs p f (index q i ∷ args) l = call-lies rs p f args l
 call-lies rs p f (operand q o ∷ args) l =
     yields-bind (operand-lies p f o) λ m h. yields-bind (call-lies rs p f args l) λ ms k. yields-give (lies-trans rs (f .operands) m l h, k)
 call-lies rs p f (badArgument n q ∷ args) l = yields-nothing
+
+pub slice-law : SliceLaw
+slice-law first size x y s = slice-lies (wires first size ∷ []) (wires first size) x y (lies-first (wires first size) []) .yields s
 
 pub operand-law : OperandLaw
 operand-law p f o s = operand-lies p f o .yields s

@@ -1,8 +1,9 @@
--- Runs of wires: what an operand stands for lies inside one of the registers laid out, through every call. Here it is stated; proofs/Inside proves it.
+-- Runs of wires: a slice lies inside the register that it is cut from, and through every call inside one of those laid out. Here it is stated; proofs/Inside proves it.
 use mathlib.Core.List.{List, [], _∷_, _++_}
 use Prim.Native.Nat.{ℕ, _+_, _≤_}
+use lib.IntN.{ℤ}
 use Rattle.language.specs.Tree.{Place, number, missing, Operand, Argument, Top, family, qreg, creg, measure, reset, if, statement, badTop}
-use Rattle.language.specs.Machine.{Wire, Meaning, aWire, aBit, wires, bits, Frame, State, Outcome, going, ended, stuck, meaningOf, meaningsOf}
+use Rattle.language.specs.Machine.{Wire, Meaning, aWire, aBit, wires, bits, Frame, State, Outcome, going, ended, stuck, sliceAt, meaningOf, meaningsOf}
 use Rattle.language.specs.Sound.{qubitsOf}
 
 -- so many wires from `first` on lie inside one of these registers
@@ -51,10 +52,14 @@ Gives P (going a s) = P a
 Gives P (ended n p s) = Unit {0}
 Gives P stuck = Unit {0}
 
--- what an operand stands for, of whatever program, lies inside what its number stands for
+-- a slice lies inside the register, or the run of wires, that it is cut from
+abbrev pub SliceLaw : Type 0
+SliceLaw = (first : Wire) (size : ℕ) (x y : ℤ) (s : State) → Gives (Lies (wires first size ∷ [])) (sliceAt (wires first size) x y s)
+
+-- so an operand of whatever program, where it stands for a run of wires, lies inside one of those in scope
 abbrev pub OperandLaw : Type 0
 OperandLaw = (p : Place) (f : Frame) (o : Operand) (s : State) → Gives (Lies (f .operands)) (meaningOf p f o s)
 
--- so a body is entered with runs of wires inside the registers in which its caller's lie, through any number of calls
+-- and a body is entered with runs of wires inside the registers in which its caller's lie, through any number of calls
 abbrev pub CallLaw : Type 0
 CallLaw = (registers : List Meaning) (p : Place) (f : Frame) (args : List Argument) (s : State) → AllLie registers (f .operands) → Gives (AllLie registers) (meaningsOf p f args s)
