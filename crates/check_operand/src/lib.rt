@@ -75,7 +75,9 @@ pub fn must_show(
     ensures { λ r. ⌜ ((fs : List Signature) (ks : List Kind) → checkedPart r ≡ mustShow at (scopeWith fs ks variables (loopsOf loops (now (lows .entry)) (now (highs .entry)))) (built (asForm (now (f .entry))))) ⌝ }
     ensures { λ r. ⌜ EndsAt next r ⌝ }
 {
-    match forms::show(f, variables, loops, lows, highs) {
+    let shown = forms::show(f, variables, loops, lows, highs);
+    let verdict = shown.verdict;
+    match verdict {
         Verdict::Shown => Read::Upto(next),
         Verdict::NotShown => Read::Refused(12, at),
         Verdict::OutOfRange => Read::Refused(11, at),
@@ -101,11 +103,9 @@ fn room_after(
     ensures { λ r. ⌜ ((fs : List Signature) (ks : List Kind) → checkedPart r ≡ mustShow at (scopeWith fs ks variables (loopsOf loops (now (lows .entry)) (now (highs .entry)))) (roomAfter (asForm (widened (now (size .entry)))) (asForm (now (f .entry))))) ⌝ }
     ensures { λ r. ⌜ EndsAt next r ⌝ }
 {
-    let mut one = [0i64; FORM_NUMBERS];
-    forms::set_constant(&mut one, 1);
     let mut room = [0i64; FORM_NUMBERS];
     forms::load(&mut room, size);
-    if forms::subtract(&mut room, &one) {
+    if forms::add_constant(&mut room, -1) {
         if forms::subtract(&mut room, f) {
             return must_show(&mut room, at, next, variables, loops, lows, highs);
         }
@@ -149,9 +149,7 @@ fn slice_size(first: &Form, last: &mut Form) -> bool
     ensures { λ r. ⌜ (r ≡ true → Kept (now (last .exit))) ⌝ }
 {
     if forms::subtract(last, first) {
-        let mut unit = [0i64; FORM_NUMBERS];
-        forms::set_constant(&mut unit, 1);
-        return forms::add(last, &unit);
+        return forms::add_constant(last, 1);
     }
     false
 }

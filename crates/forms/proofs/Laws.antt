@@ -1,37 +1,28 @@
--- What `entry` answers, and the sums, differences, multiples and showings of forms as lists. Assumes nothing.
-use mathlib.Core.Path.{_≡_, refl, sym, ap, _∙_}
+-- The sums, differences, multiples and showings of forms as lists. Assumes nothing.
+use mathlib.Core.Path.{_≡_, refl, sym, ap, _∙_, subst}
 use mathlib.Core.List.{List, [], _∷_, map}
-use mathlib.Core.Bool.{Bool, true, false, _&&_}
+use mathlib.Core.Bool.{Bool, true, false, cond, _&&_}
 use Prim.Native.Nat.{ℕ, zero, suc, _+_, _-_, _<_, _≤_}
 use native.Mathlib.Omega.{arith}
-use lib.IntN.{ℤ, pos, negsuc, _+ℤ_, _-ℤ_, _*ℤ_, +ℤ-idl}
+use lib.IntN.{ℤ, pos, negsuc, _+ℤ_, _-ℤ_, _*ℤ_, +ℤ-idl, +ℤ-idr, *ℤ-zero}
 use native.Mathlib.Numerals.{add-one}
-use lib.ListN.{length, getD, take, drop, replicate, length-map, length-take, drop-of-length-le, List·getD-map}
-use lib.Seq.{drop-cons, getD-take, length-take-le}
-use Rattle.language.specs.Form.{Form, Built, built, outOfRange, closed, closedAll, Loop, beyondRange, showing, showingOf, inRange, allInRange, zipped, build, sumOf, differenceOf, multipleOf, _thenBuild_, constantForm, termsPutIn}
+use lib.ListN.{length, getD, set, take, drop, replicate, length-map, length-take, drop-of-length-le, List·getD-map}
+use lib.Seq.{drop-cons, getD-take, length-take-le, set-getD}
+use Rattle.language.specs.Form.{Form, Built, built, outOfRange, isZero, closed, Loop, beyondRange, showing, showingOf, inRange, allInRange, zipped, build, sumOf, differenceOf, multipleOf, _thenBuild_, constantForm, termsPutIn}
+use Rattle.language.specs.Settled.{coefficient, Scan, ended, oneMore, thenScan, scan, remaining, after, onward, Settling, settling, goneThrough}
+use Rattle.language.proofs.Settled.{next-law, agree-law}
 use Rattle.forms.specs.Flat.{Kept, asForm, builtOf}
-use Rattle.language.proofs.Integers.{integers, plus, minus, times}
-use Rattle.forms.proofs.Lists.{sum-flat, difference-flat, ranges, both}
-use Rattle.forms.specs.Entry.{numOf, entryOf}
+use Rattle.language.proofs.Integers.{integers, plus, minus, times, clash}
+use Rattle.forms.proofs.Lists.{sum-flat, difference-flat, ranges, both, zero-yes, zero-no, term-flat, set-kept}
 use Rattle.forms.specs.Rows.{Rows, loopAt, loopsOf, formsOf}
-use Rattle.forms.specs.declared.Num.the-variants.{In, Out}
 
-pub entry-in : (x k y : ℤ) {z : ℤ} → In z ≡ entryOf x k y → (inRange (k *ℤ y) ≡ true) × (inRange (x +ℤ k *ℤ y) ≡ true) × (z ≡ x +ℤ k *ℤ y)
-unfolding entryOf numOf
-entry-in x k y {z} e = by (inRange (k *ℤ y)) (inRange (x +ℤ k *ℤ y)) e
-  where
-    by : (s t : Bool) → In z ≡ numOf (s && t) (x +ℤ k *ℤ y) → (s ≡ true) × (t ≡ true) × (z ≡ x +ℤ k *ℤ y)
-    by true true e = (refl, refl, cc)
-    by true false e = (refl, cc, cc)
-    by false t e = (cc, cc, cc)
-
-pub entry-out : (x k y : ℤ) → Out ≡ entryOf x k y → (inRange (k *ℤ y) && inRange (x +ℤ k *ℤ y)) ≡ false
-unfolding entryOf numOf
-entry-out x k y e = by (inRange (k *ℤ y) && inRange (x +ℤ k *ℤ y)) e
-  where
-    by : (t : Bool) → Out ≡ numOf t (x +ℤ k *ℤ y) → t ≡ false
-    by true e = cc
-    by false e = refl
+-- adding a multiple of 0 changes nothing
+pub nothing-added : (f : List ℤ) (i : ℕ) (k : ℤ) {y : ℤ} → inRange (getD f i (pos 0)) ≡ true → y ≡ pos 0 → (true ≡ (inRange (k *ℤ y) && inRange (getD f i (pos 0) +ℤ k *ℤ y))) × (f ≡ set f i (getD f i (pos 0) +ℤ k *ℤ y))
+unfolding inRange
+nothing-added f i k {y} h e =
+    let p : k *ℤ y ≡ pos 0 = ap (λ (z : ℤ). k *ℤ z) e ∙ *ℤ-zero k in
+    let s : getD f i (pos 0) +ℤ k *ℤ y ≡ getD f i (pos 0) = ap (λ (z : ℤ). getD f i (pos 0) +ℤ z) p ∙ +ℤ-idr (getD f i (pos 0)) in
+    (sym ((λ j. inRange (p j) && inRange (s j)) ∙ h), sym (ap (λ (z : ℤ). set f i z) s ∙ set-getD f i (pos 0)))
 
 pub map-at : (h : ℤ → ℤ) (l : List ℤ) (i : ℕ) (d : ℤ) → i < length l → getD (map h l) i d ≡ h (getD l i d)
 map-at h [] i d p = absurd (omega arith)
@@ -100,21 +91,122 @@ unfolding loopsOf
 length-loops zero l h = refl
 length-loops (suc n) l h = ap suc (length-loops n l h)
 
-pub show-step : (m n : ℕ) (l h : List (List ℤ)) (f : Form) → 0 < n → showing m (loopsOf n l h) (built f) ≡ showing m (loopsOf (n - 1) l h) (closed (m + (n - 1)) (loopAt (n - 1) l h) f (getD (f .coefficients) (m + (n - 1)) (pos 0)))
-unfolding showing loopsOf closedAll _thenBuild_
-show-step m zero l h f p = absurd (omega arith)
-show-step m (suc n) l h f p =
-    let e : suc n - 1 ≡ n = omega arith in
-    rw e (ap (λ (k : ℕ). showing m (loopsOf n l h) (closed (m + k) (loopAt n l h) f (getD (f .coefficients) (m + k) (pos 0)))) (length-loops n l h))
-
 pub show-outside : (m : ℕ) (ls : List Loop) → showing m ls outOfRange ≡ beyondRange
 unfolding showing _thenBuild_ showingOf
 show-outside m ls = refl
 
-pub show-end : (m n : ℕ) (l h : List (List ℤ)) (f : Form) → n ≤ 0 → showing m (loopsOf n l h) (built f) ≡ showingOf (built f)
-unfolding showing loopsOf closedAll _thenBuild_
-show-end m zero l h f p = refl
-show-end m (suc n) l h f p = absurd (omega arith)
+-- the next loop, where its variable's coefficient is 0 and where it is not
+module _ (m n : ℕ) (l h : List (List ℤ)) (f : Form) where
+  here-at : m + length (loopsOf n l h) ≡ m + n
+  here-at = ap (λ (k : ℕ). m + k) (length-loops n l h)
+
+  look-on : isZero (coefficient (m + n) f) ≡ true → remaining m (loopsOf (suc n) l h) f ≡ remaining m (loopsOf n l h) f
+  unfolding remaining loopsOf
+  look-on e = ap (λ (b : Bool). cond b (remaining m (loopsOf n l h) f) (loopsOf (suc n) l h)) (ap (λ (v : ℕ). isZero (coefficient v f)) here-at ∙ e)
+
+  look-here : isZero (coefficient (m + n) f) ≡ false → remaining m (loopsOf (suc n) l h) f ≡ loopsOf (suc n) l h
+  unfolding remaining loopsOf
+  look-here e = ap (λ (b : Bool). cond b (remaining m (loopsOf n l h) f) (loopsOf (suc n) l h)) (ap (λ (v : ℕ). isZero (coefficient v f)) here-at ∙ e)
+
+-- the loop of the form's list at n, the highest that is not looked at yet
+module _ (m : ℕ) (l h : List (List ℤ)) (f : List ℤ) (k : Kept f) where
+  term-at : (n : ℕ) → coefficient (m + n) (asForm f) ≡ getD f (m + suc n) (pos 0)
+  term-at n = term-flat f (m + n) k ∙ ap (λ (i : ℕ). getD f i (pos 0)) (let e : m + n + 1 ≡ m + suc n = omega arith in e)
+
+  pub passed-by : (n : ℕ) → 0 < n → getD f (m + n) (pos 0) ≡ pos 0 → remaining m (loopsOf n l h) (asForm f) ≡ remaining m (loopsOf (n - 1) l h) (asForm f)
+  passed-by zero p e = absurd (omega arith)
+  passed-by (suc n) p e =
+      let d : n ≡ suc n - 1 = omega arith in
+      look-on m n l h (asForm f) (zero-yes (term-at n ∙ e)) ∙ ap (λ (i : ℕ). remaining m (loopsOf i l h) (asForm f)) d
+
+  pub met : (n : ℕ) → 0 < n → (getD f (m + n) (pos 0) ≡ pos 0 → ⊥) → remaining m (loopsOf n l h) (asForm f) ≡ loopsOf n l h
+  met zero p e = absurd (omega arith)
+  met (suc n) p e = look-here m n l h (asForm f) (zero-no (λ q. e (sym (term-at n) ∙ q)))
+
+pub none-met : (m n : ℕ) (l h : List (List ℤ)) (f : Form) → n ≤ 0 → remaining m (loopsOf n l h) f ≡ loopsOf n l h
+unfolding remaining loopsOf
+none-met m zero l h f p = refl
+none-met m (suc n) l h f p = absurd (omega arith)
+
+after-more : (k : ℕ) (s : Scan) → after k (oneMore s) ≡ after (suc k) s
+unfolding after
+after-more zero s = refl
+after-more (suc k) s = ap oneMore (after-more k s)
+
+after-after : (j k : ℕ) (s : Scan) → after j (after k s) ≡ after (j + k) s
+unfolding after
+after-after zero k s = ap (λ (i : ℕ). after i s) (let e : k ≡ 0 + k = omega arith in e)
+after-after (suc j) k s = ap oneMore (after-after j k s) ∙ ap (λ (i : ℕ). after i s) (let e : suc (j + k) ≡ suc j + k = omega arith in e)
+
+abbrev ending : Built → ℕ → Scan
+ending b k = record { form = b; through = k }
+
+after-is : (k : ℕ) (s : Scan) → after k s ≡ record { form = s .form; through = k + s .through }
+unfolding after
+after-is zero s = ap (λ (i : ℕ). ending (s .form) i) (let e : s .through ≡ 0 + s .through = omega arith in e)
+after-is (suc k) s = ap oneMore (after-is k s) ∙ ap (λ (i : ℕ). ending (s .form) i) (let e : suc (k + s .through) ≡ suc k + s .through = omega arith in e)
+
+-- what a scan's end tells of the showing
+pub told : (m : ℕ) (ls : List Loop) (f : Form) (s : Scan) → scan m ls f ≡ s → (showingOf (s .form) ≡ showing m ls (built f)) × (s .through ≡ goneThrough m ls (built f))
+unfolding settling
+told m ls f s e =
+    let a = agree-law m ls (built f) in
+    (ap (λ (t : Scan). showingOf (t .form)) (sym e) ∙ ap (λ (t : Settling). t .answer) a, ap (λ (t : Scan). t .through) (sym e) ∙ ap (λ (t : Settling). t .through) a)
+
+pub none-after : (loops : ℕ) (s : Scan) → s ≡ after (loops - loops) s
+unfolding after
+none-after loops s = ap (λ (k : ℕ). after k s) (let e : 0 ≡ loops - loops = omega arith in e)
+
+-- the scan of f₀ over the loops, which comes to f with n of them left
+module _ (m loops n : ℕ) (l h : List (List ℤ)) (f₀ f : Form) (le : n ≤ loops) (e : scan m (loopsOf loops l h) f₀ ≡ after (loops - n) (scan m (loopsOf n l h) f)) where
+  scan-next : (j : ℕ) → suc j ≤ n → remaining m (loopsOf n l h) f ≡ loopsOf (suc j) l h
+      → scan m (loopsOf loops l h) f₀ ≡ after (loops - suc j) (thenScan (closed (m + j) (loopAt j l h) f (coefficient (m + j) f)) (scan m (loopsOf j l h)))
+  unfolding onward loopsOf
+  scan-next j k r =
+      let p : n - suc j + length (remaining m (loopsOf n l h) f) ≡ length (loopsOf n l h) = omega (arith, ap length r, length-loops (suc j) l h, length-loops n l h) in
+      let q : loops - n + (n - suc j) ≡ loops - suc j = omega arith in
+      e
+      ∙ ap (after (loops - n)) (next-law m (loopsOf n l h) f (n - suc j) p ∙ ap (λ (ls : List Loop). onward m (n - suc j) ls f) r)
+      ∙ after-after (loops - n) (n - suc j) _
+      ∙ ap (λ (i : ℕ). after i (thenScan (closed (m + length (loopsOf j l h)) (loopAt j l h) f (coefficient (m + length (loopsOf j l h)) f)) (scan m (loopsOf j l h)))) q
+      ∙ ap (λ (v : ℕ). after (loops - suc j) (thenScan (closed v (loopAt j l h) f (coefficient v f)) (scan m (loopsOf j l h)))) (here-at m j l h f)
+
+  -- a variable is replaced, and the scan goes on with the loops outside it
+  pub scan-on : (k : ℕ) (g : Form) → 0 < k → k ≤ n → remaining m (loopsOf n l h) f ≡ loopsOf k l h → built g ≡ closed (m + (k - 1)) (loopAt (k - 1) l h) f (coefficient (m + (k - 1)) f)
+      → scan m (loopsOf loops l h) f₀ ≡ after (loops - (k - 1)) (scan m (loopsOf (k - 1) l h) g)
+  unfolding thenScan
+  scan-on zero g z q r b = absurd (omega arith)
+  scan-on (suc j) g z q r b =
+      let d : suc j - 1 ≡ j = omega arith in
+      let w : suc (loops - suc j) ≡ loops - j = omega arith in
+      let c : built g ≡ closed (m + j) (loopAt j l h) f (coefficient (m + j) f) = b ∙ ap (λ (i : ℕ). closed (m + i) (loopAt i l h) f (coefficient (m + i) f)) d in
+      scan-next j q r
+      ∙ ap (λ (t : Built). after (loops - suc j) (thenScan t (scan m (loopsOf j l h)))) (sym c)
+      ∙ after-more (loops - suc j) (scan m (loopsOf j l h) g)
+      ∙ ap (λ (i : ℕ). after i (scan m (loopsOf j l h) g)) w
+      ∙ ap (λ (i : ℕ). after (loops - i) (scan m (loopsOf i l h) g)) (sym d)
+
+  -- a number is out of range where a variable is replaced
+  pub scan-out : (k : ℕ) → 0 < k → k ≤ n → remaining m (loopsOf n l h) f ≡ loopsOf k l h → outOfRange ≡ closed (m + (k - 1)) (loopAt (k - 1) l h) f (coefficient (m + (k - 1)) f)
+      → scan m (loopsOf loops l h) f₀ ≡ record { form = outOfRange; through = loops - (k - 1) }
+  unfolding thenScan
+  scan-out zero z q r b = absurd (omega arith)
+  scan-out (suc j) z q r b =
+      let d : suc j - 1 ≡ j = omega arith in
+      let c : outOfRange ≡ closed (m + j) (loopAt j l h) f (coefficient (m + j) f) = b ∙ ap (λ (i : ℕ). closed (m + i) (loopAt i l h) f (coefficient (m + i) f)) d in
+      let w : loops - suc j + 1 ≡ loops - (suc j - 1) = omega arith in
+      scan-next j q r ∙ ap (λ (t : Built). after (loops - suc j) (thenScan t (scan m (loopsOf j l h)))) (sym c) ∙ after-is (loops - suc j) _ ∙ ap (λ (i : ℕ). ending outOfRange i) w
+
+  -- no variable is left
+  pub scan-end : remaining m (loopsOf n l h) f ≡ loopsOf 0 l h → scan m (loopsOf loops l h) f₀ ≡ record { form = built f; through = loops - n }
+  unfolding onward loopsOf
+  scan-end r =
+      let p : n + length (remaining m (loopsOf n l h) f) ≡ length (loopsOf n l h) = omega (arith, ap length r, length-loops n l h) in
+      let w : loops - n + 0 ≡ loops - n = omega arith in
+      e
+      ∙ ap (after (loops - n)) (next-law m (loopsOf n l h) f n p ∙ ap (λ (ls : List Loop). onward m n ls f) r)
+      ∙ after-is (loops - n) (ended f)
+      ∙ ap (λ (i : ℕ). ending (built f) i) w
 
 -- ---- forms that are set
 
@@ -144,6 +236,52 @@ multiple-alone k z g kg e =
         sym (sum-flat (replicate 13 (pos 0)) (map (λ z. k *ℤ z) g) zeros-kept m)
         ∙ rw (zipped-zeros 13 (map (λ z. k *ℤ z) g) (m .long), e)
     by false e = refl
+
+-- ---- a number added to the constant alone
+
+zipped-none : (op : ℤ → ℤ → ℤ) → ((x : ℤ) → op x (pos 0) ≡ x) → (n : ℕ) (cs : List ℤ) → length cs ≡ n → zipped op cs (replicate n (pos 0)) ≡ cs
+unfolding zipped
+zipped-none op e zero [] h = refl
+zipped-none op e zero (c ∷ cs) h = absurd (omega arith)
+zipped-none op e (suc n) [] h = absurd (omega arith)
+zipped-none op e (suc n) (c ∷ cs) h = λ j. e c j ∷ zipped-none op e n cs (omega arith) j
+
+and-yes : (s : Bool) {t : Bool} → t ≡ true → s ≡ (s && t)
+and-yes true e = sym e
+and-yes false e = refl
+
+plus-flat : (f : List ℤ) (z : ℤ) → Kept f → builtOf (inRange (getD f 0 (pos 0) +ℤ z)) (set f 0 (getD f 0 (pos 0) +ℤ z)) ≡ sumOf (asForm f) (constantForm z)
+unfolding sumOf build asForm
+plus-flat [] z k = absurd (let l = k .long in omega arith)
+plus-flat (x ∷ f) z k =
+    let l = k .long in
+    let r = both (inRange x) (allInRange f) (sym (ranges .more x f) ∙ k .inside) in
+    rw (zipped-none _+ℤ_ +ℤ-idr 12 f (omega arith)) (ap (λ (t : Bool). builtOf t ((x +ℤ z) ∷ f)) (and-yes (inRange (x +ℤ z)) (r .1)))
+
+-- y is z, as the machine reads it
+module _ (f : List ℤ) {y z : ℤ} (e : y ≡ z) (k : Kept f) (q : inRange z ≡ true) where
+  once : pos 1 *ℤ y ≡ z
+  once = ap (λ (x : ℤ). pos 1 *ℤ x) e ∙ omega (integers, times (pos 1) z)
+
+  pub constant-added : (g : List ℤ) (t : Bool) → t ≡ (inRange (pos 1 *ℤ y) && inRange (getD f 0 (pos 0) +ℤ pos 1 *ℤ y)) → (t ≡ true → g ≡ set f 0 (getD f 0 (pos 0) +ℤ pos 1 *ℤ y)) → (builtOf t g ≡ sumOf (asForm f) (constantForm z)) × (t ≡ true → Kept g)
+  constant-added g t p h = by t (p ∙ (λ j. inRange (once j) && inRange (getD f 0 (pos 0) +ℤ once j)) ∙ ap (λ (b : Bool). b && inRange (getD f 0 (pos 0) +ℤ z)) q) (λ u. h u ∙ ap (λ (x : ℤ). set f 0 (getD f 0 (pos 0) +ℤ x)) once)
+    where
+      by : (t : Bool) → t ≡ inRange (getD f 0 (pos 0) +ℤ z) → (t ≡ true → g ≡ set f 0 (getD f 0 (pos 0) +ℤ z)) → (builtOf t g ≡ sumOf (asForm f) (constantForm z)) × (t ≡ true → Kept g)
+      by true p h = ((λ j. builtOf (p j) (h refl j)) ∙ plus-flat f z k, λ u. subst Kept (sym (h refl)) (set-kept f 0 (getD f 0 (pos 0) +ℤ z) (sym p) k))
+      by false p h = (ap (λ (b : Bool). builtOf b (set f 0 (getD f 0 (pos 0) +ℤ z))) p ∙ plus-flat f z k, λ u. absurd (clash (sym u)))
+
+-- taking 1 away is adding -1
+zeros-same : (n : ℕ) (cs : List ℤ) → zipped _+ℤ_ cs (replicate n (pos 0)) ≡ zipped _-ℤ_ cs (replicate n (pos 0))
+unfolding zipped
+zeros-same n [] = refl
+zeros-same zero (c ∷ cs) = refl
+zeros-same (suc n) (c ∷ cs) = λ j. (let e : c +ℤ pos 0 ≡ c -ℤ pos 0 = omega (integers, plus c (pos 0), minus c (pos 0)) in e) j ∷ zeros-same n cs j
+
+pub one-less : (f : Form) → sumOf f (constantForm (negsuc 0)) ≡ differenceOf f (constantForm (pos 1))
+unfolding sumOf differenceOf
+one-less f =
+    let e : f .constant +ℤ negsuc 0 ≡ f .constant -ℤ pos 1 = omega (integers, plus (f .constant) (negsuc 0), minus (f .constant) (pos 1)) in
+    λ j. build (e j) (zeros-same 12 (f .coefficients) j)
 
 -- ---- a call's forms put in, a variable at a time
 

@@ -1,16 +1,17 @@
 // Index forms: the constant, and then the coefficient of each index variable.
 ghost use mathlib.Core.Path.{_≡_};
-ghost use mathlib.Core.Bool.{true, false};
+ghost use mathlib.Core.Bool.{true, false, _&&_};
+ghost use mathlib.Core.List.{List};
 ghost use Prim.Native.Nat.{_+_, _≤_, _<_};
-ghost use lib.ListN.{getD, drop, replicate};
-ghost use lib.IntN.{pos};
+ghost use lib.ListN.{getD, set, drop, replicate};
+ghost use lib.IntN.{ℤ, pos, _+ℤ_, _*ℤ_};
 ghost use Rattle.language.specs.Form.{built, inRange, constantForm, variableForm, sumOf, differenceOf, multipleOf, _thenBuild_, allZero, closed, showingOf, showing, putIn};
+ghost use Rattle.language.specs.Settled.{goneThrough, remaining};
 ghost use Rattle.language.specs.Tree.{Place, product};
 ghost use Rattle.language.specs.Limits.{mostVariables, mostLoops, allVariables};
 ghost use Rattle.language.specs.Check.{combined};
 ghost use Rattle.forms.specs.Products.{madeOf, productOf, MadeKept};
-ghost use Rattle.forms.specs.Flat.{sizeNumbers, Kept, Short, widened, asForm, builtOf, showingBy, shownOf};
-ghost use Rattle.forms.specs.Entry.{entryOf};
+ghost use Rattle.forms.specs.Flat.{formNumbers, sizeNumbers, Kept, Short, widened, asForm, builtOf, showingBy, shownOf};
 ghost use Rattle.forms.specs.Rows.{Rows, loopAt, loopsOf, formsOf};
 use limits::ALL_VARIABLES;
 use limits::FURTHEST;
@@ -29,17 +30,17 @@ pub type Form = [i64; FORM_NUMBERS];
 
 pub type Size = [i32; SIZE_NUMBERS];
 
-// A number of a form, or that it is out of range.
-pub enum Num {
-    In(i64),
-    Out,
-}
-
 // What trying to show a form 0 or more gives.
 pub enum Verdict {
     Shown,
     NotShown,
     OutOfRange,
+}
+
+// What trying to show a form gives, and how many loop variables were gone through.
+pub struct Settling {
+    pub verdict: Verdict,
+    pub through: usize,
 }
 
 // What multiplying two forms gives: the product, a number out of range, or that both have variables.
@@ -56,22 +57,28 @@ pub fn in_range(z: i64) -> bool
     LOWEST <= z && z <= FURTHEST
 }
 
-// x + k * y, each in range.
-pub fn entry(x: i64, k: i64, y: i64) -> Num
-    requires { ⌜ inRange x ≡ true ⌝ }
+// f's number i becomes itself plus k times y; false where the product or the sum is out of range, and f is then as before.
+fn add_number(f: &mut Form, i: usize, k: i64, y: i64) -> bool
+    requires { ⌜ i < formNumbers ⌝ }
+    requires { ⌜ inRange (getD (now f) i (pos 0)) ≡ true ⌝ }
     requires { ⌜ inRange k ≡ true ⌝ }
     requires { ⌜ inRange y ≡ true ⌝ }
-    ensures { λ r. ⌜ r ≡ entryOf x k y ⌝ }
+    ensures { λ r. ⌜ r ≡ (inRange (k *ℤ y) && inRange (getD (now (f .entry)) i (pos 0) +ℤ k *ℤ y)) ⌝ }
+    ensures { λ r. ⌜ (r ≡ true → now (f .exit) ≡ set (now (f .entry)) i (getD (now (f .entry)) i (pos 0) +ℤ k *ℤ y)) ⌝ }
 {
-    let p = k * y;
-    if in_range(p) {
-        let z = x + p;
-        if in_range(z) {
-            return Num::In(z);
-        }
-        return Num::Out;
+    if y == 0 {
+        return true;
     }
-    Num::Out
+    let p = k * y;
+    if in_range(p) {} else {
+        return false;
+    }
+    let z = f[i] + p;
+    if in_range(z) {
+        f[i] = z;
+        return true;
+    }
+    false
 }
 
 // f becomes f plus k times g; false where a number is out of range, and what f holds then is of no use.
@@ -83,15 +90,9 @@ pub fn add_scaled(f: &mut Form, k: i64, g: &Form) -> bool
     ensures { λ r. ⌜ (r ≡ true → Kept (now (f .exit))) ⌝ }
 {
     for i in 0..FORM_NUMBERS {
-        let x = f[i];
         let y = g[i];
-        match entry(x, k, y) {
-            Num::In(z) => {
-                f[i] = z;
-            }
-            Num::Out => {
-                return false;
-            }
+        if add_number(f, i, k, y) {} else {
+            return false;
         }
     }
     true
@@ -113,6 +114,16 @@ pub fn subtract(f: &mut Form, g: &Form) -> bool
     ensures { λ r. ⌜ (r ≡ true → Kept (now (f .exit))) ⌝ }
 {
     add_scaled(f, -1, g)
+}
+
+// f becomes f + z.
+pub fn add_constant(f: &mut Form, z: i64) -> bool
+    requires { ⌜ Kept (now f) ⌝ }
+    requires { ⌜ inRange z ≡ true ⌝ }
+    ensures { λ r. ⌜ builtOf r (now (f .exit)) ≡ sumOf (asForm (now (f .entry))) (constantForm z) ⌝ }
+    ensures { λ r. ⌜ (r ≡ true → Kept (now (f .exit))) ⌝ }
+{
+    add_number(f, 0, 1, z)
 }
 
 // f becomes the form of a number.
@@ -228,25 +239,56 @@ pub fn substitute(f: &mut Form, v: usize, lows: &[Form], highs: &[Form], n: usiz
     add_scaled(f, k, &lows[n])
 }
 
+// How many of the loops there are up to the highest whose variable has a coefficient other than 0.
+fn left(f: &Form, variables: usize, loops: usize) -> usize
+    requires { ⌜ Kept (now f) ⌝ }
+    requires { ⌜ variables + loops ≤ allVariables ⌝ }
+    ensures { λ r. ⌜ ((lows highs : List (List ℤ)) → remaining variables (loopsOf loops lows highs) (asForm (now (f .entry))) ≡ loopsOf r lows highs) ⌝ }
+    ensures { λ r. ⌜ r ≤ loops ⌝ }
+{
+    let mut n = loops;
+    while 0 < n {
+        let x = f[variables + n];
+        if x != 0 {
+            return n;
+        }
+        n -= 1;
+    }
+    n
+}
+
 // Shows f to be 0 or more, under so many family variables and open loops. What f holds afterwards is of no use.
-pub fn show(f: &mut Form, variables: usize, loops: usize, lows: &[Form], highs: &[Form]) -> Verdict
+// It goes from one variable whose coefficient is not 0 to the next below it, so it looks at each coefficient once.
+pub fn show(f: &mut Form, variables: usize, loops: usize, lows: &[Form], highs: &[Form]) -> Settling
     requires { ⌜ Kept (now f) ⌝ }
     requires { ⌜ variables + loops ≤ allVariables ⌝ }
     requires { ⌜ Rows (now lows) loops ⌝ }
     requires { ⌜ Rows (now highs) loops ⌝ }
-    ensures { λ r. ⌜ shownOf r ≡ showing variables (loopsOf loops (now (lows .entry)) (now (highs .entry))) (built (asForm (now (f .entry)))) ⌝ }
+    ensures { λ r. ⌜ shownOf (r .verdict) ≡ showing variables (loopsOf loops (now (lows .entry)) (now (highs .entry))) (built (asForm (now (f .entry)))) ⌝ }
+    ensures { λ r. ⌜ r .through ≡ goneThrough variables (loopsOf loops (now (lows .entry)) (now (highs .entry))) (built (asForm (now (f .entry)))) ⌝ }
 {
     let mut n = loops;
-    while 0 < n {
-        n -= 1;
+    let mut next = left(f, variables, loops);
+    while 0 < next {
+        n = next - 1;
         if substitute(f, variables + n, lows, highs, n) {} else {
-            return Verdict::OutOfRange;
+            return Settling {
+                verdict: Verdict::OutOfRange,
+                through: loops - n,
+            };
         }
+        next = left(f, variables, n);
     }
+    let through = loops - n;
     if none_negative(f) {
-        Verdict::Shown
-    } else {
-        Verdict::NotShown
+        return Settling {
+            verdict: Verdict::Shown,
+            through,
+        };
+    }
+    Settling {
+        verdict: Verdict::NotShown,
+        through,
     }
 }
 

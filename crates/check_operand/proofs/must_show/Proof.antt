@@ -26,17 +26,17 @@ enum-told-3 c =
 returns : tie.Need-returns
 unfolding checkedPart byShowing mustShow shownOf
 returns c =
-    (λ fs ks. sym (ap (byShowing (c .before .before .before .before .args .at)) (sym (c .before .before .show .ensures) ∙ ap shownOf (c .enum-told .given .1))), refl)
+    (λ fs ks. sym (ap (byShowing (c .before .before .before .before .args .at)) (sym (c .before .before .show .ensures .0) ∙ ap shownOf (c .enum-told .given .1))), refl)
 
 returns-2 : tie.Need-returns-2
 unfolding checkedPart byShowing mustShow shownOf
 returns-2 c =
-    (λ fs ks. sym (ap (byShowing (c .before .before .before .before .args .at)) (sym (c .before .before .show .ensures) ∙ ap shownOf (c .enum-told2 .given .1))), tt)
+    (λ fs ks. sym (ap (byShowing (c .before .before .before .before .args .at)) (sym (c .before .before .show .ensures .0) ∙ ap shownOf (c .enum-told2 .given .1))), tt)
 
 returns-3 : tie.Need-returns-3
 unfolding checkedPart byShowing mustShow shownOf
 returns-3 c =
-    (λ fs ks. sym (ap (byShowing (c .before .before .before .before .args .at)) (sym (c .before .before .show .ensures) ∙ ap shownOf (c .enum-told3 .given .1))), tt)
+    (λ fs ks. sym (ap (byShowing (c .before .before .before .before .args .at)) (sym (c .before .before .show .ensures .0) ∙ ap shownOf (c .enum-told3 .given .1))), tt)
 
 pub must-show-spec : {M : Type 1} → statement M
 must-show-spec =

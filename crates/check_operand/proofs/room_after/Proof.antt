@@ -2,77 +2,78 @@
 use borrow.Author.Needs.{needs}
 use Rattle.check_operand.proofs.room_after.Statement.{statement}
 use Rattle.check_operand.proofs.room_after.Tie as tie
-use mathlib.Core.Path.{refl, sym, ap, _∙_}
+use mathlib.Core.Path.{_≡_, refl, sym, ap, _∙_}
 use mathlib.Core.List.{List}
+use lib.IntN.{ℤ, pos, negsuc}
 use denote.Ref.{now}
-use Rattle.language.specs.Form.{Built, inRange, differenceOf}
-use Rattle.language.specs.Check.{Checked, Kind, Signature, Scope, mustShow, roomAfter}
-use Rattle.forms.specs.Flat.{asForm}
+use Rattle.language.specs.Form.{Form, Built, inRange, sumOf, differenceOf, constantForm}
+use Rattle.language.specs.Check.{Checked, Kind, Signature, mustShow, roomAfter}
+use Rattle.forms.specs.Flat.{asForm, builtOf, widened}
 use Rattle.forms.specs.Rows.{loopsOf}
+use Rattle.forms.proofs.Laws.{one-less}
 use Rattle.check_index.specs.Answers.{checkedPart}
 use Rattle.check_operand.specs.Tables.{scopeWith}
 use Rattle.check_operand.proofs.OperandKinds.{shown-outside, is-made, not-made, then-made, then-not}
 
-set-constant-requires : tie.Need-set-constant-requires
-unfolding inRange
-set-constant-requires c κs =
-    refl
+-- size − 1, as it was built
+less : (c : tie.After-add-constant) → builtOf (c .add-constant .result) (c .add-constant .last .0) ≡ differenceOf (asForm (widened (now (c .before .before .before .before .args .size)))) (constantForm (pos 1))
+less c = c .add-constant .ensures .0 ∙ ap (λ (l : List ℤ). sumOf (asForm l) (constantForm (negsuc 0))) (c .before .before .load .ensures .0) ∙ one-less _
+
+-- f taken from it
+abbrev next : tie.Start → Form → Built
+next s x = differenceOf x (asForm (now (s .args .f)))
+
+-- what is shown of it
+abbrev shows : tie.Start → List Signature → List Kind → Built → Checked (Unit {0})
+shows s fs ks b = mustShow (s .args .at) (scopeWith fs ks (s .args .variables) (loopsOf (s .args .loops) (now (s .args .lows)) (now (s .args .highs)))) b
 
 load-requires : tie.Need-load-requires
-load-requires c κs = search needs
+load-requires c κs =
+    search needs
+
+add-constant-requires : tie.Need-add-constant-requires
+unfolding inRange
+add-constant-requires c κs =
+    (c .before .load .ensures .1, refl)
 
 subtract-requires : tie.Need-subtract-requires
-subtract-requires c κs = search needs
-
-subtract-requires-2 : tie.Need-subtract-requires-2
-subtract-requires-2 c κs =
-    (c .before .before .subtract .ensures .1 (c .before .if1 .taken), c .before .before .before .before .before .before .before .before .before .pre .0)
+subtract-requires c κs =
+    (c .before .before .add-constant .ensures .1 (c .before .if1 .taken), c .before .before .before .before .before .before .pre .0)
 
 must-show-requires : tie.Need-must-show-requires
 must-show-requires c κs =
-    (c .before .before .subtract2 .ensures .1 (c .before .if2 .taken), c .before .before .before .before .before .before .before .before .before .before .before .before .pre .1 .1)
+    (c .before .before .subtract .ensures .1 (c .before .if2 .taken), c .before .before .before .before .before .before .before .before .before .pre .1 .1)
 
 returns : tie.Need-returns
 unfolding roomAfter
 returns c =
-    let a = c .before .before .before .before .before .before .before .before .before .before .before .before .before .args in
-    let ls = loopsOf (a .loops) (now (a .lows)) (now (a .highs)) in
-    let f = asForm (now (a .f)) in
-    let s : List Signature → List Kind → Scope = λ fs ks. scopeWith fs ks (a .variables) ls in
-    let shows : List Signature → List Kind → Built → Checked (Unit {0}) = λ fs ks b. mustShow (a .at) (s fs ks) b in
-    let less = c .before .before .before .before .before .before .subtract .ensures .0 ∙ (λ i. differenceOf (asForm (c .before .before .before .before .before .before .before .before .before .load .ensures .0 i)) (c .before .before .before .before .before .before .before .before .before .before .before .set-constant .ensures .0 i)) in
-    (λ fs ks. c .must-show .ensures .0 fs ks ∙ ap (shows fs ks) (sym (then-made (λ x. differenceOf x f) (asForm (c .before .before .before .before .before .before .subtract .last .0)) (is-made (c .before .before .before .before .before .before .subtract .last .0) less (c .before .before .before .before .before .if1 .taken)) ∙ is-made (c .before .before .before .subtract2 .last .0) (c .before .before .before .subtract2 .ensures .0) (c .before .before .if2 .taken))), c .must-show .ensures .1)
+    let s = c .before .before .before .before .before .before .before .before .before .before in
+    let a = c .before .before .before .before .before .before in
+    let d = a .add-constant .last .0 in
+    (λ fs ks. c .must-show .ensures .0 fs ks ∙ ap (shows s fs ks) (sym (then-made (next s) (asForm d) (is-made d (less a) (c .before .before .before .before .before .if1 .taken)) ∙ is-made (c .before .before .before .subtract .last .0) (c .before .before .before .subtract .ensures .0) (c .before .before .if2 .taken))), c .must-show .ensures .1)
 
 returns-2 : tie.Need-returns-2
 unfolding checkedPart roomAfter
 returns-2 c =
-    let a = c .before .before .before .before .before .before .before .before .before .before .before .args in
-    let ls = loopsOf (a .loops) (now (a .lows)) (now (a .highs)) in
-    let f = asForm (now (a .f)) in
-    let s : List Signature → List Kind → Scope = λ fs ks. scopeWith fs ks (a .variables) ls in
-    let shows : List Signature → List Kind → Built → Checked (Unit {0}) = λ fs ks b. mustShow (a .at) (s fs ks) b in
-    let less = c .before .before .before .before .subtract .ensures .0 ∙ (λ i. differenceOf (asForm (c .before .before .before .before .before .before .before .load .ensures .0 i)) (c .before .before .before .before .before .before .before .before .before .set-constant .ensures .0 i)) in
-    (λ fs ks. shown-outside (a .at) (s fs ks) ∙ ap (shows fs ks) (sym (then-made (λ x. differenceOf x f) (asForm (c .before .before .before .before .subtract .last .0)) (is-made (c .before .before .before .before .subtract .last .0) less (c .before .before .before .if1 .taken)) ∙ not-made (c .before .subtract2 .last .0) (c .before .subtract2 .ensures .0) (c .if2 .left))), tt)
+    let s = c .before .before .before .before .before .before .before .before in
+    let a = c .before .before .before .before in
+    let d = a .add-constant .last .0 in
+    (λ fs ks. shown-outside _ _ ∙ ap (shows s fs ks) (sym (then-made (next s) (asForm d) (is-made d (less a) (c .before .before .before .if1 .taken)) ∙ not-made (c .before .subtract .last .0) (c .before .subtract .ensures .0) (c .if2 .left))), tt)
 
 returns-3 : tie.Need-returns-3
 unfolding checkedPart roomAfter
 returns-3 c =
-    let a = c .before .before .before .before .before .before .before .before .args in
-    let ls = loopsOf (a .loops) (now (a .lows)) (now (a .highs)) in
-    let f = asForm (now (a .f)) in
-    let s : List Signature → List Kind → Scope = λ fs ks. scopeWith fs ks (a .variables) ls in
-    let shows : List Signature → List Kind → Built → Checked (Unit {0}) = λ fs ks b. mustShow (a .at) (s fs ks) b in
-    let less = c .before .subtract .ensures .0 ∙ (λ i. differenceOf (asForm (c .before .before .before .before .load .ensures .0 i)) (c .before .before .before .before .before .before .set-constant .ensures .0 i)) in
-    (λ fs ks. shown-outside (a .at) (s fs ks) ∙ ap (shows fs ks) (sym (then-not (λ x. differenceOf x f) (not-made (c .before .subtract .last .0) less (c .if1 .left)))), tt)
+    let s = c .before .before .before .before .before in
+    let a = c .before in
+    (λ fs ks. shown-outside _ _ ∙ ap (shows s fs ks) (sym (then-not (next s) (not-made (a .add-constant .last .0) (less a) (c .if1 .left)))), tt)
 
 pub room-after-spec : {M : Type 1} → statement M
 room-after-spec =
     tie.close
     (tie.spec
-    set-constant-requires
     load-requires
+    add-constant-requires
     subtract-requires
-    subtract-requires-2
     must-show-requires
     returns
     returns-2

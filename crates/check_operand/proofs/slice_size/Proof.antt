@@ -2,9 +2,9 @@
 use borrow.Author.Needs.{needs}
 use Rattle.check_operand.proofs.slice_size.Statement.{statement}
 use Rattle.check_operand.proofs.slice_size.Tie as tie
-use mathlib.Core.Path.{refl, sym, ap, _∙_}
+use mathlib.Core.Path.{refl, sym, _∙_}
 use lib.IntN.{pos}
-use Rattle.language.specs.Form.{Form, inRange, constantForm, sumOf}
+use Rattle.language.specs.Form.{inRange, constantForm, sumOf}
 use Rattle.language.specs.Check.{sliceSize}
 use Rattle.language.proofs.Integers.{clash}
 use Rattle.forms.specs.Flat.{asForm}
@@ -13,20 +13,16 @@ use Rattle.check_operand.proofs.OperandKinds.{is-made, not-made, then-m
 subtract-requires : tie.Need-subtract-requires
 subtract-requires c κs = search needs
 
-set-constant-requires : tie.Need-set-constant-requires
+add-constant-requires : tie.Need-add-constant-requires
 unfolding inRange
-set-constant-requires c κs =
-    refl
-
-add-requires : tie.Need-add-requires
-add-requires c κs =
-    (c .before .before .before .before .before .subtract .ensures .1 (c .before .before .before .before .if1 .taken), c .before .before .set-constant .ensures .1)
+add-constant-requires c κs =
+    (c .before .before .subtract .ensures .1 (c .before .if1 .taken), refl)
 
 returns : tie.Need-returns
 unfolding sliceSize
 returns c =
-    let d = c .before .before .before .before .before .before .subtract .last .0 in
-    (c .add .ensures .0 ∙ ap (λ (x : Form). sumOf (asForm d) x) (c .before .before .before .set-constant .ensures .0) ∙ sym (then-made (λ x. sumOf x (constantForm (pos 1))) (asForm d) (is-made d (c .before .before .before .before .before .before .subtract .ensures .0) (c .before .before .before .before .before .if1 .taken))), c .add .ensures .1)
+    let d = c .before .before .before .subtract .last .0 in
+    (c .add-constant .ensures .0 ∙ sym (then-made (λ x. sumOf x (constantForm (pos 1))) (asForm d) (is-made d (c .before .before .before .subtract .ensures .0) (c .before .before .if1 .taken))), c .add-constant .ensures .1)
 
 returns-2 : tie.Need-returns-2
 unfolding sliceSize
@@ -35,4 +31,4 @@ returns-2 c =
 
 pub slice-size-spec : {M : Type 1} → statement M
 slice-size-spec =
-    tie.close (tie.spec subtract-requires set-constant-requires add-requires returns returns-2)
+    tie.close (tie.spec subtract-requires add-constant-requires returns returns-2)

@@ -1,66 +1,38 @@
 -- `add_scaled` meets its contract. One loop for sum, difference and replacement. The invariant has the products' answer beside `Passed`.
 -- Assumes nothing.
+use Rattle.forms.proofs.add_scaled.Statement.{statement}
+use Rattle.forms.proofs.add_scaled.Tie as tie
 use borrow.Author.Needs.{needs}
 use native.Mathlib.Omega.{arith}
-use mathlib.Core.Path.{_≡_, refl, sym, ap, _∙_}
-use mathlib.Core.List.{map}
-use Prim.Native.Nat.{_-_, _+_, _*_}
+use mathlib.Core.Path.{_≡_, refl, sym, ap, _∙_, subst}
+use mathlib.Core.List.{List, map}
+use Prim.Native.Nat.{_-_, _+_}
 use lib.IntN.{ℤ, pos, _+ℤ_, _*ℤ_}
 use native.Mathlib.Numerals.{add-one}
 use mathlib.Core.Bool.{Bool, true, _&&_}
-use lib.ListN.{drop, getD, length-map}
+use lib.ListN.{drop, getD, set, length-map}
 use mir.Syntax.{w64}
 use mir.Val.{toZ, ofZ}
 use Rattle.language.specs.Form.{inRange, allInRange, zipped, sumOf, multipleOf, _thenBuild_}
 use Rattle.forms.specs.Flat.{asForm, builtOf}
 use Rattle.language.proofs.Integers.{range-back, clash}
-use Rattle.forms.proofs.Lists.{ranges, rest-good, rest-bad, rest-none, Passed, begun, first-in, second-in, again, stopped, ended, ended-kept}
-use Rattle.forms.specs.Entry.{entryOf}
-use Rattle.forms.proofs.Laws.{entry-in, entry-out, map-at, both-flat, both-no}
-use Rattle.forms.proofs.add_scaled.Statement.{statement}
-use Rattle.forms.proofs.add_scaled.Tie as tie
+use Rattle.forms.proofs.Lists.{ranges, rest-good, rest-bad, rest-none, Passed, begun, first-in, second-in, again, stopped, ended, ended-kept, both}
+use Rattle.forms.proofs.Laws.{map-at, both-flat, both-no}
 
 abbrev Inv-loop : tie.InvT-loop
-Inv-loop f₀ k g i₀ f i = Passed (λ x y. x +ℤ toZ w64 k *ℤ y) f₀ g f i × (allInRange (map (λ z. toZ w64 k *ℤ z) g) ≡ allInRange (drop i (map (λ z. toZ w64 k *ℤ z) g)))
+Inv-loop f₀ k g i₀ f i =
+    Passed (λ x y. x +ℤ toZ w64 k *ℤ y) f₀ g f i × (allInRange (map (λ z. toZ w64 k *ℤ z) g) ≡ allInRange (drop i (map (λ z. toZ w64 k *ℤ z) g)))
 
 abbrev μ-loop : tie.MeasureT-loop
-μ-loop f₀ k g i₀ f i = 13 - i
+μ-loop f₀ k g i₀ f i =
+    13 - i
 
-loop-holds : tie.Need-loop-holds Inv-loop μ-loop
-loop-holds c = (begun _ _ _, refl)
-
-mul-x : tie.Need-mul-x Inv-loop μ-loop
-mul-x c = search needs
-
-element-copy-out-x : tie.Need-element-copy-out-x Inv-loop μ-loop
-element-copy-out-x c = search needs
-
-mul-y : tie.Need-mul-y Inv-loop μ-loop
-mul-y c = search needs
-
-element-copy-out-y : tie.Need-element-copy-out-y Inv-loop μ-loop
-element-copy-out-y c = search needs
+-- the number that comes in of each list
+x-in : (c : tie.In-loop Inv-loop μ-loop) → (getD (c .before .loop .f) (c .before .loop .i) (pos 0) ≡ getD (c .before .before .args .f .now) (c .before .loop .i) (pos 0)) × (inRange (getD (c .before .loop .f) (c .before .loop .i) (pos 0)) ≡ true)
+x-in c = first-in (c .before .loop .inv .0) (c .before .before .pre .0) (c .before .before .pre .1 .1) (c .loop-test .taken)
 
 y-in : (c : tie.In-loop Inv-loop μ-loop) → inRange (getD (c .before .before .args .g .now) (c .before .loop .i) (pos 0)) ≡ true
 y-in c = second-in (c .before .loop .inv .0) (c .before .before .pre .0) (c .before .before .pre .1 .1) (c .loop-test .taken)
-
-entry-requires : tie.Need-entry-requires Inv-loop μ-loop
-entry-requires c κs =
-    let s = c .before .before in
-    let a = s .before .before in
-    let x = first-in (s .before .loop .inv .0) (a .pre .0) (a .pre .1 .1) (s .loop-test .taken) .1 in
-    (search (needs, range-back), (search (needs, range-back), let y = y-in s in search (needs, range-back)))
-
--- the leaf's answer, of the two lists' entries
-entry-is : (c : tie.After-entry Inv-loop μ-loop) →
-    let s = c .before .before .before in
-    let a = s .before .before in
-    c .entry .result ≡ entryOf (getD (a .args .f .now) (s .before .loop .i) (pos 0)) (toZ w64 (ofZ w64 (a .args .k))) (getD (a .args .g .now) (s .before .loop .i) (pos 0))
-entry-is c =
-    let s = c .before .before .before in
-    let a = s .before .before in
-    let x = first-in (s .before .loop .inv .0) (a .pre .0) (a .pre .1 .1) (s .loop-test .taken) in
-    c .entry .ensures ∙ (λ j. entryOf ((range-back (x .1) ∙ x .0) j) (toZ w64 (ofZ w64 (a .args .k))) (range-back (y-in s) j))
 
 -- the definition, of the two lists
 meets : (c : tie.Start Inv-loop μ-loop) →
@@ -73,44 +45,63 @@ meets c =
     let g = c .args .g .now in
     both-flat _ f g (c .pre .0) (c .pre .1 .1) ∙ ap (λ (v : ℤ). (multipleOf v (asForm g) thenBuild sumOf (asForm f))) (range-back (c .pre .1 .0))
 
-enum-known-z : tie.Need-enum-known-z Inv-loop μ-loop
-enum-known-z c = search needs
+-- the leaf's answer, of the two lists' entries
+number-told : (c : tie.After-add-number Inv-loop μ-loop) →
+    let s = c .before .before .before in
+    let a = s .before .before in
+    let k = toZ w64 (ofZ w64 (a .args .k)) in
+    let x = getD (a .args .f .now) (s .before .loop .i) (pos 0) in
+    let y = getD (a .args .g .now) (s .before .loop .i) (pos 0) in
+    c .add-number .result ≡ (inRange (k *ℤ y) && inRange (x +ℤ k *ℤ y))
+number-told c =
+    let s = c .before .before .before in
+    let k = toZ w64 (ofZ w64 (s .before .before .args .k)) in
+    c .add-number .ensures .0 ∙ (λ j. inRange (k *ℤ range-back (y-in s) j) && inRange (x-in s .0 j +ℤ k *ℤ range-back (y-in s) j))
 
-mul-z : tie.Need-mul-z Inv-loop μ-loop
-mul-z c = search needs
+loop-holds : tie.Need-loop-holds Inv-loop μ-loop
+loop-holds c =
+    (begun _ _ _, refl)
 
-element-set-from-z : tie.Need-element-set-from-z Inv-loop μ-loop
-element-set-from-z c = search needs
+mul-y : tie.Need-mul-y Inv-loop μ-loop
+mul-y c =
+    search needs
 
-enum-told : tie.Need-enum-told Inv-loop μ-loop
-enum-told c = search needs
+element-copy-out-y : tie.Need-element-copy-out-y Inv-loop μ-loop
+element-copy-out-y c =
+    search needs
+
+add-number-requires : tie.Need-add-number-requires Inv-loop μ-loop
+add-number-requires c κs =
+    let s = c .before .before in
+    (omega (arith, s .loop-test .taken), (x-in s .1, (search (needs, range-back), let y = y-in s in search (needs, range-back))))
 
 returns : tie.Need-returns Inv-loop μ-loop
 returns c =
-    let m = c .before .before in
+    let m = c .before in
     let s = m .before .before .before in
     let a = s .before .before in
     let i = s .before .loop .i in
     let k = toZ w64 (ofZ w64 (a .args .k)) in
     let g = a .args .g .now in
     let l = a .pre .1 .1 .long in
-    let no = entry-out (getD (a .args .f .now) i (pos 0)) k (getD g i (pos 0)) (sym (c .enum-told .given .1) ∙ entry-is m) in
     let h = length-map g (λ z. k *ℤ z) in
     let bad =
-    both-no _ _ (allInRange (map (λ z. k *ℤ z) g)) (allInRange (zipped (λ x y. x +ℤ k *ℤ y) (a .args .f .now) g)) no
+    both-no _ _ (allInRange (map (λ z. k *ℤ z) g)) (allInRange (zipped (λ x y. x +ℤ k *ℤ y) (a .args .f .now) g)) (sym (number-told m) ∙ c .if1 .left)
     (λ e. s .before .loop .inv .1 ∙ rest-bad ranges (map (λ z. k *ℤ z) g) i (omega arith) (ap inRange (map-at (λ z. k *ℤ z) g i (pos 0) (omega arith)) ∙ e))
     (λ e. stopped (s .before .loop .inv .0) (a .pre .0) (a .pre .1 .1) (s .loop-test .taken) refl e) in
     (sym (ap (λ (t : Bool). builtOf t (zipped (λ x y. x +ℤ k *ℤ y) (a .args .f .now) g)) bad) ∙ meets a, (λ e. absurd (clash (sym e))))
 
 add-i : tie.Need-add-i Inv-loop μ-loop
-add-i c = search needs
+add-i c =
+    search needs
 
 loop-less : tie.Need-loop-less Inv-loop μ-loop
-loop-less c = search needs
+loop-less c =
+    search needs
 
 loop-again : tie.Need-loop-again Inv-loop μ-loop
 loop-again c =
-    let m = c .before .before .before in
+    let m = c .before in
     let s = m .before .before .before in
     let a = s .before .before in
     let i = s .before .loop .i in
@@ -118,9 +109,9 @@ loop-again c =
     let g = a .args .g .now in
     let l = a .pre .1 .1 .long in
     let h = length-map g (λ z. k *ℤ z) in
-    let yes = entry-in (getD (a .args .f .now) i (pos 0)) k (getD g i (pos 0)) (sym (c .before .z .given .1) ∙ entry-is m) in
-    let z-in = ap inRange (yes .2) ∙ yes .1 in (
-      rw (range-back z-in) (again (s .before .loop .inv .0) (a .pre .0) (a .pre .1 .1) (s .loop-test .taken) (yes .2) z-in),
+    let yes = both _ _ (sym (number-told m) ∙ c .if1 .taken) in
+    let put = m .add-number .ensures .1 (c .if1 .taken) ∙ (λ j. set (s .before .loop .f) i (x-in s .0 j +ℤ k *ℤ range-back (y-in s) j)) in (
+      subst (λ (f : List ℤ). Passed (λ x y. x +ℤ k *ℤ y) (a .args .f .now) g f (i + 1)) (sym put) (again (s .before .loop .inv .0) (a .pre .0) (a .pre .1 .1) (s .loop-test .taken) refl (yes .1)),
       s .before .loop .inv .1 ∙ rw add-one (rest-good ranges (map (λ z. k *ℤ z) g) i (omega arith) (ap inRange (map-at (λ z. k *ℤ z) g i (pos 0) (omega arith)) ∙ yes .0)),
     )
 
@@ -143,15 +134,9 @@ add-scaled-spec =
     Inv-loop
     μ-loop
     loop-holds
-    mul-x
-    element-copy-out-x
     mul-y
     element-copy-out-y
-    entry-requires
-    enum-known-z
-    mul-z
-    element-set-from-z
-    enum-told
+    add-number-requires
     returns
     add-i
     loop-less

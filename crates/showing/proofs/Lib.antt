@@ -1,0 +1,2 @@
+-- The laws of crate showing, file by file.
+pub mod Forms
