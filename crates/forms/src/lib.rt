@@ -257,6 +257,24 @@ fn left(f: &Form, variables: usize, loops: usize) -> usize
     n
 }
 
+// What is shown of f once no loop variable is left, of which so many were gone through.
+fn settled(f: &Form, through: usize) -> Settling
+    requires { ⌜ Kept (now f) ⌝ }
+    ensures { λ r. ⌜ shownOf (r .verdict) ≡ showingOf (built (asForm (now (f .entry)))) ⌝ }
+    ensures { λ r. ⌜ r .through ≡ through ⌝ }
+{
+    if none_negative(f) {
+        return Settling {
+            verdict: Verdict::Shown,
+            through,
+        };
+    }
+    Settling {
+        verdict: Verdict::NotShown,
+        through,
+    }
+}
+
 // Shows f to be 0 or more, under so many family variables and open loops. What f holds afterwards is of no use.
 // It goes from one variable whose coefficient is not 0 to the next below it, so it looks at each coefficient once.
 pub fn show(f: &mut Form, variables: usize, loops: usize, lows: &[Form], highs: &[Form]) -> Settling
@@ -268,27 +286,19 @@ pub fn show(f: &mut Form, variables: usize, loops: usize, lows: &[Form], highs: 
     ensures { λ r. ⌜ r .through ≡ goneThrough variables (loopsOf loops (now (lows .entry)) (now (highs .entry))) (built (asForm (now (f .entry)))) ⌝ }
 {
     let mut n = loops;
-    let mut next = left(f, variables, loops);
-    while 0 < next {
+    loop {
+        let next = left(f, variables, n);
+        if next == 0 {
+            return settled(f, loops - n);
+        }
         n = next - 1;
+        let through = loops - n;
         if substitute(f, variables + n, lows, highs, n) {} else {
             return Settling {
                 verdict: Verdict::OutOfRange,
-                through: loops - n,
+                through,
             };
         }
-        next = left(f, variables, n);
-    }
-    let through = loops - n;
-    if none_negative(f) {
-        return Settling {
-            verdict: Verdict::Shown,
-            through,
-        };
-    }
-    Settling {
-        verdict: Verdict::NotShown,
-        through,
     }
 }
 
