@@ -10,7 +10,7 @@ use lib.ListN.{getD, length, drop, replicate, length-replicate}
 use Rattle.language.specs.Tree.{Index, literal, variable, operation, badIndex}
 use Rattle.language.specs.Form.{Form, Loop, constantForm, variableForm}
 use Rattle.language.specs.Check.{Scope, good, formOf, require, noLeftover, checkBounds, inLoop}
-use Rattle.language.specs.Settled.{Below, Scoped, inner, IndexLaw, BodyLaw}
+use Rattle.language.specs.Settled.{Scoped, inner, IndexLaw, BodyLaw}
 use Rattle.language.proofs.FormLaws.{Zeros, also, Within, constant-within, variable-within}
 use Rattle.language.proofs.Safe.{not-good, both, then-both, required}
 use Rattle.language.proofs.Fits.{combined-sound}

@@ -2,7 +2,10 @@
 
 use crate::ask::{ask, untouched, Answer, Call, Question, Who};
 use crate::promises::promises;
+use crate::recorded::showings::RecordedShowing;
 use crate::recorded::Recorded;
+use crate::showing;
+use generate::forms::Showing;
 use generate::Case;
 
 /// Text bytes that are lent beyond what a text needs.
@@ -71,8 +74,23 @@ impl Tally {
         Ok(())
     }
 
+    /// Compares the answers about a showing and counts it.
+    pub fn showing(&mut self, asked: &Showing) -> Result<(), String> {
+        self.count(showing::compare(asked)?);
+        Ok(())
+    }
+
     /// Compares the answers to all recorded questions.
     pub fn recorded(&mut self, rows: &[Recorded]) -> Result<(), String> {
+        for row in rows {
+            row.hold(Who::Reference)?;
+            self.count(row.hold(Who::Library)?);
+        }
+        Ok(())
+    }
+
+    /// Compares the answers to all recorded showings.
+    pub fn recorded_showings(&mut self, rows: &[RecordedShowing]) -> Result<(), String> {
         for row in rows {
             row.hold(Who::Reference)?;
             self.count(row.hold(Who::Library)?);

@@ -15,31 +15,36 @@ fn called() -> Field {
     family(4, vec![qbits(size); 8], vec![])
 }
 
-/// Statements inside 8 loops, each bounded by the variable above, so that what
-/// is shown of the innermost variable goes through all of them.
+/// The sum of all variables above: every number of this form that may be other than 0 is,
+/// but for the constant.
+fn all_above(number: u8) -> Field {
+    (1..number).fold(variable(0), |above, next| sum(above, variable(next)))
+}
+
+/// Statements inside 8 loops, each bounded by the sum of all variables above, so that
+/// what is shown of the innermost variable goes through all of them.
 fn in_eight_loops(statements: Vec<Field>) -> Vec<Field> {
-    let above = |number: u8| variable(number - 1);
     let inner = (5..12).rev().fold(statements, |inside, number| {
-        vec![repeat(above(number), above(number), inside)]
+        vec![repeat(all_above(number), all_above(number), inside)]
     });
-    vec![repeat(literal(0), above(4), inner)]
+    vec![repeat(literal(0), all_above(4), inner)]
 }
 
 /// A family of 4 index variables that makes so many calls inside 8 loops.
 fn calls_in_eight_loops(calls: usize) -> Vec<Field> {
     let one = call(0, vec![variable(11); 4], vec![whole(0); 8]);
     let body = in_eight_loops(vec![one; calls]);
-    vec![called(), family(4, vec![qbits(all_sizes(8))], body)]
+    vec![called(), family(4, vec![qbits(all_sizes(512))], body)]
 }
 
 /// A family of 4 index variables that makes so many calls inside 8 loops, with slices from
-/// the innermost loop's variable to the last size: what is shown of their first index, of
-/// their size and that it is large enough goes through all loops.
+/// the variable of the last loop but one to that of the last: what is shown of them goes
+/// through all loops.
 fn slices_in_eight_loops(calls: usize) -> Vec<Field> {
-    let part = slice(0, variable(11), variable(3));
+    let part = slice(0, variable(10), variable(11));
     let one = call(0, vec![], vec![part; 8]);
     let body = in_eight_loops(vec![one; calls]);
-    let size = sum(all_sizes(8), literal(1));
+    let size = sum(all_sizes(512), literal(1));
     vec![
         family(0, vec![qbits(literal(1)); 8], vec![]),
         family(4, vec![qbits(size)], body),

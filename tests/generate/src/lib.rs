@@ -1,8 +1,9 @@
-//! Programs made from a seed: well-typed ones, damaged ones and limit cases.
+//! Programs made from a seed: well-typed ones, damaged ones and limit cases; and showings.
 
 pub mod build;
 pub mod case;
 pub mod damage;
+pub mod forms;
 pub mod histogram;
 pub mod libraries;
 pub mod library;

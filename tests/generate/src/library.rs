@@ -282,6 +282,20 @@ pub fn large_library() -> Vec<Field> {
     fields
 }
 
+/// As many gates as fit, inside 8 loops from 0 to n - 1: each on the wire that one loop's
+/// variable names, by turns.
+pub fn loops_in_loops() -> Vec<Field> {
+    let nested = |gates: usize| {
+        let gate = |number| h(element(0, variable(1 + (number % 8) as u8)));
+        let body = (0..gates).map(gate).collect();
+        let around = |inside, _| vec![repeat(literal(0), minus(0, 1), inside)];
+        let loops = (0..8).fold(body, around);
+        vec![family(1, vec![qbits(variable(0))], loops)]
+    };
+    let each = length(&nested(1)) - length(&nested(0));
+    nested((MOST_BYTES - length(&nested(0))) / each)
+}
+
 /// 4,000 small families: most of them call an earlier one, by turns with a number of
 /// one byte and, from family 257 on, of two.
 pub fn small_families() -> Vec<Field> {

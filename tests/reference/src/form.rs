@@ -33,6 +33,16 @@ pub struct Bounds {
     pub high: Form,
 }
 
+/// What a scan of the loops' variables finds.
+#[derive(Clone, Copy, Debug, PartialEq, Eq)]
+pub struct Scanned {
+    /// Whether the form is shown to be 0 or more.
+    pub shown: Result<bool, OutOfRange>,
+    /// How many loop variables there are from the highest down to the last that is replaced,
+    /// or whose replacement leaves the range; 0 where there is none.
+    pub through: usize,
+}
+
 impl Form {
     /// A form without variables.
     pub fn constant(constant: i64) -> Form {
@@ -91,16 +101,37 @@ impl Form {
     ///
     /// The loops' variables follow the family's own, of which there are `sizes`.
     pub fn shown(&self, sizes: usize, loops: &[Bounds]) -> Result<bool, OutOfRange> {
+        self.scanned(sizes, loops).shown
+    }
+
+    /// Goes through the loops' variables from the highest to the lowest.
+    pub fn scanned(&self, sizes: usize, loops: &[Bounds]) -> Scanned {
         let mut form = self.clone();
+        let mut through = 0;
         for (depth, bounds) in loops.iter().enumerate().rev() {
             let coefficient = std::mem::take(&mut form.coefficients[sizes + depth]);
-            if coefficient > 0 {
-                form = form.plus(&bounds.low.times(coefficient)?)?;
-            } else if coefficient < 0 {
-                form = form.plus(&bounds.high.times(coefficient)?)?;
-            }
+            let bound = match coefficient.signum() {
+                0 => continue,
+                1 => &bounds.low,
+                _ => &bounds.high,
+            };
+            through = loops.len() - depth;
+            let multiple = bound.times(coefficient);
+            form = match multiple.and_then(|multiple| form.plus(&multiple)) {
+                Ok(replaced) => replaced,
+                Err(out) => {
+                    let shown = Err(out);
+                    return Scanned { shown, through };
+                }
+            };
         }
-        Ok(form.constant >= 0 && form.coefficients.iter().all(|&number| number >= 0))
+        let shown = Ok(form.is_natural());
+        Scanned { shown, through }
+    }
+
+    /// Whether the constant and all coefficients are 0 or more.
+    fn is_natural(&self) -> bool {
+        self.constant >= 0 && self.coefficients.iter().all(|&number| number >= 0)
     }
 }
 
@@ -146,5 +177,114 @@ mod tests {
     fn a_callers_forms_go_in_all_together() {
         let forms = [form(0, 0, 1), form(5, 1, 0)];
         assert_eq!(form(1, 2, 3).put_in(&forms), Ok(form(16, 3, 2)));
+    }
+
+    /// A constant and terms, each a coefficient and the number of its variable.
+    fn sum(constant: i64, terms: &[(i64, usize)]) -> Form {
+        let mut form = Form::constant(constant);
+        for &(coefficient, variable) in terms {
+            form.coefficients[variable] += coefficient;
+        }
+        form
+    }
+
+    /// Three loops, each from its low form to v0 - 1, with one family variable.
+    fn three(lows: [Form; 3]) -> [Bounds; 3] {
+        let high = sum(-1, &[(1, 0)]);
+        lows.map(|low| Bounds {
+            low,
+            high: high.clone(),
+        })
+    }
+
+    /// Three loops from 0 to v0 - 1, but the third from another form.
+    fn third_from(low: Form) -> [Bounds; 3] {
+        three([Form::constant(0), Form::constant(0), low])
+    }
+
+    /// Holds the scan of a form inside loops to what is due.
+    fn hold(form: &Form, loops: &[Bounds], shown: Result<bool, OutOfRange>, through: usize) {
+        let found = form.scanned(1, loops);
+        assert_eq!(found, Scanned { shown, through }, "{form:?}");
+        assert_eq!(form.shown(1, loops), shown, "{form:?}");
+    }
+
+    #[test]
+    fn without_loops_nothing_is_gone_through() {
+        hold(&sum(0, &[(1, 0)]), &[], Ok(true), 0);
+        hold(&sum(-1, &[(1, 0)]), &[], Ok(false), 0);
+        hold(&sum(1, &[(-1, 0)]), &[], Ok(false), 0);
+        hold(&sum(0, &[(-1, 5)]), &[], Ok(false), 0);
+    }
+
+    #[test]
+    fn the_count_goes_down_to_the_last_that_is_replaced() {
+        let loops = third_from(Form::constant(0));
+        hold(&sum(4, &[(1, 0)]), &loops, Ok(true), 0);
+        hold(&sum(-1, &[]), &loops, Ok(false), 0);
+        hold(&sum(0, &[(1, 3)]), &loops, Ok(true), 1);
+        hold(&sum(0, &[(1, 2)]), &loops, Ok(true), 2);
+        hold(&sum(0, &[(1, 1)]), &loops, Ok(true), 3);
+        hold(&sum(0, &[(1, 3), (1, 2)]), &loops, Ok(true), 2);
+        hold(&sum(0, &[(1, 3), (1, 1)]), &loops, Ok(true), 3);
+    }
+
+    #[test]
+    fn the_count_goes_on_to_a_variable_that_is_brought_in() {
+        let [v1, v2] = [1, 2].map(Form::variable);
+        let v3 = sum(0, &[(1, 3)]);
+        hold(&v3, &third_from(v1.clone()), Ok(true), 3);
+        hold(&v3, &third_from(v2.clone()), Ok(true), 2);
+        let chain = three([Form::constant(0), v1, v2]);
+        hold(&v3, &chain, Ok(true), 3);
+        // v3 - v1 gives way to v2 - v1, and that to 0.
+        hold(&sum(0, &[(1, 3), (-1, 1)]), &chain, Ok(true), 2);
+    }
+
+    #[test]
+    fn the_count_leaves_out_a_variable_that_is_taken_away() {
+        let loops = third_from(Form::variable(1));
+        hold(&sum(0, &[(1, 3), (-1, 1)]), &loops, Ok(true), 1);
+        hold(&sum(-1, &[(1, 3), (-1, 1)]), &loops, Ok(false), 1);
+        // 2 v3 - v1 leaves v1.
+        hold(&sum(0, &[(2, 3), (-1, 1)]), &loops, Ok(true), 3);
+    }
+
+    #[test]
+    fn what_is_not_shown_has_its_count_too() {
+        let loops = third_from(Form::constant(0));
+        hold(&sum(-1, &[(1, 0), (-1, 3)]), &loops, Ok(true), 1);
+        hold(&sum(-2, &[(1, 0), (-1, 3)]), &loops, Ok(false), 1);
+        hold(&sum(0, &[(1, 3), (-1, 2)]), &loops, Ok(false), 2);
+        hold(&sum(0, &[(-1, 1)]), &loops, Ok(false), 3);
+    }
+
+    #[test]
+    fn a_variable_whose_replacement_leaves_the_range_counts() {
+        let out = Err(OutOfRange);
+        let half = Form::constant(LARGEST / 2);
+        let more = Form::constant(LARGEST / 2 + 1);
+        hold(&sum(0, &[(2, 3)]), &third_from(half), Ok(true), 1);
+        let loops = third_from(more.clone());
+        hold(&sum(0, &[(2, 3)]), &loops, out, 1);
+        hold(&sum(0, &[(2, 3), (1, 2), (1, 1)]), &loops, out, 1);
+        let loops = three([Form::constant(0), more.clone(), sum(0, &[(2, 2)])]);
+        hold(&sum(0, &[(2, 2)]), &loops, out, 2);
+        hold(&sum(0, &[(1, 3), (1, 1)]), &loops, out, 2);
+        let loops = three([more, Form::constant(0), Form::constant(0)]);
+        hold(&sum(0, &[(1, 3), (2, 1)]), &loops, out, 3);
+    }
+
+    #[test]
+    fn the_multiple_leaves_the_range_by_itself_and_so_does_the_sum() {
+        let out = Err(OutOfRange);
+        let loops = third_from(Form::constant(LARGEST));
+        hold(&sum(0, &[(1, 3)]), &loops, Ok(true), 1);
+        hold(&sum(1, &[(1, 3)]), &loops, out, 1);
+        hold(&sum(-LARGEST, &[(1, 3)]), &loops, Ok(true), 1);
+        hold(&sum(-LARGEST, &[(2, 3)]), &loops, out, 1);
+        let loops = third_from(sum(0, &[(LARGEST, 1)]));
+        hold(&sum(0, &[(1, 3), (1, 1)]), &loops, out, 1);
+        hold(&sum(0, &[(1, 3), (-LARGEST, 1)]), &loops, Ok(true), 1);
     }
 }

@@ -2,7 +2,7 @@
 //!
 //! It is written from the scope alone and shares nothing with the proved
 //! library. Tests compare the two; benchmarks use it as the baseline. It also
-//! prints lists as OpenQASM 2.0 text.
+//! prints lists as OpenQASM 2.0 text, and shows a form by itself.
 
 mod bytes;
 mod checker;
@@ -10,6 +10,7 @@ mod form;
 mod index;
 mod machine;
 mod operand;
+mod showing;
 mod text;
 mod tree;
 
@@ -18,6 +19,7 @@ use machine::{Layout, Locations, Machine};
 use tree::Program;
 
 pub use machine::RECORD_BYTES;
+pub use showing::{showing, FormNumbers, ShowingOutcome, FORM_NUMBERS};
 pub use text::{instance_qasm, instance_text, run_qasm, run_text, TextOutcome};
 
 /// The answer to a call: number is 0 for done, else why it was turned down.

@@ -158,9 +158,11 @@ fn printed() -> Vec<Workload> {
 /// Checks of the largest programs.
 fn checks() -> Vec<Workload> {
     let (library, small) = (programs::large_library(), programs::small_families());
+    let loops = programs::loops_in_loops();
     vec![
         Workload::check("check, a full library", &library),
         Workload::check("check, 4,000 families", &small),
+        Workload::check("check, loops in loops", &loops),
         Workload::check("check, the slowest", &slow::slowest_check()),
         Workload::check("check, slices", &slow::sliced_check()),
     ]

@@ -1,13 +1,13 @@
 //! Compares the library with the reference and says how much was compared.
 //!
 //! Use: `compare [FIRST_SEED [COUNT]]`. It holds both to the recorded answers
-//! and asks them about a range of generated programs, and for every hundredth
-//! seed about two libraries of many families. It fails where the archive lacks
-//! a call.
+//! and asks them about a range of generated programs and as many showings of
+//! forms, and for every hundredth seed about two libraries of many families. It
+//! fails where an archive lacks a call.
 
-use compare::recorded::recorded;
-use compare::{library, Tally};
-use generate::{libraries, Case};
+use compare::recorded::{recorded, showings};
+use compare::{library, showing, Tally};
+use generate::{forms, libraries};
 use std::io::Write;
 use std::process::ExitCode;
 
@@ -46,20 +46,31 @@ fn say(line: &str) -> Result<(), String> {
     writeln!(std::io::stdout(), "{line}").map_err(|error| format!("standard output: {error}"))
 }
 
-/// Compares all calls on the cases of some seeds and says how many there were.
-fn compare_cases(
+/// Compares what some seeds make and says how much there was.
+fn compare_made<T>(
     what: &str,
-    made: fn(u64) -> Case,
+    made: fn(u64) -> T,
+    compared: fn(&mut Tally, &T) -> Result<(), String>,
     seeds: impl Iterator<Item = u64>,
 ) -> Result<(), String> {
     let mut tally = Tally::default();
     let mut count = 0;
     for seed in seeds {
-        let compared = tally.case(&made(seed));
+        let compared = compared(&mut tally, &made(seed));
         compared.map_err(|message| format!("{what}, seed {seed}: {message}"))?;
         count += 1;
     }
     say(&format!("{count} {what}: {}", tally.line()))
+}
+
+/// Holds both to the recorded answers and says how many there were.
+fn compare_recorded() -> Result<(), String> {
+    let mut tally = Tally::default();
+    let (rows, showings) = (recorded(), showings::rows());
+    tally.recorded(&rows)?;
+    tally.recorded_showings(&showings)?;
+    let count = rows.len() + showings.len();
+    say(&format!("{count} recorded answers: {}", tally.line()))
 }
 
 /// Compares everything and prints what was counted.
@@ -68,19 +79,17 @@ fn compare_all() -> Result<(), String> {
     if !library::missing().is_empty() {
         return Err(library::status());
     }
+    if !showing::THERE {
+        return Err(showing::MISSING.into());
+    }
     say(&library::status())?;
-    let mut tally = Tally::default();
-    let rows = recorded();
-    tally.recorded(&rows)?;
-    say(&format!(
-        "{} recorded answers: {}",
-        rows.len(),
-        tally.line()
-    ))?;
-    compare_cases("generated programs", generate::case, first..last)?;
-    let some = || (first..last).step_by(LIBRARY_SEEDS);
-    compare_cases("libraries", libraries::sound, some())?;
-    compare_cases("damaged libraries", libraries::damaged, some())
+    compare_recorded()?;
+    let all = || first..last;
+    let some = || all().step_by(LIBRARY_SEEDS);
+    compare_made("generated programs", generate::case, Tally::case, all())?;
+    compare_made("generated showings", forms::showing, Tally::showing, all())?;
+    compare_made("libraries", libraries::sound, Tally::case, some())?;
+    compare_made("damaged libraries", libraries::damaged, Tally::case, some())
 }
 
 fn main() -> ExitCode {

@@ -5,6 +5,7 @@ mod families;
 mod limits;
 mod phases;
 mod refusals;
+pub mod showings;
 mod slices;
 mod states;
 mod texts;

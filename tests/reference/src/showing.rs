@@ -1,0 +1,74 @@
+//! The showing of a form that is given by its numbers.
+
+use crate::form::{in_range, Bounds, Form, Scanned, VARIABLES};
+
+/// How many numbers a form has.
+pub const FORM_NUMBERS: usize = 1 + VARIABLES;
+
+/// The numbers of a form: its constant, then a coefficient for each variable.
+pub type FormNumbers = [i64; FORM_NUMBERS];
+
+/// The answer to a showing: number is 0 for shown, 12 for not shown, 11 for a
+/// number out of range on the way, and 1 where the arguments are no forms.
+#[derive(Clone, Copy, Debug, PartialEq, Eq)]
+pub struct ShowingOutcome {
+    pub number: u32,
+    /// How many loop variables were gone through.
+    pub through: u32,
+}
+
+impl From<Scanned> for ShowingOutcome {
+    /// What a scan finds as an answer.
+    fn from(scanned: Scanned) -> ShowingOutcome {
+        ShowingOutcome {
+            number: match scanned.shown {
+                Ok(true) => 0,
+                Ok(false) => 12,
+                Err(_) => 11,
+            },
+            through: scanned.through as u32,
+        }
+    }
+}
+
+/// Says whether a form is shown to be 0 or more in loops, the outermost first, whose
+/// variables follow the family's own.
+pub fn showing(
+    form: &FormNumbers,
+    variables: u32,
+    loops: u32,
+    lows: &[FormNumbers],
+    highs: &[FormNumbers],
+) -> ShowingOutcome {
+    let few = u64::from(variables) + u64::from(loops) <= VARIABLES as u64;
+    let forms = read(form).zip(bounds(loops as usize, lows, highs));
+    match forms {
+        Some((form, loops)) if few => form.scanned(variables as usize, &loops).into(),
+        _ => ShowingOutcome {
+            number: 1,
+            through: 0,
+        },
+    }
+}
+
+/// The form that has the numbers, if all of them are in range.
+fn read(numbers: &FormNumbers) -> Option<Form> {
+    let kept = numbers.iter().all(|&number| in_range(number).is_ok());
+    let [constant, coefficients @ ..] = *numbers;
+    kept.then_some(Form {
+        constant,
+        coefficients,
+    })
+}
+
+/// The bounds of so many loops, if there are forms for all of them.
+fn bounds(loops: usize, lows: &[FormNumbers], highs: &[FormNumbers]) -> Option<Vec<Bounds>> {
+    let pairs = lows.get(..loops)?.iter().zip(highs.get(..loops)?);
+    let both = |(low, high)| {
+        Some(Bounds {
+            low: read(low)?,
+            high: read(high)?,
+        })
+    };
+    pairs.map(both).collect()
+}
