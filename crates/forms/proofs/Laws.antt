@@ -13,7 +13,7 @@ use Rattle.language.specs.Settled.{coefficient, Scan, ended, oneMore, thenScan,
 use Rattle.language.proofs.Settled.{next-law, agree-law}
 use Rattle.forms.specs.Flat.{Kept, asForm, builtOf}
 use Rattle.language.proofs.Integers.{integers, plus, minus, times, clash}
-use Rattle.forms.proofs.Lists.{sum-flat, difference-flat, ranges, both, zero-yes, zero-no, term-flat, set-kept}
+use Rattle.forms.proofs.Lists.{sum-flat, difference-flat, ranges, both, zero-yes, zero-no, term-flat, rest-long, set-kept}
 use Rattle.forms.specs.Rows.{Rows, loopAt, loopsOf, formsOf}
 
 -- adding a multiple of 0 changes nothing
@@ -73,12 +73,12 @@ pub difference-as : (f g : List ℤ) → Kept f → Kept g → (multipleOf (negs
 difference-as f g kf kg =
     unit-flat (negsuc 0) _-ℤ_ (λ x y. omega (integers, times (negsuc 0) y, plus x (negsuc 0 *ℤ y), minus x y)) (λ z h. omega (integers, times (negsuc 0) z)) f g kf kg ∙ difference-flat f g kf kg
 
-and-no : (s t : Bool) → t ≡ false → (s && t) ≡ false
-and-no true t e = e
-and-no false t e = refl
+pub and-no : (s : Bool) {t : Bool} → t ≡ false → (s && t) ≡ false
+and-no true e = e
+and-no false e = refl
 
 pub both-no : (s t a b : Bool) → (s && t) ≡ false → (s ≡ false → a ≡ false) → (t ≡ false → b ≡ false) → (a && b) ≡ false
-both-no true t a b e f g = and-no a b (g e)
+both-no true t a b e f g = and-no a (g e)
 both-no false t a b e f g = ap (λ (u : Bool). u && b) (f refl)
 
 -- ---- the showing, a loop at a time
@@ -271,17 +271,13 @@ module _ (f : List ℤ) {y z : ℤ} (e : y ≡ z) (k : Kept f) (q : inRange z �
       by false p h = (ap (λ (b : Bool). builtOf b (set f 0 (getD f 0 (pos 0) +ℤ z))) p ∙ plus-flat f z k, λ u. absurd (clash (sym u)))
 
 -- taking 1 away is adding -1
-zeros-same : (n : ℕ) (cs : List ℤ) → zipped _+ℤ_ cs (replicate n (pos 0)) ≡ zipped _-ℤ_ cs (replicate n (pos 0))
-unfolding zipped
-zeros-same n [] = refl
-zeros-same zero (c ∷ cs) = refl
-zeros-same (suc n) (c ∷ cs) = λ j. (let e : c +ℤ pos 0 ≡ c -ℤ pos 0 = omega (integers, plus c (pos 0), minus c (pos 0)) in e) j ∷ zeros-same n cs j
-
-pub one-less : (f : Form) → sumOf f (constantForm (negsuc 0)) ≡ differenceOf f (constantForm (pos 1))
+pub one-less : (f : List ℤ) → Kept f → sumOf (asForm f) (constantForm (negsuc 0)) ≡ differenceOf (asForm f) (constantForm (pos 1))
 unfolding sumOf differenceOf
-one-less f =
-    let e : f .constant +ℤ negsuc 0 ≡ f .constant -ℤ pos 1 = omega (integers, plus (f .constant) (negsuc 0), minus (f .constant) (pos 1)) in
-    λ j. build (e j) (zeros-same 12 (f .coefficients) j)
+one-less f k =
+    let z = asForm f .constant in
+    let e : z +ℤ negsuc 0 ≡ z -ℤ pos 1 = omega (integers, plus z (negsuc 0), minus z (pos 1)) in
+    let same : (op : ℤ → ℤ → ℤ) → ((x : ℤ) → op x (pos 0) ≡ x) → zipped op (asForm f .coefficients) (replicate 12 (pos 0)) ≡ asForm f .coefficients = λ op q. zipped-none op q 12 (asForm f .coefficients) (rest-long f k) in
+    λ j. build (e j) ((same _+ℤ_ +ℤ-idr ∙ sym (same _-ℤ_ (λ x. omega (integers, minus x (pos 0))))) j)
 
 -- ---- a call's forms put in, a variable at a time
 

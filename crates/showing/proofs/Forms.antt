@@ -13,11 +13,8 @@ use Rattle.language.specs.Form.{Form, Built, built, outOfRange, allInRange, sho
 use Rattle.language.specs.Settled.{ifBuilt, replacements, noneTrue, toLast, goneThrough}
 use Rattle.forms.specs.Flat.{Kept, asForm}
 use Rattle.forms.specs.Rows.{Rows, loopsOf}
+use Rattle.forms.proofs.Laws.{and-no}
 use Rattle.showing.specs.Answers.{formsInRange, areForms, numberOf, answer}
-
-and-no : (s : Bool) {t : Bool} → t ≡ false → (s && t) ≡ false
-and-no true e = e
-and-no false e = refl
 
 -- ---- forms one after another
 

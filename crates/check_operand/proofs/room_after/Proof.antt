@@ -4,9 +4,9 @@ use Rattle.check_operand.proofs.room_after.Statement.{statement}
 use Rattle.check_operand.proofs.room_after.Tie as tie
 use mathlib.Core.Path.{_≡_, refl, sym, ap, _∙_}
 use mathlib.Core.List.{List}
-use lib.IntN.{ℤ, pos, negsuc}
+use lib.IntN.{ℤ, pos}
 use denote.Ref.{now}
-use Rattle.language.specs.Form.{Form, Built, inRange, sumOf, differenceOf, constantForm}
+use Rattle.language.specs.Form.{Form, Built, inRange, differenceOf, constantForm}
 use Rattle.language.specs.Check.{Checked, Kind, Signature, mustShow, roomAfter}
 use Rattle.forms.specs.Flat.{asForm, builtOf, widened}
 use Rattle.forms.specs.Rows.{loopsOf}
@@ -17,7 +17,7 @@ use Rattle.check_operand.proofs.OperandKinds.{shown-outside, is-made, n
 
 -- size − 1, as it was built
 less : (c : tie.After-add-constant) → builtOf (c .add-constant .result) (c .add-constant .last .0) ≡ differenceOf (asForm (widened (now (c .before .before .before .before .args .size)))) (constantForm (pos 1))
-less c = c .add-constant .ensures .0 ∙ ap (λ (l : List ℤ). sumOf (asForm l) (constantForm (negsuc 0))) (c .before .before .load .ensures .0) ∙ one-less _
+less c = c .add-constant .ensures .0 ∙ one-less _ (c .before .before .load .ensures .1) ∙ ap (λ (l : List ℤ). differenceOf (asForm l) (constantForm (pos 1))) (c .before .before .load .ensures .0)
 
 -- f taken from it
 abbrev next : tie.Start → Form → Built
