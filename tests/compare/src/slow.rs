@@ -58,8 +58,8 @@ fn full(calls: fn(usize) -> Vec<Field>) -> Vec<Field> {
     calls((MOST_BYTES - bytes(0)) / each)
 }
 
-/// The program that takes the longest to check for each byte.
-pub fn slowest_check() -> Vec<Field> {
+/// The program of calls that takes the longest to check for each byte.
+pub fn called_check() -> Vec<Field> {
     full(calls_in_eight_loops)
 }
 

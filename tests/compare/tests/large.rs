@@ -25,7 +25,8 @@ compared!(deepest_slices_of_a_run, has_run, deepest_slices_run);
 compared!(slices_of_all_qubits, has_run, far_slices);
 compared!(a_full_library_of_families, has_check, full_library);
 compared!(a_library_of_4000_families, has_check, small_families);
-compared!(the_slowest_check, has_check, slowest_check);
+compared!(gates_in_eight_loops, has_check, loops_in_loops);
+compared!(the_slowest_check_of_calls, has_check, called_check);
 compared!(the_slowest_check_of_slices, has_check, sliced_check);
 compared!(the_slowest_steps, has_run, slowest_steps);
 
@@ -364,22 +365,28 @@ fn small_families(tally: &mut Tally) -> Result<(), String> {
     due(tally, &other(&program, Call::Check), [0; 4])
 }
 
-/// Checks the program that takes the longest for each byte.
-fn slowest_check(tally: &mut Tally) -> Result<(), String> {
-    let program = program(&slow::slowest_check());
+/// Checks a program that is as long as it may be, or nearly.
+fn full_check(tally: &mut Tally, fields: &[Field]) -> Result<(), String> {
+    let program = program(fields);
     match program.len() {
         65_400..=65_535 => due(tally, &other(&program, Call::Check), [0; 4]),
         length => Err(format!("{length} bytes are not a full program")),
     }
 }
 
+/// Checks gates inside 8 loops, each with one loop's variable.
+fn loops_in_loops(tally: &mut Tally) -> Result<(), String> {
+    full_check(tally, &library::loops_in_loops())
+}
+
+/// Checks the program of calls that takes the longest for each byte.
+fn called_check(tally: &mut Tally) -> Result<(), String> {
+    full_check(tally, &slow::called_check())
+}
+
 /// Checks the program of slices that takes the longest for each byte.
 fn sliced_check(tally: &mut Tally) -> Result<(), String> {
-    let program = program(&slow::sliced_check());
-    match program.len() {
-        65_400..=65_535 => due(tally, &other(&program, Call::Check), [0; 4]),
-        length => Err(format!("{length} bytes are not a full program")),
-    }
+    full_check(tally, &slow::sliced_check())
 }
 
 /// Runs steps that evaluate an index of 60,000 bytes.

@@ -163,7 +163,7 @@ fn checks() -> Vec<Workload> {
         Workload::check("check, a full library", &library),
         Workload::check("check, 4,000 families", &small),
         Workload::check("check, loops in loops", &loops),
-        Workload::check("check, the slowest", &slow::slowest_check()),
+        Workload::check("check, calls", &slow::called_check()),
         Workload::check("check, slices", &slow::sliced_check()),
     ]
 }
