@@ -19,9 +19,9 @@
  * Nothing else is asked. Every byte string, number and length has an answer and every call ends. The library keeps no state
  * between calls, and uses no heap, no files and no globals, so calls may run on any number of threads at once.
  *
- * Time. The figures are of common machines of two cores. A check takes at most some 30 to 50 ns for each byte of the program, 2 to
- * 3 ms for the longest. The step limit bounds steps, not seconds: a step takes time in proportion to the indexes and operands of
- * its own statement (and, where a list begins to run backward, to the fields of the list). Most take 0.1 microseconds or
+ * Time. The figures are of common machines of two cores. A check takes at most some 25 to 40 ns for each byte of the program, 1.5
+ * to 2.5 ms for the longest. The step limit bounds steps, not seconds: a step takes time in proportion to the indexes and operands
+ * of its own statement (and, where a list begins to run backward, to the fields of the list). Most take 0.1 microseconds or
  * less. The slowest found are gates in a loop with an index of 60,000 bytes, which each round evaluates: 0.07 ms a step, or
  * 1 ns for each byte of the program, and twice that while the machine was busy. Reckon with at most 0.2 ms, or 3 ns a byte.
  * The calls that print a text go through the list twice more, to measure the text and to print it: some 5 to 20 ns a record,

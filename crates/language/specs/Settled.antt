@@ -1,4 +1,4 @@
--- The showing that ends as soon as its form is settled, and the number of loop variables that it goes through. Its laws are stated here; proofs/Settled proves them.
+-- The showing that ends as soon as its form is settled, and the number of loop variables that it goes through. Its laws are stated here; proofs/Settled and proofs/Scoped prove them.
 use mathlib.Core.Path.{_≡_}
 use mathlib.Core.Logic.{_↔_}
 use mathlib.Core.List.{List, [], _∷_}
@@ -77,7 +77,7 @@ unfoldable pub toLast : List Bool → ℕ
 toLast [] = 0
 toLast (b ∷ bs) = cond (noneTrue (b ∷ bs)) 0 (suc (toLast bs))
 
--- the number of loop variables from the highest down to the last whose term is replaced, 0 if none is
+-- how many loop variables there are down to the last one that is replaced, counted from the highest; 0 where none is replaced
 unfoldable pub goneThrough : (m : ℕ) → List Loop → Built → ℕ
 goneThrough m ls (built f) = toLast (replacements m ls f)
 goneThrough m ls outOfRange = 0
