@@ -86,7 +86,7 @@ both-no false t a b e f g = ap (λ (u : Bool). u && b) (f refl)
 pub fewer : {l : List (List ℤ)} {m n : ℕ} → Rows l n → m ≤ n → Rows l m
 fewer r h = let e = r .enough in record { enough = omega arith; each = λ i p. r .each i (omega arith) }
 
-length-loops : (n : ℕ) (l h : List (List ℤ)) → length (loopsOf n l h) ≡ n
+pub length-loops : (n : ℕ) (l h : List (List ℤ)) → length (loopsOf n l h) ≡ n
 unfolding loopsOf
 length-loops zero l h = refl
 length-loops (suc n) l h = ap suc (length-loops n l h)
@@ -95,18 +95,14 @@ pub show-outside : (m : ℕ) (ls : List Loop) → showing m ls outOfRange ≡ be
 unfolding showing _thenBuild_ showingOf
 show-outside m ls = refl
 
--- the next loop, where its variable's coefficient is 0 and where it is not
+-- the next loop is passed over where its variable's coefficient is 0, and else it is the first that remains
 module _ (m n : ℕ) (l h : List (List ℤ)) (f : Form) where
   here-at : m + length (loopsOf n l h) ≡ m + n
   here-at = ap (λ (k : ℕ). m + k) (length-loops n l h)
 
-  look-on : isZero (coefficient (m + n) f) ≡ true → remaining m (loopsOf (suc n) l h) f ≡ remaining m (loopsOf n l h) f
+  look : {b : Bool} → isZero (coefficient (m + n) f) ≡ b → remaining m (loopsOf (suc n) l h) f ≡ cond b (remaining m (loopsOf n l h) f) (loopsOf (suc n) l h)
   unfolding remaining loopsOf
-  look-on e = ap (λ (b : Bool). cond b (remaining m (loopsOf n l h) f) (loopsOf (suc n) l h)) (ap (λ (v : ℕ). isZero (coefficient v f)) here-at ∙ e)
-
-  look-here : isZero (coefficient (m + n) f) ≡ false → remaining m (loopsOf (suc n) l h) f ≡ loopsOf (suc n) l h
-  unfolding remaining loopsOf
-  look-here e = ap (λ (b : Bool). cond b (remaining m (loopsOf n l h) f) (loopsOf (suc n) l h)) (ap (λ (v : ℕ). isZero (coefficient v f)) here-at ∙ e)
+  look e = ap (λ (b : Bool). cond b (remaining m (loopsOf n l h) f) (loopsOf (suc n) l h)) (ap (λ (v : ℕ). isZero (coefficient v f)) here-at ∙ e)
 
 -- the loop of the form's list at n, the highest that is not looked at yet
 module _ (m : ℕ) (l h : List (List ℤ)) (f : List ℤ) (k : Kept f) where
@@ -117,11 +113,11 @@ module _ (m : ℕ) (l h : List (List ℤ)) (f : List ℤ) (k : Kept f) where
   passed-by zero p e = absurd (omega arith)
   passed-by (suc n) p e =
       let d : n ≡ suc n - 1 = omega arith in
-      look-on m n l h (asForm f) (zero-yes (term-at n ∙ e)) ∙ ap (λ (i : ℕ). remaining m (loopsOf i l h) (asForm f)) d
+      look m n l h (asForm f) (zero-yes (term-at n ∙ e)) ∙ ap (λ (i : ℕ). remaining m (loopsOf i l h) (asForm f)) d
 
   pub met : (n : ℕ) → 0 < n → (getD f (m + n) (pos 0) ≡ pos 0 → ⊥) → remaining m (loopsOf n l h) (asForm f) ≡ loopsOf n l h
   met zero p e = absurd (omega arith)
-  met (suc n) p e = look-here m n l h (asForm f) (zero-no (λ q. e (sym (term-at n) ∙ q)))
+  met (suc n) p e = look m n l h (asForm f) (zero-no (λ q. e (sym (term-at n) ∙ q)))
 
 pub none-met : (m n : ℕ) (l h : List (List ℤ)) (f : Form) → n ≤ 0 → remaining m (loopsOf n l h) f ≡ loopsOf n l h
 unfolding remaining loopsOf

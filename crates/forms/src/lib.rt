@@ -57,7 +57,7 @@ pub fn in_range(z: i64) -> bool
     LOWEST <= z && z <= FURTHEST
 }
 
-// f's number i becomes itself plus k times y; false where the product or the sum is out of range, and f is then as before.
+// f's number i becomes itself plus k times y; false where the product or the sum is out of range.
 fn add_number(f: &mut Form, i: usize, k: i64, y: i64) -> bool
     requires { ⌜ i < formNumbers ⌝ }
     requires { ⌜ inRange (getD (now f) i (pos 0)) ≡ true ⌝ }
@@ -257,8 +257,8 @@ fn left(f: &Form, variables: usize, loops: usize) -> usize
     n
 }
 
-// What is shown of f once no loop variable is left, of which so many were gone through.
-fn settled(f: &Form, through: usize) -> Settling
+// What is shown of f once no loop variable is left, and so many were gone through.
+fn settling_of(f: &Form, through: usize) -> Settling
     requires { ⌜ Kept (now f) ⌝ }
     ensures { λ r. ⌜ shownOf (r .verdict) ≡ showingOf (built (asForm (now (f .entry)))) ⌝ }
     ensures { λ r. ⌜ r .through ≡ through ⌝ }
@@ -289,7 +289,7 @@ pub fn show(f: &mut Form, variables: usize, loops: usize, lows: &[Form], highs: 
     loop {
         let next = left(f, variables, n);
         if next == 0 {
-            return settled(f, loops - n);
+            return settling_of(f, loops - n);
         }
         n = next - 1;
         let through = loops - n;

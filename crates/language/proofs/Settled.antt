@@ -9,7 +9,7 @@ use lib.IntN.{ℤ, pos, negsuc, _+ℤ_, _*ℤ_, *ℤ-zero}
 use lib.ListN.{getD, set, length, drop}
 use Rattle.language.specs.Form.{Form, Built, built, outOfRange, build, zipped, sumOf, multipleOf, _thenBuild_, isZero, Loop, without, closed, closedAll, showing}
 use Rattle.language.specs.Check as C
-use Rattle.language.specs.Settled.{coefficient, replaced, settled, Scan, ended, oneMore, thenScan, scan, Settling, settlingOf, settling, ifBuilt, replacements, noneTrue, toLast, goneThrough, AgreeLaw, PlaceLaw, Last, LastLaw, closedTo, Ends, EndLaw, remaining, after, onward, NextLaw, Below, Scoped, none, inner, ScopeLaw}
+use Rattle.language.specs.Settled.{coefficient, replaced, settled, Scan, ended, oneMore, thenScan, scan, Settling, settlingOf, settling, ifBuilt, replacements, noneTrue, toLast, goneThrough, AgreeLaw, PlaceLaw, Last, LastLaw, closedTo, SettledAfter, EndLaw, remaining, after, onward, NextLaw, Below, Scoped, none, inner, ScopeLaw}
 use Rattle.language.proofs.Integers.{and-both}
 use Rattle.language.proofs.FormLaws.{then-built, build-is}
 
@@ -122,6 +122,31 @@ not-before bs j (suc i) p q h = let z : _≡_ {A = ℕ} 0 1 = cc (p .below i (om
 pub last-alone : (bs : List Bool) (j k : ℕ) → Last bs j → Last bs k → j ≡ k
 last-alone bs j k p q = omega (arith, not-before bs j k p q, not-before bs k j q p)
 
+last-most : (bs : List Bool) → toLast bs ≤ length bs
+unfolding toLast
+last-most [] = omega arith
+last-most (b ∷ bs) = by (noneTrue (b ∷ bs)) (last-most bs)
+  where
+    by : (t : Bool) → toLast bs ≤ length bs → cond t 0 (suc (toLast bs)) ≤ suc (length bs)
+    by true h = omega arith
+    by false h = omega arith
+
+one-further : (b : Built) (next : Form → List Bool) (n : ℕ) → ((f : Form) → length (next f) ≤ n) → suc (length (ifBuilt b next)) ≤ suc n
+unfolding ifBuilt
+one-further (built f) next n h = omega (arith, h f)
+one-further outOfRange next n h = omega arith
+
+replaced-most : (m : ℕ) (ls : List Loop) (f : Form) → length (replacements m ls f) ≤ length ls
+unfolding replacements
+replaced-most m [] f = omega arith
+replaced-most m (l ∷ ls) f = one-further (replaced m l ls f) (replacements m ls) (length ls) (replaced-most m ls)
+
+-- no more loop variables are gone through than there are
+pub gone-most : (m : ℕ) (ls : List Loop) (e : Built) → goneThrough m ls e ≤ length ls
+unfolding goneThrough
+gone-most m ls (built f) = omega (arith, last-most (replacements m ls f), replaced-most m ls f)
+gone-most m ls outOfRange = omega arith
+
 -- ---- where the scan ends
 
 module _ (m : ℕ) (l : Loop) (ls : List Loop) (f : Form) where
@@ -131,7 +156,7 @@ module _ (m : ℕ) (l : Loop) (ls : List Loop) (f : Form) where
   next : {b : Built} (then : Form → Built) → replaced m l ls f ≡ b → (replaced m l ls f thenBuild then) ≡ (b thenBuild then)
   next then e = ap (λ (x : Built). x thenBuild then) e
 
-  ends-further : ((g : Form) → Ends m ls g (scan m ls g .through)) → settled m (l ∷ ls) f ≡ false → (b : Built) → replaced m l ls f ≡ b → Ends m (l ∷ ls) f (thenScan b (scan m ls) .through)
+  ends-further : ((g : Form) → SettledAfter m ls g (scan m ls g .through)) → settled m (l ∷ ls) f ≡ false → (b : Built) → replaced m l ls f ≡ b → SettledAfter m (l ∷ ls) f (thenScan b (scan m ls) .through)
   unfolding thenScan closedTo closedAll _thenBuild_
   ends-further r n (built h) e = record {
     final = next (closedTo (scan m ls h .through) m ls) e ∙ r h .final ∙ sym (next (closedAll m ls) e);
@@ -157,7 +182,7 @@ unfolding scan closedTo closedAll settled
 end-law m [] f = record { final = refl; settledThen = λ g q. refl; notSooner = λ j g lt q. absurd (omega arith) }
 end-law m (l ∷ ls) f = go (end-law m ls) (settled m (l ∷ ls) f) refl
   where
-    go : ((g : Form) → Ends m ls g (scan m ls g .through)) → (b : Bool) → settled m (l ∷ ls) f ≡ b → Ends m (l ∷ ls) f (cond b (ended f) (thenScan (replaced m l ls f) (scan m ls)) .through)
+    go : ((g : Form) → SettledAfter m ls g (scan m ls g .through)) → (b : Bool) → settled m (l ∷ ls) f ≡ b → SettledAfter m (l ∷ ls) f (cond b (ended f) (thenScan (replaced m l ls f) (scan m ls)) .through)
     go r true e = record { final = sym (settled-stays m (l ∷ ls) f e); settledThen = λ g q. same-form m l ls f true g e q; notSooner = λ j g lt q. absurd (omega arith) }
     go r false e = ends-further m l ls f r e (replaced m l ls f) refl
 
@@ -203,16 +228,17 @@ module _ (m : ℕ) (l : Loop) (ls : List Loop) (f : Form) where
   next-further rest zero h = absurd (omega (arith, remaining-length m ls f))
   next-further rest (suc p) h = passed-over (remaining m ls f) p h (rest p (omega arith))
 
+  -- a variable that is replaced, with none passed over
+  at-once : (c : ℤ) (p : ℕ) → 0 ≡ p → coefficient (m + length ls) f ≡ c → thenScan (closed (m + length ls) l f c) (scan m ls) ≡ after p (thenScan (replaced m l ls f) (scan m ls))
+  unfolding after
+  at-once c p z q = ap (λ (x : ℤ). thenScan (closed (m + length ls) l f x) (scan m ls)) (sym q) ∙ ap (λ (k : ℕ). after k (thenScan (replaced m l ls f) (scan m ls))) z
+
   next-here : ((p : ℕ) → p + length (remaining m ls f) ≡ length ls → scan m ls f ≡ onward m p (remaining m ls f) f) → (c : ℤ) (p : ℕ) → p + length (cond (isZero c) (remaining m ls f) (l ∷ ls)) ≡ suc (length ls)
       → coefficient (m + length ls) f ≡ c → cond (isZero c && settled m ls f) (ended f) (thenScan (closed (m + length ls) l f c) (scan m ls)) ≡ onward m p (cond (isZero c) (remaining m ls f) (l ∷ ls)) f
   unfolding isZero closed thenScan onward after
   next-here rest (pos zero) p h q = ap (λ (b : Bool). cond b (ended f) (oneMore (scan m ls f))) (none-remains m ls f) ∙ next-further rest p h
-  next-here rest (pos (suc n)) p h q =
-      let z : 0 ≡ p = omega arith in
-      ap (λ (c : ℤ). thenScan (closed (m + length ls) l f c) (scan m ls)) (sym q) ∙ ap (λ (k : ℕ). after k (thenScan (replaced m l ls f) (scan m ls))) z
-  next-here rest (negsuc n) p h q =
-      let z : 0 ≡ p = omega arith in
-      ap (λ (c : ℤ). thenScan (closed (m + length ls) l f c) (scan m ls)) (sym q) ∙ ap (λ (k : ℕ). after k (thenScan (replaced m l ls f) (scan m ls))) z
+  next-here rest (pos (suc n)) p h q = at-once (pos (suc n)) p (omega arith) q
+  next-here rest (negsuc n) p h q = at-once (negsuc n) p (omega arith) q
 
 pub next-law : NextLaw
 unfolding scan remaining settled onward

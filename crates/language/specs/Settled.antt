@@ -108,16 +108,16 @@ closedTo (suc k) m [] f = built f
 closedTo (suc k) m (l ∷ ls) f = replaced m l ls f thenBuild closedTo k m ls
 
 -- after k loop variables the form is settled, which is as it stays, and not sooner
-pub record Ends (m : ℕ) (ls : List Loop) (f : Form) (k : ℕ) : Type 0 where
+pub record SettledAfter (m : ℕ) (ls : List Loop) (f : Form) (k : ℕ) : Type 0 where
   pub final : closedTo k m ls f ≡ closedAll m ls f
   pub settledThen : (g : Form) → closedTo k m ls f ≡ built g → settled m (drop k ls) g ≡ true
   pub notSooner : (j : ℕ) (g : Form) → j < k → closedTo j m ls f ≡ built g → settled m (drop j ls) g ≡ false
 
 -- the scan ends as soon as the form is settled
 abbrev pub EndLaw : Type 0
-EndLaw = (m : ℕ) (ls : List Loop) (f : Form) → Ends m ls f (scan m ls f .through)
+EndLaw = (m : ℕ) (ls : List Loop) (f : Form) → SettledAfter m ls f (scan m ls f .through)
 
--- the loops from the highest on whose variable has a coefficient other than 0
+-- the loops that are left: the highest one whose variable has a coefficient other than 0, and those outside it
 unfoldable pub remaining : (m : ℕ) → List Loop → Form → List Loop
 remaining m [] f = []
 remaining m (l ∷ ls) f = cond (isZero (coefficient (m + length ls) f)) (remaining m ls f) (l ∷ ls)

@@ -1,7 +1,7 @@
 -- Forms in range one after another, the number of loop variables gone through, and what is answered. Assumes nothing.
 use mathlib.Core.Path.{_≡_, refl, ap, subst}
 use mathlib.Core.List.{List, [], _∷_}
-use mathlib.Core.Bool.{Bool, true, false, cond, _&&_}
+use mathlib.Core.Bool.{Bool, true, false, _&&_}
 use Prim.Native.Nat.{ℕ, zero, suc, _+_, _≤_, _<_}
 use native.Mathlib.Omega.{arith}
 use borrow.Author.Tests.{ltb-true, ltb-false, le-leb, lt-leb}
@@ -9,12 +9,13 @@ use lib.Dec.{ltb}
 use lib.IntN.{ℤ}
 use lib.ListN.{length, getD}
 use Rattle.language.specs.Limits.{allVariables}
-use Rattle.language.specs.Form.{Form, Built, built, outOfRange, allInRange, showing}
-use Rattle.language.specs.Settled.{ifBuilt, replacements, noneTrue, toLast, goneThrough}
+use Rattle.language.specs.Form.{Built, built, allInRange, showing}
+use Rattle.language.specs.Settled.{goneThrough}
+use Rattle.language.proofs.Settled.{gone-most}
 use Rattle.forms.specs.Flat.{Kept, asForm}
 use Rattle.forms.specs.Rows.{Rows, loopsOf}
-use Rattle.forms.proofs.Laws.{and-no}
-use Rattle.showing.specs.Answers.{formsInRange, areForms, numberOf, answer}
+use Rattle.forms.proofs.Laws.{and-no, length-loops}
+use Rattle.showing.specs.Answers.{formsInRange, areForms, numberOf, noForms, answer}
 
 -- ---- forms one after another
 
@@ -52,29 +53,8 @@ one-more l i r h k = record { enough = omega arith; each = λ j p. by j p (ltb j
 
 -- ---- no more loop variables are gone through than there are
 
-last-few : (bs : List Bool) → toLast bs ≤ length bs
-unfolding toLast
-last-few [] = omega arith
-last-few (b ∷ bs) = by (noneTrue (b ∷ bs)) (last-few bs)
-  where
-    by : (t : Bool) → toLast bs ≤ length bs → cond t 0 (suc (toLast bs)) ≤ suc (length bs)
-    by true h = omega arith
-    by false h = omega arith
-
-one-further : (b : Built) (next : Form → List Bool) (n : ℕ) → ((f : Form) → length (next f) ≤ n) → suc (length (ifBuilt b next)) ≤ suc n
-unfolding ifBuilt
-one-further (built f) next n h = omega (arith, h f)
-one-further outOfRange next n h = omega arith
-
-replaced-few : (m n : ℕ) (l h : List (List ℤ)) (f : Form) → length (replacements m (loopsOf n l h) f) ≤ n
-unfolding loopsOf replacements
-replaced-few m zero l h f = omega arith
-replaced-few m (suc n) l h f = one-further _ (replacements m (loopsOf n l h)) n (replaced-few m n l h)
-
 pub gone-few : (m n : ℕ) (l h : List (List ℤ)) (e : Built) {k : ℕ} → k ≡ goneThrough m (loopsOf n l h) e → k ≤ n
-unfolding goneThrough
-gone-few m n l h (built f) p = omega (arith, last-few (replacements m (loopsOf n l h) f), replaced-few m n l h f)
-gone-few m n l h outOfRange p = omega arith
+gone-few m n l h e p = omega (arith, gone-most m (loopsOf n l h) e, length-loops n l h)
 
 -- ---- the arguments, in the order in which they are tested
 
@@ -96,7 +76,7 @@ module _ (v n : ℕ) (f : List ℤ) (l h : List (List ℤ)) where
     unfolding areForms
     up-to-high e g = rw (le-leb (v + n) allVariables few, e, g)
 
-  pub no-forms : areForms v n f l h ≡ false → answer v n f l h ≡ record { number = 1; through = 0 }
+  pub no-forms : areForms v n f l h ≡ false → answer v n f l h ≡ record { number = noForms; through = 0 }
   unfolding answer
   no-forms e = rw e
 

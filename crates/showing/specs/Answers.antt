@@ -41,11 +41,15 @@ numberOf shown = 0
 numberOf notShown = 12
 numberOf beyondRange = 11
 
--- 1 and 0 where the arguments are no forms
+-- the number where the arguments are no forms, which is no number of a refusal
+abbrev pub noForms : ℕ
+noForms = 255
+
+-- the number and the count of the showing, or that the arguments are no forms
 unfoldable pub answer : (variables loops : ℕ) (f : List ℤ) (lows highs : List (List ℤ)) → Answer
 answer variables loops f lows highs =
     let e = built (asForm f) in
     let ls = loopsOf loops lows highs in
     cond (areForms variables loops f lows highs)
     (record { number = numberOf (showing variables ls e); through = goneThrough variables ls e })
-    (record { number = 1; through = 0 })
+    (record { number = noForms; through = 0 })

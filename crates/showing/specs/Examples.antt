@@ -46,9 +46,9 @@ examples =
     -- a's coefficient is out of range once b is replaced by a
     && gives 1 2 (form (pos 0) (pos 0) (pos 2_000_000_000) (pos 1)) 11 1
     -- no forms: a number out of range, a loop too many, a variable too many
-    && gives 1 2 (form (pos 2_000_000_001) (pos 0) (pos 0) (pos 0)) 1 0
-    && gives 1 3 n 1 0
-    && gives 11 2 n 1 0
+    && gives 1 2 (form (pos 2_000_000_001) (pos 0) (pos 0) (pos 0)) 255 0
+    && gives 1 3 n 255 0
+    && gives 11 2 n 255 0
 
 examples-hold : examples ≡ true
 unfolding forming settlings asForm loopsOf formsInRange areForms numberOf answer gives examples

@@ -11,6 +11,9 @@ use forms::Form;
 use forms::Verdict;
 use limits::ALL_VARIABLES;
 
+// The number where the arguments are no forms, which is no number of a refusal.
+const NO_FORMS: u32 = 255;
+
 // The answer of a showing: its number, and how many loop variables were gone through.
 #[repr(C)]
 pub struct ShowingResult {
@@ -88,7 +91,7 @@ fn are_forms(f: &Form, variables: u32, loops: u32, lows: &[Form], highs: &[Form]
     rows_kept(highs, n)
 }
 
-// Shows a form to be 0 or more: 0 shown, 12 not shown, 11 a number out of range on the way, 1 no forms given. What the form holds
+// Shows a form to be 0 or more: 0 shown, 12 not shown, 11 a number out of range on the way, 255 no forms given. What the form holds
 // afterwards is of no use.
 #[no_mangle]
 pub extern "C" fn metaqasm_showing(
@@ -102,7 +105,7 @@ pub extern "C" fn metaqasm_showing(
 {
     if !are_forms(f, variables, loops, lows, highs) {
         return ShowingResult {
-            number: 1,
+            number: NO_FORMS,
             through: 0,
         };
     }

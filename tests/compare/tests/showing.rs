@@ -4,7 +4,7 @@ use compare::harness::hold;
 use compare::recorded::showings::{rows, RecordedShowing};
 use compare::{Tally, Who};
 use generate::forms::{showing, Showing, LARGEST};
-use reference::{FormNumbers, ShowingOutcome};
+use reference::{FormNumbers, ShowingOutcome, NO_FORMS};
 use std::collections::BTreeMap;
 
 /// How many generated showings are compared.
@@ -47,7 +47,7 @@ fn the_recorded_showings_have_every_number_and_count() {
 fn all_answers() -> Vec<(u32, u32)> {
     let with = |number, counts: std::ops::RangeInclusive<u32>| counts.map(move |n| (number, n));
     let found = with(0, 0..=8).chain(with(12, 0..=8)).chain(with(11, 1..=8));
-    found.chain([(1, 0)]).collect()
+    found.chain([(NO_FORMS, 0)]).collect()
 }
 
 /// Compares the generated showings.
@@ -76,7 +76,7 @@ fn the_generated_showings_have_every_number_and_count_often() {
         *counts.entry((number, through)).or_default() += 1;
     }
     for ((number, through), count) in &counts {
-        println!("number {number:2}, count {through:2}: {count:6}");
+        println!("number {number:3}, count {through:2}: {count:6}");
     }
     for answer in all_answers() {
         let count = counts.get(&answer).copied().unwrap_or(0);
@@ -296,7 +296,7 @@ fn differing(rules: &Rules, showings: &[Showing]) -> usize {
 /// The showings whose arguments are forms.
 fn of_forms(showings: impl Iterator<Item = Showing>) -> Vec<Showing> {
     showings
-        .filter(|asked| asked.answer().number != 1)
+        .filter(|asked| asked.answer().number != NO_FORMS)
         .collect()
 }
 

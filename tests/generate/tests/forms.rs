@@ -1,7 +1,7 @@
 //! The generated showings are what they are meant to be.
 
 use generate::forms::{showing, Showing, LARGEST, VARIABLES};
-use reference::FormNumbers;
+use reference::{FormNumbers, NO_FORMS};
 
 /// How many seeds are looked at.
 const SEEDS: u64 = 20_000;
@@ -11,7 +11,7 @@ type Property = (&'static str, usize, fn(&Showing) -> bool);
 
 /// Whether the arguments are forms, by the reference.
 fn are_forms(asked: &Showing) -> bool {
-    asked.answer().number != 1
+    asked.answer().number != NO_FORMS
 }
 
 /// Whether forms have a number out of range.

@@ -19,7 +19,7 @@ use machine::{Layout, Locations, Machine};
 use tree::Program;
 
 pub use machine::RECORD_BYTES;
-pub use showing::{showing, FormNumbers, ShowingOutcome, FORM_NUMBERS};
+pub use showing::{showing, FormNumbers, ShowingOutcome, FORM_NUMBERS, NO_FORMS};
 pub use text::{instance_qasm, instance_text, run_qasm, run_text, TextOutcome};
 
 /// The answer to a call: number is 0 for done, else why it was turned down.

@@ -8,8 +8,11 @@ pub const FORM_NUMBERS: usize = 1 + VARIABLES;
 /// The numbers of a form: its constant, then a coefficient for each variable.
 pub type FormNumbers = [i64; FORM_NUMBERS];
 
+/// The number where the arguments are no forms, which is no number of a refusal.
+pub const NO_FORMS: u32 = 255;
+
 /// The answer to a showing: number is 0 for shown, 12 for not shown, 11 for a
-/// number out of range on the way, and 1 where the arguments are no forms.
+/// number out of range on the way, and [`NO_FORMS`] where the arguments are none.
 #[derive(Clone, Copy, Debug, PartialEq, Eq)]
 pub struct ShowingOutcome {
     pub number: u32,
@@ -45,7 +48,7 @@ pub fn showing(
     match forms {
         Some((form, loops)) if few => form.scanned(variables as usize, &loops).into(),
         _ => ShowingOutcome {
-            number: 1,
+            number: NO_FORMS,
             through: 0,
         },
     }

@@ -74,18 +74,18 @@ left-requires : tie.Need-left-requires Inv-loop μ-loop
 left-requires c κs =
     (c .before .loop .inv .1, omega (arith, c .before .loop .inv .0, c .before .before .pre .1 .0))
 
-sub-settled : tie.Need-sub-settled Inv-loop μ-loop
-sub-settled c =
+sub-settling-of : tie.Need-sub-settling-of Inv-loop μ-loop
+sub-settling-of c =
     omega (arith, c .before .before .before .before .loop .inv .0, c .before .before .left .ensures .1)
 
-settled-requires : tie.Need-settled-requires Inv-loop μ-loop
-settled-requires c κs =
+settling-of-requires : tie.Need-settling-of-requires Inv-loop μ-loop
+settling-of-requires c κs =
     c .before .before .before .before .loop .inv .1
 
 returns : tie.Need-returns Inv-loop μ-loop
 returns c =
     let t = told _ _ _ _ (at-end (c .before .before)) in
-    (c .settled .ensures .0 ∙ t .0, c .settled .ensures .1 ∙ t .1)
+    (c .settling-of .ensures .0 ∙ t .0, c .settling-of .ensures .1 ∙ t .1)
 
 sub-n : tie.Need-sub-n Inv-loop μ-loop
 sub-n c =
@@ -127,8 +127,8 @@ show-spec =
     μ-loop
     loop-holds
     left-requires
-    sub-settled
-    settled-requires
+    sub-settling-of
+    settling-of-requires
     returns
     sub-n
     sub-through

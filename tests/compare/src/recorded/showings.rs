@@ -6,7 +6,7 @@
 use crate::ask::Who;
 use crate::showing::ask;
 use generate::forms::Showing;
-use reference::{FormNumbers, ShowingOutcome, FORM_NUMBERS};
+use reference::{FormNumbers, ShowingOutcome, FORM_NUMBERS, NO_FORMS};
 
 /// A loop from 0 up to the first family variable.
 const N: &str = "0 .. v0 - 1";
@@ -14,6 +14,9 @@ const N: &str = "0 .. v0 - 1";
 const O: &str = "0 .. 0";
 /// A loop whose low form is too large to be taken twice.
 const HALF: &str = "1_000_000_001 .. 0";
+
+/// The answer where the arguments are no forms.
+const NONE: [u32; 2] = [NO_FORMS, 0];
 
 /// A showing and the answer that is due.
 pub struct RecordedShowing {
@@ -369,22 +372,22 @@ fn out_of_scope() -> Vec<RecordedShowing> {
 /// Counts of variables, loops and bounds that do not go together, and the last that do.
 fn counts() -> Vec<RecordedShowing> {
     vec![
-        row(13, "0", &[], [1, 0]),
-        row(12, "0", &[O], [1, 0]),
-        row(5, "0", &[O; 8], [1, 0]),
+        row(13, "0", &[], NONE),
+        row(12, "0", &[O], NONE),
+        row(5, "0", &[O; 8], NONE),
         row(4, "0", &[O; 8], [0, 0]),
-        row(0, "0", &[O; 13], [1, 0]),
+        row(0, "0", &[O; 13], NONE),
         row(0, "0", &[O; 12], [0, 0]),
-        row(u32::MAX, "0", &[], [1, 0]),
-        row(u32::MAX, "0", &[O], [1, 0]),
-        row(u32::MAX, "0", &[O; 13], [1, 0]),
-        row(0, "0", &[O; 13], [1, 0]).counted(0, u32::MAX),
-        row(0, "0", &[O; 13], [1, 0]).counted(1, u32::MAX),
-        row(0, "0", &[], [1, 0]).counted(0, 1),
-        row(1, "v1", &[N], [1, 0]).a_low_less(),
-        row(1, "v1", &[N], [1, 0]).a_high_less(),
-        row(1, "0", &[N; 3], [1, 0]).a_low_less(),
-        row(1, "0", &[N; 3], [1, 0]).a_high_less(),
+        row(u32::MAX, "0", &[], NONE),
+        row(u32::MAX, "0", &[O], NONE),
+        row(u32::MAX, "0", &[O; 13], NONE),
+        row(0, "0", &[O; 13], NONE).counted(0, u32::MAX),
+        row(0, "0", &[O; 13], NONE).counted(1, u32::MAX),
+        row(0, "0", &[], NONE).counted(0, 1),
+        row(1, "v1", &[N], NONE).a_low_less(),
+        row(1, "v1", &[N], NONE).a_high_less(),
+        row(1, "0", &[N; 3], NONE).a_low_less(),
+        row(1, "0", &[N; 3], NONE).a_high_less(),
         row(1, "v3", &[N; 4], [0, 1]).counted(1, 3).a_low_less(),
         row(1, "v3", &[N; 4], [0, 1]).counted(1, 3).a_high_less(),
     ]
@@ -395,22 +398,22 @@ fn numbers() -> Vec<RecordedShowing> {
     vec![
         row(0, "2_000_000_000", &[], [0, 0]),
         row(0, "-2_000_000_000", &[], [12, 0]),
-        row(0, "2_000_000_001", &[], [1, 0]),
-        row(0, "-2_000_000_001", &[], [1, 0]),
-        row(0, "9_223_372_036_854_775_807", &[], [1, 0]),
-        row(0, "-9_223_372_036_854_775_808", &[], [1, 0]),
+        row(0, "2_000_000_001", &[], NONE),
+        row(0, "-2_000_000_001", &[], NONE),
+        row(0, "9_223_372_036_854_775_807", &[], NONE),
+        row(0, "-9_223_372_036_854_775_808", &[], NONE),
         row(0, "2_000_000_000v11", &[], [0, 0]),
         row(0, "-2_000_000_000v11", &[], [12, 0]),
-        row(0, "2_000_000_001v11", &[], [1, 0]),
-        row(0, "-2_000_000_001v0", &[], [1, 0]),
+        row(0, "2_000_000_001v11", &[], NONE),
+        row(0, "-2_000_000_001v0", &[], NONE),
         row(0, "0", &["-2_000_000_000 .. 2_000_000_000"], [0, 0]),
-        row(0, "0", &["2_000_000_001 .. 0"], [1, 0]),
-        row(0, "0", &["0 .. -2_000_000_001"], [1, 0]),
-        row(0, "0", &["2_000_000_001v11 .. 0"], [1, 0]),
-        row(0, "0", &["0 .. -2_000_000_001v11"], [1, 0]),
-        row(0, "0", &["9_223_372_036_854_775_807 .. 0"], [1, 0]),
-        row(0, "0", &["0 .. -9_223_372_036_854_775_808"], [1, 0]),
-        row(1, "0", &[N, N, "2_000_000_001v0 .. 0"], [1, 0]),
-        row(1, "v3", &["0 .. 2_000_000_001v5", N, N], [1, 0]),
+        row(0, "0", &["2_000_000_001 .. 0"], NONE),
+        row(0, "0", &["0 .. -2_000_000_001"], NONE),
+        row(0, "0", &["2_000_000_001v11 .. 0"], NONE),
+        row(0, "0", &["0 .. -2_000_000_001v11"], NONE),
+        row(0, "0", &["9_223_372_036_854_775_807 .. 0"], NONE),
+        row(0, "0", &["0 .. -9_223_372_036_854_775_808"], NONE),
+        row(1, "0", &[N, N, "2_000_000_001v0 .. 0"], NONE),
+        row(1, "v3", &["0 .. 2_000_000_001v5", N, N], NONE),
     ]
 }

@@ -1,7 +1,7 @@
--- `settled` meets its contract. Assumes nothing.
+-- `settling_of` meets its contract. Assumes nothing.
 use borrow.Author.Needs.{needs}
-use Rattle.forms.proofs.settled.Statement.{statement}
-use Rattle.forms.proofs.settled.Tie as tie
+use Rattle.forms.proofs.settling_of.Statement.{statement}
+use Rattle.forms.proofs.settling_of.Tie as tie
 use mathlib.Core.Path.{refl, sym, ap, _∙_}
 use Rattle.forms.specs.Flat.{shownOf, showingBy}
 
@@ -19,5 +19,5 @@ unfolding shownOf
 returns-2 c =
     (sym (ap showingBy (c .if1 .left)) ∙ c .before .none-negative .ensures, refl)
 
-pub settled-spec : {M : Type 1} → statement M
-settled-spec = tie.close (tie.spec none-negative-requires returns returns-2)
+pub settling-of-spec : {M : Type 1} → statement M
+settling-of-spec = tie.close (tie.spec none-negative-requires returns returns-2)
