@@ -55,8 +55,13 @@ family adder.n1 adder 2 1
 family adder.n1 adder 002 0000000000001
 family ctrladd.m0 ctrladd 1 0
 family ctrladd.m2 ctrladd 1 2
+family ctrladd-guarded.n1 ctrladd-guarded 1 1
+family ctrladd-guarded.n2 ctrladd-guarded 1 2
+family ctrladd-guarded.n4 ctrladd-guarded 1 4
 family loop.n0 loop 0 0
 family loop.n3 loop 0 3
+family loop-short.n1 loop-short 0 1
+family loop-short.n3 loop-short 0 3
 family qft.n3 qft 0 3
 family qft.unqft.n3 qft 1 3
 family qft.add.n2 qft 2 2
@@ -107,6 +112,15 @@ gives 'a slice that ends too far before its start' 'end 12 57 0 0' '' "$list" < 
 gives 'a slice that is too small' 'end 12 57 0 0' '' "$list" < <(sliced 3 1 2)
 gives 'a slice as a wire' 'end 9 8 0 0' '' "$list" < <(printf '\2\2\0\2\0\40\16\0\62\13\0\0\100\2\0\0\0\100\2\0\0\0')
 gives 'a tag past the slices' 'end 3 8 0 0' '' "$list" < <(printf '\2\2\0\2\0\40\3\0\63\0\0')
+
+# A family of n with x: Qbit[n], and h on a cell in a loop from 1 to n - 1, which has rounds where there are two cells or more.
+short_loop() { # CELL
+    printf '\1\51\0\1\1\21\4\0\101\1\0\0\46\35\0\100\2\0\1\0\103\11\0\101\1\0\0\100\2\0\1\0'
+    printf '\40\11\0\61\6\0\0\100\2\0%b\0' "\\0$1"
+}
+gives 'a cell that the loop shows, at 0' 'end 0 0 0 1' '' "$list" 0 0 < <(short_loop 0)
+gives 'a cell that the loop shows, at 2' $'h 1\nend 0 0 1 3' '' "$list" 0 2 < <(short_loop 1)
+gives 'a cell that the loop does not show' 'end 12 35 0 0' '' "$list" 0 3 < <(short_loop 2)
 
 # A library of 257 families of one wire: h in family 0, nothing in families 1 to 255, t in family 256; then a call of 256.
 long_library() {

@@ -57,7 +57,7 @@ fn call_forms(
             return r;
         };
         forms[i] = f;
-        let t = check_operand::must_show(&mut f, from, next, s.variables, s.loops, lows, highs);
+        let t = check_operand::must_show(&f, from, next, s.variables, s.loops, lows, highs);
         let Read::Upto(_) = t else {
             return t;
         };

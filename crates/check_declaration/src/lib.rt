@@ -55,9 +55,8 @@ fn sized_type(program: &[u8], at: usize, next: usize, m: usize, f: &mut Form) ->
     if end < next {
         return Read::Refused(4, at);
     }
-    let mut g = *f;
     let none = [[0i64; FORM_NUMBERS]; 1];
-    let t = check_operand::must_show(&mut g, at, next, m, 0, &none, &none);
+    let t = check_operand::must_show(f, at, next, m, 0, &none, &none);
     let Read::Upto(_) = t else {
         return t;
     };

@@ -1,5 +1,6 @@
 -- The laws and lemmas of crate check_operand, file by file.
 pub mod OperandKinds
 pub mod Tables
+pub mod Shown
 pub mod Operands
 pub mod Slices

@@ -7,20 +7,15 @@ use lib.IntN.{ℤ}
 use types.Run.{OneOf, miss}
 use denote.Enum.Declared.{tagOf}
 use Rattle.language.specs.Form.{Form, Built, built, outOfRange, differenceOf, _thenBuild_}
-use Rattle.language.specs.Check.{good, refused, Kind, byShowing, mustShow, wholeFits, elementSize}
+use Rattle.language.specs.Check.{good, refused, Kind, mustShow, wholeFits, elementSize}
 use Rattle.kinds.proofs.Kind.{the-type}
 use Rattle.kinds.specs.declared.Kind.the-variants.{Qubit, Quantum, Classical}
 use Rattle.forms.specs.Flat.{asForm, builtOf}
-use Rattle.forms.proofs.Laws.{show-outside}
 use Rattle.check_operand.specs.Tables.{kindIn}
 use Rattle.check_operand.specs.Operands.{wantedOf}
 use Rattle.check_operand.specs.declared.Wanted.the-variants.{Wire, Bit, Register}
 use Rattle.kinds.specs.declared.Kind as K
 use Rattle.language.specs.Check as C
-
-pub shown-outside : (p : ℕ) (s : C.Scope) → refused 11 p ≡ mustShow p s outOfRange
-unfolding byShowing mustShow
-shown-outside p s = sym (ap (byShowing p) (show-outside (s .variables) (s .loops)))
 
 -- what is built where a difference was refused, or made
 pub not-made : (l : List ℤ) {t : Bool} {b : Built} → builtOf t l ≡ b → t ≡ false → b ≡ outOfRange

@@ -12,8 +12,8 @@ use types.Run.{OneOf}
 use denote.Enum.Declared.{tagOf}
 use Rattle.language.specs.Tree.{badIndex, badOperand}
 use Rattle.language.specs.Read.{Field, field, badHeader, choose, ending, due, outerIndex, readWhole, readElement, elementOf, readSlice, readOperand}
-use Rattle.language.specs.Form.{Form, built}
-use Rattle.language.specs.Check.{Checked, refused, _>>=_, _>>_, noLeftover, inScope, formOf, Kind, mustShow, wholeFits, elementSize, roomAfter, checkWithin, checkOperand}
+use Rattle.language.specs.Form.{Form}
+use Rattle.language.specs.Check.{Checked, refused, _>>=_, _>>_, noLeftover, inScope, formOf, Kind, wholeFits, elementSize, checkWithin, checkOperand}
 use Rattle.fields.specs.Header.{fieldsAt}
 use Rattle.fields.proofs.Headers.{Wholly}
 use Rattle.forms.specs.Flat.{asForm}
@@ -22,7 +22,7 @@ use Rattle.check_index.specs.Answers.{checkedForm, PastField, checkedPart}
 use Rattle.check_operand.specs.Operands.{checkedSize}
 use Rattle.check_index.specs.declared.Read.{Read}
 use Rattle.check_index.specs.declared.Read.the-variants.{Upto, Refused}
-use Rattle.check_index.proofs.Answers.{not-first, not-second, more-left, none-left, form-stops, checked-then, drop-two, part-stops, part-went}
+use Rattle.check_index.proofs.Answers.{not-first, not-second, more-left, none-left, form-stops, checked-then, drop-two}
 use Rattle.language.specs.Tree as T
 use Rattle.language.specs.Check as C
 
@@ -56,15 +56,6 @@ module _ (s : C.Scope) (d : C.Due) (at : ℕ) (content : List ℕ) where
       pub whole-good : more ≡ [] → wholeFits at s d k ≡ checkOperand s d (readWhole at content)
       unfolding noLeftover ending _>>_
       whole-good z = sym (whole-some ∙ ap (λ (l : List ℕ). noLeftover at (ending l) >> wholeFits at s d k) z)
-
-module _ (at : ℕ) (s : C.Scope) (size f : Form) (r : Read) (e : checkedPart r ≡ mustShow at s (built f)) where
-  pub within-stops : OneOf (1 ∷ []) (tagOf the-type r) → checkedPart r ≡ checkWithin at s size f
-  unfolding checkWithin
-  within-stops h = part-stops r (mustShow at s (built f)) (mustShow at s (roomAfter size f)) e h
-
-  pub within-goes : OneOf (0 ∷ []) (tagOf the-type r) → mustShow at s (roomAfter size f) ≡ checkWithin at s size f
-  unfolding checkWithin
-  within-goes h = sym (part-went r (mustShow at s (built f)) (mustShow at s (roomAfter size f)) e h)
 
 -- nothing is left of the fields after the last one, or something is
 pub left-long : {B : Type 0} (program : List ℕ) (at end next : ℕ) (more : Checked B) → end < next → next ≤ length program → refused 4 at ≡ (noLeftover at (ending (fieldsAt program end next)) >> more)

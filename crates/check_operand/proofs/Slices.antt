@@ -1,7 +1,7 @@
 -- Slices: where they lie, whether they fit, and the one at a place. Assumes nothing.
 use mathlib.Core.Path.{_≡_, refl, sym, ap, _∙_}
 use mathlib.Core.List.{List, [], _∷_}
-use mathlib.Core.Bool.{Bool}
+use mathlib.Core.Bool.{Bool, false}
 use mathlib.Core.Option.{Option, none, some}
 use Prim.Native.Nat.{ℕ, _+_, _≤_, _<_}
 use native.Mathlib.Omega.{arith}
@@ -12,23 +12,23 @@ use types.Run.{OneOf, miss}
 use denote.Enum.Declared.{tagOf}
 use Rattle.language.specs.Tree.{badIndex}
 use Rattle.language.specs.Read.{Field, ending, due, outerIndex, readSlice, sliceOf}
-use Rattle.language.specs.Form.{Form, Loop, Built, built, outOfRange}
-use Rattle.language.specs.Check.{Checked, good, refused, _>>=_, _>>_, noLeftover, inForm, inScope, formOf, Kind, mustShow, wholeFits, roomAfter, slicedSize, sliceSize, checkSlice, sliceFits, checkOperand}
+use Rattle.language.specs.Form.{Form, Loop, Built, built, outOfRange, Showing, shown, notShown, beyondRange, isShown, showing}
+use Rattle.language.specs.Check.{Checked, good, refused, _>>=_, _>>_, noLeftover, inForm, inScope, formOf, Kind, byShowing, mustShow, wholeFits, roomAfter, slicedSize, sliceSize, checkSlice, sliceFits, checkOperand}
 use Rattle.kinds.specs.declared.Kind.the-variants.{Qubit, Quantum, Classical}
 use Rattle.fields.specs.Header.{fieldsAt}
 use Rattle.forms.specs.Flat.{asForm}
 use Rattle.check_index.proofs.Read.{the-type}
-use Rattle.check_index.specs.Answers.{checkedForm, checkedPart, Beyond}
+use Rattle.check_index.specs.Answers.{checkedPart, Beyond}
 use Rattle.check_index.specs.Bounds.{checkedBounds, boundsDue}
 use Rattle.check_index.specs.declared.Read.{Read}
 use Rattle.check_index.specs.declared.Read.the-variants.{Upto}
-use Rattle.check_index.proofs.Answers.{form-stops, form-goes, part-went, part-form-stops, part-form}
 use Rattle.check_index.proofs.TwoBounds.{bounds-are, bounds-end, bounds-then}
 use Rattle.check_operand.specs.Tables.{kindIn}
 use Rattle.check_operand.specs.Operands.{wantedOf}
 use Rattle.check_operand.specs.declared.Wanted.{Wanted}
 use Rattle.check_operand.specs.declared.Wanted.the-variants.{Wire, Bit, Register}
 use Rattle.check_operand.proofs.Wanted.{the-type as wanted-type}
+use Rattle.check_operand.proofs.Shown.{stops, goes}
 use Rattle.check_operand.proofs.Operands.{left-long, left-good}
 use Rattle.kinds.proofs.Kind as K
 use Rattle.kinds.specs.declared.Kind as D
@@ -42,30 +42,37 @@ module _ (at : ℕ) (s : C.Scope) (size first last : Form) where
   abbrev lastShown : Checked Form
   lastShown = mustShow at s (roomAfter size last) >> sizeShown (sliceSize first last)
 
-  module _ (r : Read) (e : checkedPart r ≡ mustShow at s (built first)) where
-    pub first-stops : (l : List ℤ) → OneOf (1 ∷ []) (tagOf the-type r) → checkedForm r l ≡ checkSlice at s size first last
-    unfolding checkSlice
-    first-stops l h = part-form-stops r l (mustShow at s (built first)) lastShown e h
+  -- what a verdict x, with a form beside it, answers
+  abbrev answered : Showing → List ℤ → Checked Form
+  answered x l = byShowing at x >> good (asForm l)
 
-    module _ (h : OneOf (0 ∷ []) (tagOf the-type r)) (t : Read) (d : checkedPart t ≡ mustShow at s (roomAfter size last)) where
-      first-goes : checkSlice at s size first last ≡ lastShown
-      unfolding checkSlice
-      first-goes = part-went r (mustShow at s (built first)) lastShown e h
+  module _ {x : Showing} (e : x ≡ showing (s .variables) (s .loops) (built first)) where
+    first-is : (byShowing at x >> lastShown) ≡ checkSlice at s size first last
+    unfolding checkSlice mustShow
+    first-is = ap (λ (z : Showing). byShowing at z >> lastShown) e
 
-      pub last-stops : (l : List ℤ) → OneOf (1 ∷ []) (tagOf the-type t) → checkedForm t l ≡ checkSlice at s size first last
-      last-stops l k = part-form-stops t l (mustShow at s (roomAfter size last)) (sizeShown (sliceSize first last)) d k ∙ sym first-goes
+    pub first-stops : (l : List ℤ) → false ≡ isShown x → answered x l ≡ checkSlice at s size first last
+    first-stops l h = stops at x h (good (asForm l)) lastShown ∙ first-is
 
-      module _ (k : OneOf (0 ∷ []) (tagOf the-type t)) where
-        last-goes : checkSlice at s size first last ≡ sizeShown (sliceSize first last)
-        last-goes = first-goes ∙ part-went t (mustShow at s (roomAfter size last)) (sizeShown (sliceSize first last)) d k
+    module _ (h : x ≡ shown) {y : Showing} (d : y ≡ showing (s .variables) (s .loops) (roomAfter size last)) where
+      last-is : (byShowing at y >> sizeShown (sliceSize first last)) ≡ checkSlice at s size first last
+      unfolding mustShow
+      last-is = ap (λ (z : Showing). byShowing at z >> sizeShown (sliceSize first last)) d ∙ goes at h lastShown ∙ first-is
 
-        pub size-outside : sliceSize first last ≡ outOfRange → refused 11 at ≡ checkSlice at s size first last
-        unfolding inForm _>>=_
-        size-outside q = sym (last-goes ∙ ap sizeShown q)
+      pub last-stops : (l : List ℤ) → false ≡ isShown y → answered y l ≡ checkSlice at s size first last
+      last-stops l k = stops at y k (good (asForm l)) (sizeShown (sliceSize first last)) ∙ last-is
 
-        pub size-shown : (l : List ℤ) → sliceSize first last ≡ built (asForm l) → (u : Read) → checkedPart u ≡ mustShow at s (built (asForm l)) → checkedForm u l ≡ checkSlice at s size first last
-        unfolding inForm _>>=_
-        size-shown l q u v = part-form u l ∙ ap (λ (c : Checked (Unit {0})). c >> good (asForm l)) v ∙ sym (last-goes ∙ ap sizeShown q)
+      module _ (k : y ≡ shown) where
+        size-is : sizeShown (sliceSize first last) ≡ checkSlice at s size first last
+        size-is = goes at k (sizeShown (sliceSize first last)) ∙ last-is
+
+        pub size-outside : (l : List ℤ) → sliceSize first last ≡ outOfRange → answered beyondRange l ≡ checkSlice at s size first last
+        unfolding inForm _>>=_ byShowing _>>_
+        size-outside l q = sym (ap sizeShown q) ∙ size-is
+
+        pub size-shown : (l : List ℤ) → sliceSize first last ≡ built (asForm l) → {z : Showing} → z ≡ showing (s .variables) (s .loops) (built (asForm l)) → answered z l ≡ checkSlice at s size first last
+        unfolding inForm _>>=_ mustShow
+        size-shown l q v = ap (λ (z : Showing). answered z l) v ∙ sym (ap sizeShown q) ∙ size-is
 
 -- whether a slice fits: not where no register is due or none stands there, else by the answer on where it lies
 module _ (at : ℕ) (s : C.Scope) (m : List ℤ) (size first last : Form) where
@@ -81,17 +88,26 @@ module _ (at : ℕ) (s : C.Scope) (m : List ℤ) (size first last : Form) where
   slice-no-register b Quantum h = absurd (miss (0 ∷ 2 ∷ []) 1 tt h)
   slice-no-register b Classical h = refl
 
-  module _ (b : Bool) (t : Read) (l : List ℤ) (v : checkedForm t l ≡ checkSlice at s size first last) where
-    fits-goes : (checkedForm t l >>= λ n. wholeFits at s (wantedOf (Register b) m) (C.quantum n)) ≡ sliceFits at s (wantedOf (Register b) m) (kindIn Quantum size) first last
+  module _ (b : Bool) (x : Showing) (l : List ℤ) (v : (byShowing at x >> good (asForm l)) ≡ checkSlice at s size first last) where
+    abbrev enough : Form → Checked (Unit {0})
+    enough n = wholeFits at s (wantedOf (Register b) m) (C.quantum n)
+
+    fits-is : ((byShowing at x >> good (asForm l)) >>= enough) ≡ sliceFits at s (wantedOf (Register b) m) (kindIn Quantum size) first last
     unfolding sliceFits slicedSize wantedOf kindIn _>>=_
-    fits-goes = ap (λ (c : Checked Form). c >>= λ n. wholeFits at s (wantedOf (Register b) m) (C.quantum n)) v
+    fits-is = ap (λ (c : Checked Form). c >>= enough) v
 
-    pub lies-stops : OneOf (1 ∷ []) (tagOf the-type t) → checkedPart t ≡ sliceFits at s (wantedOf (Register b) m) (kindIn Quantum size) first last
-    lies-stops q = form-stops t l (λ n. wholeFits at s (wantedOf (Register b) m) (C.quantum n)) q ∙ fits-goes
+    pub lies-stops : false ≡ isShown x → byShowing at x ≡ sliceFits at s (wantedOf (Register b) m) (kindIn Quantum size) first last
+    unfolding isShown byShowing _>>_ _>>=_
+    lies-stops q = stopped x q ∙ fits-is
+      where
+        stopped : (x : Showing) → false ≡ isShown x → byShowing at x ≡ ((byShowing at x >> good (asForm l)) >>= enough)
+        stopped shown q = absurd (let z : _≡_ {A = ℕ} 0 1 = cc in omega arith)
+        stopped notShown q = refl
+        stopped beyondRange q = refl
 
-    pub lies-goes : OneOf (0 ∷ []) (tagOf the-type t) → wholeFits at s (wantedOf (Register b) m) (kindIn Quantum (asForm l)) ≡ sliceFits at s (wantedOf (Register b) m) (kindIn Quantum size) first last
-    unfolding kindIn
-    lies-goes q = sym (form-goes t l (λ n. wholeFits at s (wantedOf (Register b) m) (C.quantum n)) q) ∙ fits-goes
+    pub lies-goes : x ≡ shown → wholeFits at s (wantedOf (Register b) m) (kindIn Quantum (asForm l)) ≡ sliceFits at s (wantedOf (Register b) m) (kindIn Quantum size) first last
+    unfolding kindIn _>>=_
+    lies-goes q = ap (λ (c : Checked Form). c >>= enough) (goes at q (good (asForm l))) ∙ fits-is
 
 module _ (s : C.Scope) (d : C.Due) (at : ℕ) (content : List ℕ) where
   pub slice-empty : content ≡ [] → refused 4 at ≡ checkOperand s d (readSlice at content)

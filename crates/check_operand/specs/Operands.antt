@@ -6,9 +6,10 @@ use Prim.Native.Nat.{ℕ}
 use lib.IntN.{ℤ}
 use lib.ListN.{drop}
 use Rattle.language.specs.Form.{Form}
-use Rattle.language.specs.Check.{Checked, good, refused, checkOneWire, checkTwo}
+use Rattle.language.specs.Check.{Checked, good, refused, _>>_, byShowing, checkOneWire, checkTwo}
 use Rattle.language.specs.Read.{Field, ending, operandDue}
-use Rattle.forms.specs.Flat.{Kept, builtOf}
+use Rattle.forms.specs.Flat.{Kept, asForm, builtOf, shownOf}
+use Rattle.forms.specs.declared.Verdict.{Verdict}
 use Rattle.check_index.specs.declared.Read.{Read}
 use Rattle.check_index.specs.declared.Read.the-variants.{Upto, Refused}
 use Rattle.check_operand.specs.declared.Wanted.{Wanted}
@@ -25,6 +26,10 @@ wantedOf (Register t) l = C.register (builtOf t l)
 unfoldable pub checkedSize : Read → Form → Checked Form
 checkedSize (Upto n) f = good f
 checkedSize (Refused n p) f = refused n p
+
+-- what a verdict for the field at p, with a form beside it, stands for
+unfoldable pub shownForm : ℕ → Verdict → List ℤ → Checked Form
+shownForm p v l = byShowing p (shownOf v) >> good (asForm l)
 
 -- the form beside it is right, if it was built
 abbrev pub SizeRight : Wanted → List ℤ → Type 0

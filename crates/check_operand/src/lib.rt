@@ -6,17 +6,17 @@ ghost use Prim.Native.Nat.{_+_, _≤_};
 ghost use lib.ListN.{length, replicate};
 ghost use lib.Seq.{slice};
 ghost use lib.IntN.{ℤ, pos};
-ghost use Rattle.language.specs.Tree.{badOperand};
+ghost use Rattle.language.specs.Tree.{Place, badOperand};
 ghost use Rattle.language.specs.Read.{due, readOperand, readWhole, readElement, readSlice};
-ghost use Rattle.language.specs.Form.{Form, built, differenceOf, _thenBuild_};
-ghost use Rattle.language.specs.Check.{Kind, Signature, elementSize, roomAfter, mustShow, wire, wholeFits, checkWithin, sliceSize, checkSlice, sliceFits, checkOperand};
+ghost use Rattle.language.specs.Form.{Form, built, differenceOf, _thenBuild_, shown, showing};
+ghost use Rattle.language.specs.Check.{Kind, Signature, elementSize, roomAfter, byShowing, mustShow, wire, wholeFits, checkWithin, sliceSize, checkSlice, sliceFits, checkOperand};
 ghost use Rattle.language.specs.Limits.{allVariables};
 ghost use Rattle.fields.specs.Header.{fieldsAt};
-ghost use Rattle.forms.specs.Flat.{formNumbers, Kept, Short, widened, asForm, builtOf};
+ghost use Rattle.forms.specs.Flat.{formNumbers, Kept, Short, widened, asForm, builtOf, shownOf};
 ghost use Rattle.forms.specs.Rows.{Rows, loopsOf};
 ghost use Rattle.check_operand.specs.Tables.{kindIn, kindOfRow, sizeOfRow, TablesRight, scopeWith, scopeAt};
-ghost use Rattle.check_operand.specs.Operands.{checkedSize, wantedOf, SizeRight, oneWire, twoOperands};
-ghost use Rattle.check_index.specs.Answers.{checkedPart, checkedForm, EndsAt, FormEndsAt, Passes};
+ghost use Rattle.check_operand.specs.Operands.{checkedSize, shownForm, wantedOf, SizeRight, oneWire, twoOperands};
+ghost use Rattle.check_index.specs.Answers.{checkedPart, EndsAt, Passes};
 use check_index::Read;
 use fields::Header;
 use forms::FORM_NUMBERS;
@@ -58,9 +58,40 @@ pub fn size_by(number: u16) -> usize
     fields::long(number / KINDS)
 }
 
-// Shows f, which is then of no use, to be 0 or more, for the field from `at` to `next`.
+// What a verdict answers for the field from `at` to `next`.
+fn answered(verdict: Verdict, at: usize, next: usize) -> Read
+    ensures { λ r. ⌜ checkedPart r ≡ byShowing at (shownOf verdict) ⌝ }
+    ensures { λ r. ⌜ EndsAt next r ⌝ }
+{
+    match verdict {
+        Verdict::Shown => Read::Upto(next),
+        Verdict::NotShown => Read::Refused(12, at),
+        Verdict::OutOfRange => Read::Refused(11, at),
+    }
+}
+
+// Shows f to be 0 or more. The plain rule shows nearly all there is to show, so it is asked by itself first.
+fn show(f: &Form, variables: usize, loops: usize, lows: &[Form], highs: &[Form]) -> Verdict
+    requires { ⌜ Kept (now f) ⌝ }
+    requires { ⌜ variables + loops ≤ allVariables ⌝ }
+    requires { ⌜ Rows (now lows) loops ⌝ }
+    requires { ⌜ Rows (now highs) loops ⌝ }
+    ensures { λ r. ⌜ shownOf r ≡ showing variables (loopsOf loops (now (lows .entry)) (now (highs .entry))) (built (asForm (now (f .entry)))) ⌝ }
+{
+    let s = forms::show_plainly(f, variables, loops, lows, highs);
+    let plain = s.verdict;
+    match plain {
+        Verdict::Shown => Verdict::Shown,
+        _ => {
+            let t = forms::show(f, variables, loops, lows, highs);
+            t.verdict
+        }
+    }
+}
+
+// Shows f to be 0 or more, for the field from `at` to `next`.
 pub fn must_show(
-    f: &mut Form,
+    f: &Form,
     at: usize,
     next: usize,
     variables: usize,
@@ -75,12 +106,15 @@ pub fn must_show(
     ensures { λ r. ⌜ ((fs : List Signature) (ks : List Kind) → checkedPart r ≡ mustShow at (scopeWith fs ks variables (loopsOf loops (now (lows .entry)) (now (highs .entry)))) (built (asForm (now (f .entry))))) ⌝ }
     ensures { λ r. ⌜ EndsAt next r ⌝ }
 {
-    let shown = forms::show(f, variables, loops, lows, highs);
-    let verdict = shown.verdict;
-    match verdict {
+    let s = forms::show_plainly(f, variables, loops, lows, highs);
+    let plain = s.verdict;
+    match plain {
         Verdict::Shown => Read::Upto(next),
-        Verdict::NotShown => Read::Refused(12, at),
-        Verdict::OutOfRange => Read::Refused(11, at),
+        _ => {
+            let t = forms::show(f, variables, loops, lows, highs);
+            let verdict = t.verdict;
+            answered(verdict, at, next)
+        }
     }
 }
 
@@ -88,57 +122,50 @@ pub fn must_show(
 fn room_after(
     f: &Form,
     size: &Size,
-    at: usize,
-    next: usize,
     variables: usize,
     loops: usize,
     lows: &[Form],
     highs: &[Form],
-) -> Read
+) -> Verdict
     requires { ⌜ Kept (now f) ⌝ }
     requires { ⌜ Short (now size) ⌝ }
     requires { ⌜ variables + loops ≤ allVariables ⌝ }
     requires { ⌜ Rows (now lows) loops ⌝ }
     requires { ⌜ Rows (now highs) loops ⌝ }
-    ensures { λ r. ⌜ ((fs : List Signature) (ks : List Kind) → checkedPart r ≡ mustShow at (scopeWith fs ks variables (loopsOf loops (now (lows .entry)) (now (highs .entry)))) (roomAfter (asForm (widened (now (size .entry)))) (asForm (now (f .entry))))) ⌝ }
-    ensures { λ r. ⌜ EndsAt next r ⌝ }
+    ensures { λ r. ⌜ shownOf r ≡ showing variables (loopsOf loops (now (lows .entry)) (now (highs .entry))) (roomAfter (asForm (widened (now (size .entry)))) (asForm (now (f .entry)))) ⌝ }
 {
     let mut room = [0i64; FORM_NUMBERS];
     forms::load(&mut room, size);
     if forms::add_constant(&mut room, -1) {
         if forms::subtract(&mut room, f) {
-            return must_show(&mut room, at, next, variables, loops, lows, highs);
+            return show(&room, variables, loops, lows, highs);
         }
-        return Read::Refused(11, at);
+        return Verdict::OutOfRange;
     }
-    Read::Refused(11, at)
+    Verdict::OutOfRange
 }
 
 // Shows the index f to be within a size.
 fn within(
     f: &Form,
     size: &Size,
-    at: usize,
-    next: usize,
     variables: usize,
     loops: usize,
     lows: &[Form],
     highs: &[Form],
-) -> Read
+) -> Verdict
     requires { ⌜ Kept (now f) ⌝ }
     requires { ⌜ Short (now size) ⌝ }
     requires { ⌜ variables + loops ≤ allVariables ⌝ }
     requires { ⌜ Rows (now lows) loops ⌝ }
     requires { ⌜ Rows (now highs) loops ⌝ }
-    ensures { λ r. ⌜ ((fs : List Signature) (ks : List Kind) → checkedPart r ≡ checkWithin at (scopeWith fs ks variables (loopsOf loops (now (lows .entry)) (now (highs .entry)))) (asForm (widened (now (size .entry)))) (asForm (now (f .entry)))) ⌝ }
-    ensures { λ r. ⌜ EndsAt next r ⌝ }
+    ensures { λ r. ⌜ ((p : Place) (fs : List Signature) (ks : List Kind) → byShowing p (shownOf r) ≡ checkWithin p (scopeWith fs ks variables (loopsOf loops (now (lows .entry)) (now (highs .entry)))) (asForm (widened (now (size .entry)))) (asForm (now (f .entry)))) ⌝ }
 {
-    let mut g = *f;
-    let r = must_show(&mut g, at, next, variables, loops, lows, highs);
-    let Read::Upto(_) = r else {
-        return r;
+    let v = show(f, variables, loops, lows, highs);
+    let Verdict::Shown = v else {
+        return v;
     };
-    room_after(f, size, at, next, variables, loops, lows, highs)
+    room_after(f, size, variables, loops, lows, highs)
 }
 
 // The size of the slice from `first` to `last`, which becomes last − first + 1; false where a number is out of range.
@@ -159,65 +186,58 @@ fn slice_within(
     first: &Form,
     last: &mut Form,
     size: &Size,
-    at: usize,
-    next: usize,
     variables: usize,
     loops: usize,
     lows: &[Form],
     highs: &[Form],
-) -> Read
+) -> Verdict
     requires { ⌜ Kept (now first) ⌝ }
     requires { ⌜ Kept (now last) ⌝ }
     requires { ⌜ Short (now size) ⌝ }
     requires { ⌜ variables + loops ≤ allVariables ⌝ }
     requires { ⌜ Rows (now lows) loops ⌝ }
     requires { ⌜ Rows (now highs) loops ⌝ }
-    ensures { λ r. ⌜ ((fs : List Signature) (ks : List Kind) → checkedForm r (now (last .exit)) ≡ checkSlice at (scopeWith fs ks variables (loopsOf loops (now (lows .entry)) (now (highs .entry)))) (asForm (widened (now (size .entry)))) (asForm (now (first .entry))) (asForm (now (last .entry)))) ⌝ }
-    ensures { λ r. ⌜ FormEndsAt next r (now (last .exit)) ⌝ }
+    ensures { λ r. ⌜ ((p : Place) (fs : List Signature) (ks : List Kind) → shownForm p r (now (last .exit)) ≡ checkSlice p (scopeWith fs ks variables (loopsOf loops (now (lows .entry)) (now (highs .entry)))) (asForm (widened (now (size .entry)))) (asForm (now (first .entry))) (asForm (now (last .entry)))) ⌝ }
+    ensures { λ r. ⌜ (shownOf r ≡ shown → Kept (now (last .exit))) ⌝ }
 {
-    let mut before = *first;
-    let r = must_show(&mut before, at, next, variables, loops, lows, highs);
-    let Read::Upto(_) = r else {
-        return r;
+    let v = show(first, variables, loops, lows, highs);
+    let Verdict::Shown = v else {
+        return v;
     };
-    let t = room_after(last, size, at, next, variables, loops, lows, highs);
-    let Read::Upto(_) = t else {
-        return t;
+    let w = room_after(last, size, variables, loops, lows, highs);
+    let Verdict::Shown = w else {
+        return w;
     };
     if slice_size(first, last) {
-        let mut many = *last;
-        return must_show(&mut many, at, next, variables, loops, lows, highs);
+        return show(last, variables, loops, lows, highs);
     }
-    Read::Refused(11, at)
+    Verdict::OutOfRange
 }
 
-// Shows a register's own size, which is then of no use, to be at least the size due.
+// Shows a register's own size, which becomes what it is more, to be at least the size due.
 fn large_enough(
     known: bool,
     size: &Form,
     own: &mut Form,
-    at: usize,
-    next: usize,
     variables: usize,
     loops: usize,
     lows: &[Form],
     highs: &[Form],
-) -> Read
+) -> Verdict
     requires { ⌜ (known ≡ true → Kept (now size)) ⌝ }
     requires { ⌜ Kept (now own) ⌝ }
     requires { ⌜ variables + loops ≤ allVariables ⌝ }
     requires { ⌜ Rows (now lows) loops ⌝ }
     requires { ⌜ Rows (now highs) loops ⌝ }
-    ensures { λ r. ⌜ ((fs : List Signature) (ks : List Kind) → checkedPart r ≡ mustShow at (scopeWith fs ks variables (loopsOf loops (now (lows .entry)) (now (highs .entry)))) (builtOf known (now (size .entry)) thenBuild differenceOf (asForm (now (own .entry))))) ⌝ }
-    ensures { λ r. ⌜ EndsAt next r ⌝ }
+    ensures { λ r. ⌜ shownOf r ≡ showing variables (loopsOf loops (now (lows .entry)) (now (highs .entry))) (builtOf known (now (size .entry)) thenBuild differenceOf (asForm (now (own .entry)))) ⌝ }
 {
     if known {
         if forms::subtract(own, size) {
-            return must_show(own, at, next, variables, loops, lows, highs);
+            return show(own, variables, loops, lows, highs);
         }
-        return Read::Refused(11, at);
+        return Verdict::OutOfRange;
     }
-    Read::Refused(11, at)
+    Verdict::OutOfRange
 }
 
 // Whether an operand of a kind and an own size, taken whole, is what is due.
@@ -251,17 +271,8 @@ fn whole_fits(
             kinds::Kind::Quantum => {
                 let mut room = [0i64; FORM_NUMBERS];
                 forms::load(&mut room, own);
-                large_enough(
-                    known,
-                    size,
-                    &mut room,
-                    at,
-                    next,
-                    variables,
-                    loops,
-                    lows,
-                    highs,
-                )
+                let v = large_enough(known, size, &mut room, variables, loops, lows, highs);
+                answered(v, at, next)
             }
             _ => Read::Refused(9, at),
         },
@@ -378,7 +389,8 @@ fn element(
         return fits;
     };
     let own = size_by(number);
-    within(&f, &sizes[own], at, next, s.variables, s.loops, lows, highs)
+    let v = within(&f, &sizes[own], s.variables, s.loops, lows, highs);
+    answered(v, at, next)
 }
 
 // Whether the slice from `first` to `last` of an operand of a kind and an own size is what is due.
@@ -412,11 +424,12 @@ fn slice_fits(
     let kinds::Kind::Quantum = kind else {
         return Read::Refused(9, at);
     };
-    let r = slice_within(first, last, own, at, next, variables, loops, lows, highs);
-    let Read::Upto(_) = r else {
-        return r;
+    let v = slice_within(first, last, own, variables, loops, lows, highs);
+    let Verdict::Shown = v else {
+        return answered(v, at, next);
     };
-    large_enough(known, size, last, at, next, variables, loops, lows, highs)
+    let w = large_enough(known, size, last, variables, loops, lows, highs);
+    answered(w, at, next)
 }
 
 // The slice at `at`, whose field ends at `next`.

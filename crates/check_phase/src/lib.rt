@@ -40,7 +40,7 @@ fn natural(
     let Read::Upto(mid) = r else {
         return r;
     };
-    check_operand::must_show(&mut f, from, mid, s.variables, s.loops, lows, highs)
+    check_operand::must_show(&f, from, mid, s.variables, s.loops, lows, highs)
 }
 
 // The phase at `at`, whose content is from `from` to `next`.

@@ -1,28 +1,36 @@
 -- The sums, differences, multiples and showings of forms as lists. Assumes nothing.
 use mathlib.Core.Path.{_≡_, refl, sym, ap, _∙_, subst}
 use mathlib.Core.List.{List, [], _∷_, map}
-use mathlib.Core.Bool.{Bool, true, false, cond, _&&_}
+use mathlib.Core.Bool.{Bool, true, false, cond, _&&_, _||_}
 use Prim.Native.Nat.{ℕ, zero, suc, _+_, _-_, _<_, _≤_}
 use native.Mathlib.Omega.{arith}
 use lib.IntN.{ℤ, pos, negsuc, _+ℤ_, _-ℤ_, _*ℤ_, +ℤ-idl, +ℤ-idr, *ℤ-zero}
 use native.Mathlib.Numerals.{add-one}
 use lib.ListN.{length, getD, set, take, drop, replicate, length-map, length-take, drop-of-length-le, List·getD-map}
 use lib.Seq.{drop-cons, getD-take, length-take-le, set-getD}
-use Rattle.language.specs.Form.{Form, Built, built, outOfRange, isZero, closed, Loop, beyondRange, showing, showingOf, inRange, allInRange, zipped, build, sumOf, differenceOf, multipleOf, _thenBuild_, constantForm, termsPutIn}
+use Rattle.language.specs.Form.{Form, Built, built, outOfRange, isZero, closed, Loop, beyondRange, Showing, shown, plainly, lessRange, isShown, trial, byTrial, orTried, showing, showingOf, inRange, allInRange, zipped, build, sumOf, differenceOf, multipleOf, _thenBuild_, constantForm, termsPutIn}
 use Rattle.language.specs.Settled.{coefficient, Scan, ended, oneMore, thenScan, scan, remaining, after, onward, Settling, settling, goneThrough}
-use Rattle.language.proofs.Settled.{next-law, agree-law}
+use Rattle.language.specs.Trials.{trialsFor, trialsMade}
+use Rattle.language.proofs.Settled.{next-law, agree-law, gone-most}
+use Rattle.language.proofs.Trials.{trials-most}
 use Rattle.forms.specs.Flat.{Kept, asForm, builtOf}
 use Rattle.language.proofs.Integers.{integers, plus, minus, times, clash}
-use Rattle.forms.proofs.Lists.{sum-flat, difference-flat, ranges, both, zero-yes, zero-no, term-flat, rest-long, set-kept}
+use Rattle.forms.proofs.Lists.{sum-flat, difference-flat, ranges, rest-good, rest-bad, rest-none, Passed, begun, again, stopped, ended-kept, both, zero-yes, zero-no, term-flat, rest-long, set-kept}
+use Rattle.forms.proofs.Lists as L
 use Rattle.forms.specs.Rows.{Rows, loopAt, loopsOf, formsOf}
 
 -- adding a multiple of 0 changes nothing
-pub nothing-added : (f : List ℤ) (i : ℕ) (k : ℤ) {y : ℤ} → inRange (getD f i (pos 0)) ≡ true → y ≡ pos 0 → (true ≡ (inRange (k *ℤ y) && inRange (getD f i (pos 0) +ℤ k *ℤ y))) × (f ≡ set f i (getD f i (pos 0) +ℤ k *ℤ y))
+pub zero-added : (x k : ℤ) {y : ℤ} → inRange x ≡ true → y ≡ pos 0 → (true ≡ (inRange (k *ℤ y) && inRange (x +ℤ k *ℤ y))) × (x +ℤ k *ℤ y ≡ x)
 unfolding inRange
-nothing-added f i k {y} h e =
+zero-added x k {y} h e =
     let p : k *ℤ y ≡ pos 0 = ap (λ (z : ℤ). k *ℤ z) e ∙ *ℤ-zero k in
-    let s : getD f i (pos 0) +ℤ k *ℤ y ≡ getD f i (pos 0) = ap (λ (z : ℤ). getD f i (pos 0) +ℤ z) p ∙ +ℤ-idr (getD f i (pos 0)) in
-    (sym ((λ j. inRange (p j) && inRange (s j)) ∙ h), sym (ap (λ (z : ℤ). set f i z) s ∙ set-getD f i (pos 0)))
+    let s : x +ℤ k *ℤ y ≡ x = ap (λ (z : ℤ). x +ℤ z) p ∙ +ℤ-idr x in
+    (sym ((λ j. inRange (p j) && inRange (s j)) ∙ h), s)
+
+pub nothing-added : (f : List ℤ) (i : ℕ) (k : ℤ) {y : ℤ} → inRange (getD f i (pos 0)) ≡ true → y ≡ pos 0 → (true ≡ (inRange (k *ℤ y) && inRange (getD f i (pos 0) +ℤ k *ℤ y))) × (f ≡ set f i (getD f i (pos 0) +ℤ k *ℤ y))
+nothing-added f i k h e =
+    let z = zero-added (getD f i (pos 0)) k h e in
+    (z .0, sym (ap (λ (z : ℤ). set f i z) (z .1) ∙ set-getD f i (pos 0)))
 
 pub map-at : (h : ℤ → ℤ) (l : List ℤ) (i : ℕ) (d : ℤ) → i < length l → getD (map h l) i d ≡ h (getD l i d)
 map-at h [] i d p = absurd (omega arith)
@@ -81,6 +89,47 @@ pub both-no : (s t a b : Bool) → (s && t) ≡ false → (s ≡ false → a ≡
 both-no true t a b e f g = and-no a (g e)
 both-no false t a b e f g = ap (λ (u : Bool). u && b) (f refl)
 
+-- ---- f + k · h, put number by number over what stands in r
+
+pub record Scaling (k : ℤ) (f h r g : List ℤ) (i : ℕ) : Type 0 where
+  pub sums : Passed (λ x y. x +ℤ k *ℤ y) f h r g i
+  pub products : allInRange (map (λ z. k *ℤ z) h) ≡ allInRange (drop i (map (λ z. k *ℤ z) h))
+
+pub scaling-begun : (k : ℤ) (f h r : List ℤ) → Scaling k f h r r 0
+scaling-begun k f h r = record { sums = begun _ f h r; products = refl }
+
+module _ {k : ℤ} {f h r g : List ℤ} {i : ℕ} (s : Scaling k f h r g i) (kf : Kept f) (kh : Kept h) (lr : length r ≡ 13) where
+  product-at : i < 13 → getD (map (λ z. k *ℤ z) h) i (pos 0) ≡ k *ℤ getD h i (pos 0)
+  product-at p = let l = kh .long in map-at (λ z. k *ℤ z) h i (pos 0) (omega arith)
+
+  products-long : length (map (λ z. k *ℤ z) h) ≡ 13
+  products-long = length-map h (λ z. k *ℤ z) ∙ kh .long
+
+  pub scaling-again : i < 13 → (inRange (k *ℤ getD h i (pos 0)) && inRange (getD f i (pos 0) +ℤ k *ℤ getD h i (pos 0))) ≡ true → Scaling k f h r (set g i (getD f i (pos 0) +ℤ k *ℤ getD h i (pos 0))) (i + 1)
+  scaling-again p e =
+      let y = both _ _ e in
+      let l = products-long in
+      record {
+        sums = again (s .sums) kf kh lr p refl (y .1);
+        products = s .products ∙ rw add-one (rest-good ranges (map (λ z. k *ℤ z) h) i (omega arith) (ap inRange (product-at p) ∙ y .0));
+      }
+
+  pub scaling-stopped : i < 13 → (inRange (k *ℤ getD h i (pos 0)) && inRange (getD f i (pos 0) +ℤ k *ℤ getD h i (pos 0))) ≡ false → outOfRange ≡ (multipleOf k (asForm h) thenBuild sumOf (asForm f))
+  scaling-stopped p e =
+      let l = products-long in
+      let bad =
+      both-no _ _ (allInRange (map (λ z. k *ℤ z) h)) (allInRange (zipped (λ x y. x +ℤ k *ℤ y) f h)) e
+      (λ q. s .products ∙ rest-bad ranges (map (λ z. k *ℤ z) h) i (omega arith) (ap inRange (product-at p) ∙ q))
+      (λ q. stopped (s .sums) kf kh lr p refl q) in
+      sym (ap (λ (t : Bool). builtOf t (zipped (λ x y. x +ℤ k *ℤ y) f h)) bad) ∙ both-flat k f h kf kh
+
+  pub scaling-ended : 13 ≤ i → (built (asForm g) ≡ (multipleOf k (asForm h) thenBuild sumOf (asForm f))) × Kept g
+  scaling-ended p =
+      let l = products-long in
+      let e = L.ended (s .sums) kf kh lr p in
+      let all = s .products ∙ rest-none ranges (map (λ z. k *ℤ z) h) i (omega arith) in
+      ((λ j. builtOf (sym (λ i. all i && e .1 i) j) (e .0 j)) ∙ both-flat k f h kf kh, ended-kept (s .sums) kf kh lr p)
+
 -- ---- the showing, a loop at a time
 
 pub fewer : {l : List (List ℤ)} {m n : ℕ} → Rows l n → m ≤ n → Rows l m
@@ -91,8 +140,21 @@ unfolding loopsOf
 length-loops zero l h = refl
 length-loops (suc n) l h = ap suc (length-loops n l h)
 
+-- no more loop variables are gone through than there are
+pub gone-few : (m n : ℕ) (l h : List (List ℤ)) (e : Built) {k : ℕ} → k ≡ goneThrough m (loopsOf n l h) e → k ≤ n
+gone-few m n l h e p = omega (arith, gone-most m (loopsOf n l h) e, length-loops n l h)
+
+-- and no more trials are made
+pub trials-few : (m n : ℕ) (l h : List (List ℤ)) (e : Built) {k : ℕ} → k ≡ trialsMade m (loopsOf n l h) e → k ≤ n
+trials-few m n l h e p = omega (arith, trials-most m (loopsOf n l h) e, length-loops n l h)
+
+-- what the plain rule shows is shown
+pub plain-shows : (m : ℕ) (ls : List Loop) (e : Built) → plainly m ls e ≡ shown → shown ≡ showing m ls e
+unfolding showing orTried
+plain-shows m ls e q = ap (λ (x : Showing). orTried x (byTrial m ls ls e)) (sym q)
+
 pub show-outside : (m : ℕ) (ls : List Loop) → showing m ls outOfRange ≡ beyondRange
-unfolding showing _thenBuild_ showingOf
+unfolding showing orTried plainly _thenBuild_ showingOf
 show-outside m ls = refl
 
 -- the next loop is passed over where its variable's coefficient is 0, and else it is the first that remains
@@ -142,12 +204,19 @@ unfolding after
 after-is zero s = ap (λ (i : ℕ). ending (s .form) i) (let e : s .through ≡ 0 + s .through = omega arith in e)
 after-is (suc k) s = ap oneMore (after-is k s) ∙ ap (λ (i : ℕ). ending (s .form) i) (let e : suc (k + s .through) ≡ suc k + s .through = omega arith in e)
 
--- what a scan's end tells of the showing
-pub told : (m : ℕ) (ls : List Loop) (f : Form) (s : Scan) → scan m ls f ≡ s → (showingOf (s .form) ≡ showing m ls (built f)) × (s .through ≡ goneThrough m ls (built f))
+-- what a scan's end tells of the showing by the plain rule
+pub told : (m : ℕ) (ls : List Loop) (f : Form) (s : Scan) → scan m ls f ≡ s → (showingOf (s .form) ≡ plainly m ls (built f)) × (s .through ≡ goneThrough m ls (built f))
 unfolding settling
 told m ls f s e =
     let a = agree-law m ls (built f) in
     (ap (λ (t : Scan). showingOf (t .form)) (sym e) ∙ ap (λ (t : Settling). t .answer) a, ap (λ (t : Scan). t .through) (sym e) ∙ ap (λ (t : Settling). t .through) a)
+
+-- and of the showing from which another scan goes on, after k loop variables
+pub told-after : (m : ℕ) (ls ls′ : List Loop) (f g : Form) (k : ℕ) → scan m ls f ≡ after k (scan m ls′ g) → (plainly m ls′ (built g) ≡ plainly m ls (built f)) × (k + goneThrough m ls′ (built g) ≡ goneThrough m ls (built f))
+told-after m ls ls′ f g k e =
+    let t = told m ls′ g (scan m ls′ g) refl in
+    let s = told m ls f _ (e ∙ after-is k (scan m ls′ g)) in
+    (sym (t .0) ∙ s .0, ap (λ (i : ℕ). k + i) (sym (t .1)) ∙ s .1)
 
 pub none-after : (loops : ℕ) (s : Scan) → s ≡ after (loops - loops) s
 unfolding after
@@ -203,6 +272,62 @@ module _ (m loops n : ℕ) (l h : List (List ℤ)) (f₀ f : Form) (le : n ≤ l
       ∙ ap (after (loops - n)) (next-law m (loopsOf n l h) f n p ∙ ap (λ (ls : List Loop). onward m n ls f) r)
       ∙ after-is (loops - n) (ended f)
       ∙ ap (λ (i : ℕ). ending (built f) i) w
+
+-- ---- the trials, from the innermost loop out
+
+-- the trial for one loop, where e − (high − low) is built, and where it is not
+module _ (m : ℕ) (ls : List Loop) (l : Loop) (f : Form) where
+  pub trial-made : {g : Form} {x : Showing} → built g ≡ lessRange l f → x ≡ plainly m ls (built g) → isShown x ≡ trial m ls l (built f)
+  unfolding trial _thenBuild_
+  trial-made e q = ap isShown (q ∙ ap (plainly m ls) e)
+
+  pub trial-out : outOfRange ≡ lessRange l f → false ≡ trial m ls l (built f)
+  unfolding trial plainly isShown showingOf _thenBuild_
+  trial-out e = ap (λ (b : Built). isShown (plainly m ls b)) e
+
+-- what holds after so many trials, none of which shows e
+pub record Tried (m : ℕ) (ls : List Loop) (l h : List (List ℤ)) (e : Built) (loops made : ℕ) : Type 0 where
+  pub bound : made ≤ loops
+  pub answer : byTrial m ls (loopsOf loops l h) e ≡ byTrial m ls (loopsOf (loops - made) l h) e
+  pub count : trialsFor m ls (loopsOf loops l h) e ≡ made + trialsFor m ls (loopsOf (loops - made) l h) e
+
+module _ (m : ℕ) (ls : List Loop) (l h : List (List ℤ)) (e : Built) where
+  -- the trial for the innermost loop of those that are left, and those outside it
+  innermost : (j : ℕ) (b : Bool) → trial m ls (loopAt j l h) e ≡ b → (byTrial m ls (loopsOf (suc j) l h) e ≡ (b || byTrial m ls (loopsOf j l h) e)) × (trialsFor m ls (loopsOf (suc j) l h) e ≡ suc (cond b 0 (trialsFor m ls (loopsOf j l h) e)))
+  unfolding byTrial trialsFor loopsOf
+  innermost j b t = (ap (λ (x : Bool). x || byTrial m ls (loopsOf j l h) e) t, ap (λ (x : Bool). suc (cond x 0 (trialsFor m ls (loopsOf j l h) e))) t)
+
+  none-left : (byTrial m ls (loopsOf 0 l h) e ≡ false) × (trialsFor m ls (loopsOf 0 l h) e ≡ 0)
+  unfolding byTrial trialsFor loopsOf
+  none-left = (refl, refl)
+
+  pub tried-begun : (loops : ℕ) → Tried m ls l h e loops 0
+  tried-begun loops = record { bound = omega arith; answer = ap (λ (n : ℕ). byTrial m ls (loopsOf n l h) e) d; count = ap (λ (n : ℕ). trialsFor m ls (loopsOf n l h) e) d ∙ (let w : trialsFor m ls (loopsOf (loops - 0) l h) e ≡ 0 + trialsFor m ls (loopsOf (loops - 0) l h) e = omega arith in w) }
+    where
+      d : loops ≡ loops - 0
+      d = omega arith
+
+  module _ {loops made : ℕ} (t : Tried m ls l h e loops made) where
+    module _ (p : made < loops) where
+      left-is : loops - made ≡ suc (loops - (made + 1))
+      left-is = omega arith
+
+      next : (b : Bool) → trial m ls (loopAt (loops - (made + 1)) l h) e ≡ b → (byTrial m ls (loopsOf loops l h) e ≡ (b || byTrial m ls (loopsOf (loops - (made + 1)) l h) e)) × (trialsFor m ls (loopsOf loops l h) e ≡ made + suc (cond b 0 (trialsFor m ls (loopsOf (loops - (made + 1)) l h) e)))
+      next b q =
+          let i = innermost (loops - (made + 1)) b q in
+          (t .answer ∙ ap (λ (n : ℕ). byTrial m ls (loopsOf n l h) e) left-is ∙ i .0, t .count ∙ ap (λ (n : ℕ). made + trialsFor m ls (loopsOf n l h) e) left-is ∙ ap (λ (n : ℕ). made + n) (i .1))
+
+      pub tried-hit : trial m ls (loopAt (loops - (made + 1)) l h) e ≡ true → (true ≡ byTrial m ls (loopsOf loops l h) e) × (made + 1 ≡ trialsFor m ls (loopsOf loops l h) e)
+      tried-hit q = let n = next true q in (sym (n .0), sym (n .1))
+
+      pub tried-miss : trial m ls (loopAt (loops - (made + 1)) l h) e ≡ false → Tried m ls l h e loops (made + 1)
+      tried-miss q = let n = next false q in record { bound = omega arith; answer = n .0; count = n .1 ∙ (let w : made + suc (trialsFor m ls (loopsOf (loops - (made + 1)) l h) e) ≡ made + 1 + trialsFor m ls (loopsOf (loops - (made + 1)) l h) e = omega arith in w) }
+
+    pub tried-out : loops ≤ made → (false ≡ byTrial m ls (loopsOf loops l h) e) × (made ≡ trialsFor m ls (loopsOf loops l h) e)
+    tried-out p =
+        let d : loops - made ≡ 0 = omega (arith, t .bound) in
+        let w : made + 0 ≡ made = omega arith in
+        (sym (t .answer ∙ ap (λ (n : ℕ). byTrial m ls (loopsOf n l h) e) d ∙ none-left .0), sym (t .count ∙ ap (λ (n : ℕ). made + trialsFor m ls (loopsOf n l h) e) d ∙ ap (λ (n : ℕ). made + n) (none-left .1) ∙ w))
 
 -- ---- forms that are set
 

@@ -125,56 +125,51 @@ zero-no {z = negsuc n} h = refl
 
 -- ---- a loop that puts `op` of two lists' entries in place of the first, and stops at one out of range
 
--- what holds of f, the list f₀ after i turns
-pub record Passed (op : ℤ → ℤ → ℤ) (f₀ g f : List ℤ) (i : ℕ) : Type 0 where
+-- what holds of f after i turns: its first i numbers come of f₀ and g, and the others stand as they stood in r
+pub record Passed (op : ℤ → ℤ → ℤ) (f₀ g r f : List ℤ) (i : ℕ) : Type 0 where
   pub bound : i ≤ 13
-  pub shape : f ≡ front i (zipped op f₀ g) f₀
+  pub shape : f ≡ front i (zipped op f₀ g) r
   pub answer : allInRange (zipped op f₀ g) ≡ allInRange (drop i (zipped op f₀ g))
 
-pub begun : (op : ℤ → ℤ → ℤ) (f g : List ℤ) → Passed op f g f 0
-begun op f g = record { bound = omega arith; shape = refl; answer = refl }
+pub begun : (op : ℤ → ℤ → ℤ) (f g r : List ℤ) → Passed op f g r r 0
+begun op f g r = record { bound = omega arith; shape = refl; answer = refl }
 
-module _ {op : ℤ → ℤ → ℤ} {f₀ g f : List ℤ} {i : ℕ} (p : Passed op f₀ g f i) (kf : Kept f₀) (kg : Kept g) where
+module _ {op : ℤ → ℤ → ℤ} {f₀ g r f : List ℤ} {i : ℕ} (p : Passed op f₀ g r f i) (kf : Kept f₀) (kg : Kept g) where
   new-long : length (zipped op f₀ g) ≡ 13
   new-long = length-zipped op f₀ g (kf .long ∙ sym (kg .long)) ∙ kf .long
 
-  -- what is read there is what came in
-  pub first-in : i < 13 → (getD f i (pos 0) ≡ getD f₀ i (pos 0)) × (inRange (getD f i (pos 0)) ≡ true)
-  first-in h =
+  -- what is read there is what stood there
+  pub stands : i < 13 → getD f i (pos 0) ≡ getD r i (pos 0)
+  stands h =
       let l = new-long in
-      let e = ap (λ (l : List ℤ). getD l i (pos 0)) (p .shape) ∙ front-read i (zipped op f₀ g) f₀ (pos 0) (omega arith) in
-      (e, ap inRange e ∙ each-at ranges f₀ i (let k = kf .long in omega arith) (kf .inside))
+      ap (λ (l : List ℤ). getD l i (pos 0)) (p .shape) ∙ front-read i (zipped op f₀ g) r (pos 0) (omega arith)
 
-  pub second-in : i < 13 → inRange (getD g i (pos 0)) ≡ true
-  second-in h = let l = kg .long in each-at ranges g i (omega arith) (kg .inside)
+  module _ (k : length r ≡ 13) where
+    module _ (h : i < 13) {z : ℤ} (e : z ≡ op (getD f₀ i (pos 0)) (getD g i (pos 0))) where
+      new-at : z ≡ getD (zipped op f₀ g) i (pos 0)
+      new-at = let l = kf .long in let m = kg .long in e ∙ sym (zipped-at op f₀ g i (pos 0) (omega arith) (omega arith))
 
-  module _ (h : i < 13) {z : ℤ} (e : z ≡ op (getD f₀ i (pos 0)) (getD g i (pos 0))) where
-    new-at : z ≡ getD (zipped op f₀ g) i (pos 0)
-    new-at = let l = kf .long in let k = kg .long in e ∙ sym (zipped-at op f₀ g i (pos 0) (omega arith) (omega arith))
+      pub again : inRange z ≡ true → Passed op f₀ g r (set f i z) (i + 1)
+      again q =
+          let l = new-long in
+          rw add-one (record {
+            bound = omega arith;
+            shape = rw (p .shape, new-at) (front-put i (zipped op f₀ g) r (pos 0) (omega arith) (k ∙ sym l));
+            answer = p .answer ∙ rest-good ranges (zipped op f₀ g) i (omega arith) (ap inRange (sym new-at) ∙ q);
+          })
 
-    pub again : inRange z ≡ true → Passed op f₀ g (set f i z) (i + 1)
-    again q =
+      pub stopped : inRange z ≡ false → allInRange (zipped op f₀ g) ≡ false
+      stopped q = let l = new-long in p .answer ∙ rest-bad ranges (zipped op f₀ g) i (omega arith) (ap inRange (sym new-at) ∙ q)
+
+    pub ended : 13 ≤ i → (f ≡ zipped op f₀ g) × (allInRange (zipped op f₀ g) ≡ true)
+    ended h =
         let l = new-long in
-        let k = kf .long in
-        rw add-one (record {
-          bound = omega arith;
-          shape = rw (p .shape, new-at) (front-put i (zipped op f₀ g) f₀ (pos 0) (omega arith) (k ∙ sym l));
-          answer = p .answer ∙ rest-good ranges (zipped op f₀ g) i (omega arith) (ap inRange (sym new-at) ∙ q);
-        })
+        let b = p .bound in
+        let e : i ≡ 13 = omega arith in
+        (p .shape ∙ front-all i (zipped op f₀ g) r (l ∙ sym e) (k ∙ sym e), p .answer ∙ rest-none ranges (zipped op f₀ g) i (omega arith))
 
-    pub stopped : inRange z ≡ false → allInRange (zipped op f₀ g) ≡ false
-    stopped q = let l = new-long in p .answer ∙ rest-bad ranges (zipped op f₀ g) i (omega arith) (ap inRange (sym new-at) ∙ q)
-
-  pub ended : 13 ≤ i → (f ≡ zipped op f₀ g) × (allInRange (zipped op f₀ g) ≡ true)
-  ended h =
-      let l = new-long in
-      let k = kf .long in
-      let b = p .bound in
-      let e : i ≡ 13 = omega arith in
-      (p .shape ∙ front-all i (zipped op f₀ g) f₀ (l ∙ sym e) (k ∙ sym e), p .answer ∙ rest-none ranges (zipped op f₀ g) i (omega arith))
-
-  pub ended-kept : 13 ≤ i → Kept f
-  ended-kept h = record { long = ap length (ended h .0) ∙ new-long; inside = ap allInRange (ended h .0) ∙ ended h .1 }
+    pub ended-kept : 13 ≤ i → Kept f
+    ended-kept h = record { long = ap length (ended h .0) ∙ new-long; inside = ap allInRange (ended h .0) ∙ ended h .1 }
 
 -- ---- the definitions, of lists
 

@@ -3,10 +3,11 @@ ghost use mathlib.Core.Path.{_≡_};
 ghost use mathlib.Core.Bool.{true, false, _&&_};
 ghost use mathlib.Core.List.{List};
 ghost use Prim.Native.Nat.{_+_, _≤_, _<_};
-ghost use lib.ListN.{getD, set, drop, replicate};
+ghost use lib.ListN.{length, getD, set, drop, replicate};
 ghost use lib.IntN.{ℤ, pos, _+ℤ_, _*ℤ_};
-ghost use Rattle.language.specs.Form.{built, inRange, constantForm, variableForm, sumOf, differenceOf, multipleOf, _thenBuild_, allZero, closed, showingOf, showing, putIn};
+ghost use Rattle.language.specs.Form.{built, inRange, constantForm, variableForm, sumOf, differenceOf, multipleOf, _thenBuild_, allZero, closed, showingOf, plainly, lessRange, trial, byTrial, showing, putIn};
 ghost use Rattle.language.specs.Settled.{goneThrough, remaining};
+ghost use Rattle.language.specs.Trials.{trialsFor, trialsMade};
 ghost use Rattle.language.specs.Tree.{Place, product};
 ghost use Rattle.language.specs.Limits.{mostVariables, mostLoops, allVariables};
 ghost use Rattle.language.specs.Check.{combined};
@@ -37,10 +38,23 @@ pub enum Verdict {
     OutOfRange,
 }
 
-// What trying to show a form gives, and how many loop variables were gone through.
+// What the plain rule gives for a form, and how many loop variables were gone through.
 pub struct Settling {
     pub verdict: Verdict,
     pub through: usize,
+}
+
+// Whether a trial shows a form, and how many trials were made.
+pub struct Trials {
+    pub shown: bool,
+    pub made: usize,
+}
+
+// What trying to show a form gives, how many loop variables the plain rule went through, and how many trials were made after it.
+pub struct Shown {
+    pub verdict: Verdict,
+    pub through: usize,
+    pub trials: usize,
 }
 
 // What multiplying two forms gives: the product, a number out of range, or that both have variables.
@@ -57,6 +71,27 @@ pub fn in_range(z: i64) -> bool
     LOWEST <= z && z <= FURTHEST
 }
 
+// f's number i becomes x plus k times y; false where the product or the sum is out of range.
+fn put_sum(f: &mut Form, i: usize, x: i64, k: i64, y: i64) -> bool
+    requires { ⌜ i < formNumbers ⌝ }
+    requires { ⌜ inRange x ≡ true ⌝ }
+    requires { ⌜ inRange k ≡ true ⌝ }
+    requires { ⌜ inRange y ≡ true ⌝ }
+    ensures { λ r. ⌜ r ≡ (inRange (k *ℤ y) && inRange (x +ℤ k *ℤ y)) ⌝ }
+    ensures { λ r. ⌜ (r ≡ true → now (f .exit) ≡ set (now (f .entry)) i (x +ℤ k *ℤ y)) ⌝ }
+{
+    let p = k * y;
+    if in_range(p) {} else {
+        return false;
+    }
+    let z = x + p;
+    if in_range(z) {
+        f[i] = z;
+        return true;
+    }
+    false
+}
+
 // f's number i becomes itself plus k times y; false where the product or the sum is out of range.
 fn add_number(f: &mut Form, i: usize, k: i64, y: i64) -> bool
     requires { ⌜ i < formNumbers ⌝ }
@@ -69,16 +104,8 @@ fn add_number(f: &mut Form, i: usize, k: i64, y: i64) -> bool
     if y == 0 {
         return true;
     }
-    let p = k * y;
-    if in_range(p) {} else {
-        return false;
-    }
-    let z = f[i] + p;
-    if in_range(z) {
-        f[i] = z;
-        return true;
-    }
-    false
+    let x = f[i];
+    put_sum(f, i, x, k, y)
 }
 
 // f becomes f plus k times g; false where a number is out of range, and what f holds then is of no use.
@@ -239,12 +266,82 @@ pub fn substitute(f: &mut Form, v: usize, lows: &[Form], highs: &[Form], n: usiz
     add_scaled(f, k, &lows[n])
 }
 
+// The number i of f, or 0 in the place of the number `at`.
+fn number_but(f: &Form, at: usize, i: usize) -> i64
+    requires { ⌜ Kept (now f) ⌝ }
+    requires { ⌜ at < formNumbers ⌝ }
+    requires { ⌜ i < formNumbers ⌝ }
+    ensures { λ r. ⌜ r ≡ getD (set (now (f .entry)) at (pos 0)) i (pos 0) ⌝ }
+{
+    if i == at {
+        return 0;
+    }
+    f[i]
+}
+
+// g's number i becomes x plus k times y, where y is mostly 0; false where the product or the sum is out of range.
+fn put_number(g: &mut Form, i: usize, x: i64, k: i64, y: i64) -> bool
+    requires { ⌜ i < formNumbers ⌝ }
+    requires { ⌜ inRange x ≡ true ⌝ }
+    requires { ⌜ inRange k ≡ true ⌝ }
+    requires { ⌜ inRange y ≡ true ⌝ }
+    ensures { λ r. ⌜ r ≡ (inRange (k *ℤ y) && inRange (x +ℤ k *ℤ y)) ⌝ }
+    ensures { λ r. ⌜ (r ≡ true → now (g .exit) ≡ set (now (g .entry)) i (x +ℤ k *ℤ y)) ⌝ }
+{
+    if y == 0 {
+        g[i] = x;
+        return true;
+    }
+    put_sum(g, i, x, k, y)
+}
+
+// g becomes f, with 0 in the place of the number `at`, plus k times h; false where a number is out of range.
+fn sum_but(g: &mut Form, f: &Form, at: usize, k: i64, h: &Form) -> bool
+    requires { ⌜ length (now g) ≡ formNumbers ⌝ }
+    requires { ⌜ Kept (now f) ⌝ }
+    requires { ⌜ at < formNumbers ⌝ }
+    requires { ⌜ inRange k ≡ true ⌝ }
+    requires { ⌜ Kept (now h) ⌝ }
+    ensures { λ r. ⌜ builtOf r (now (g .exit)) ≡ (multipleOf k (asForm (now (h .entry))) thenBuild sumOf (asForm (set (now (f .entry)) at (pos 0)))) ⌝ }
+    ensures { λ r. ⌜ (r ≡ true → Kept (now (g .exit))) ⌝ }
+{
+    for i in 0..FORM_NUMBERS {
+        let y = h[i];
+        let x = number_but(f, at, i);
+        if put_number(g, i, x, k, y) {} else {
+            return false;
+        }
+    }
+    true
+}
+
+// g becomes f with its term in the variable v, which it has, replaced by a bound of the loop n. f stays, and nothing of it is copied whole:
+// wide reads of numbers that were just written one by one are slow.
+fn replace_into(g: &mut Form, f: &Form, v: usize, lows: &[Form], highs: &[Form], n: usize) -> bool
+    requires { ⌜ length (now g) ≡ formNumbers ⌝ }
+    requires { ⌜ Kept (now f) ⌝ }
+    requires { ⌜ v < allVariables ⌝ }
+    requires { ⌜ (getD (now f) (v + 1) (pos 0) ≡ pos 0 → ⊥) ⌝ }
+    requires { ⌜ Rows (now lows) (n + 1) ⌝ }
+    requires { ⌜ Rows (now highs) (n + 1) ⌝ }
+    ensures { λ r. ⌜ builtOf r (now (g .exit)) ≡ closed v (loopAt n (now (lows .entry)) (now (highs .entry))) (asForm (now (f .entry))) (getD (asForm (now (f .entry)) .coefficients) v (pos 0)) ⌝ }
+    ensures { λ r. ⌜ (r ≡ true → Kept (now (g .exit))) ⌝ }
+{
+    let at = v + 1;
+    let k = f[at];
+    if k < 0 {
+        return sum_but(g, f, at, k, &highs[n]);
+    }
+    sum_but(g, f, at, k, &lows[n])
+}
+
 // How many of the loops there are up to the highest whose variable has a coefficient other than 0.
 fn left(f: &Form, variables: usize, loops: usize) -> usize
     requires { ⌜ Kept (now f) ⌝ }
     requires { ⌜ variables + loops ≤ allVariables ⌝ }
     ensures { λ r. ⌜ ((lows highs : List (List ℤ)) → remaining variables (loopsOf loops lows highs) (asForm (now (f .entry))) ≡ loopsOf r lows highs) ⌝ }
     ensures { λ r. ⌜ r ≤ loops ⌝ }
+    ensures { λ r. ⌜ (0 < r → getD (now (f .entry)) (variables + r) (pos 0) ≡ pos 0 → ⊥) ⌝ }
 {
     let mut n = loops;
     while 0 < n {
@@ -257,39 +354,34 @@ fn left(f: &Form, variables: usize, loops: usize) -> usize
     n
 }
 
-// What is shown of f once no loop variable is left, and so many were gone through.
-fn settling_of(f: &Form, through: usize) -> Settling
-    requires { ⌜ Kept (now f) ⌝ }
-    ensures { λ r. ⌜ shownOf (r .verdict) ≡ showingOf (built (asForm (now (f .entry)))) ⌝ }
-    ensures { λ r. ⌜ r .through ≡ through ⌝ }
+// What is shown of a form all of whose numbers are 0 or more, and of another.
+fn verdict_of(natural: bool) -> Verdict
+    ensures { λ r. ⌜ shownOf r ≡ showingBy natural ⌝ }
 {
-    if none_negative(f) {
-        return Settling {
-            verdict: Verdict::Shown,
-            through,
-        };
+    if natural {
+        return Verdict::Shown;
     }
-    Settling {
-        verdict: Verdict::NotShown,
-        through,
-    }
+    Verdict::NotShown
 }
 
-// Shows f to be 0 or more, under so many family variables and open loops. What f holds afterwards is of no use.
+// Shows f to be 0 or more by the plain rule, under so many family variables and open loops. What f holds afterwards is of no use.
 // It goes from one variable whose coefficient is not 0 to the next below it, so it looks at each coefficient once.
-pub fn show(f: &mut Form, variables: usize, loops: usize, lows: &[Form], highs: &[Form]) -> Settling
+fn scan(f: &mut Form, variables: usize, loops: usize, lows: &[Form], highs: &[Form]) -> Settling
     requires { ⌜ Kept (now f) ⌝ }
     requires { ⌜ variables + loops ≤ allVariables ⌝ }
     requires { ⌜ Rows (now lows) loops ⌝ }
     requires { ⌜ Rows (now highs) loops ⌝ }
-    ensures { λ r. ⌜ shownOf (r .verdict) ≡ showing variables (loopsOf loops (now (lows .entry)) (now (highs .entry))) (built (asForm (now (f .entry)))) ⌝ }
+    ensures { λ r. ⌜ shownOf (r .verdict) ≡ plainly variables (loopsOf loops (now (lows .entry)) (now (highs .entry))) (built (asForm (now (f .entry)))) ⌝ }
     ensures { λ r. ⌜ r .through ≡ goneThrough variables (loopsOf loops (now (lows .entry)) (now (highs .entry))) (built (asForm (now (f .entry)))) ⌝ }
 {
     let mut n = loops;
     loop {
         let next = left(f, variables, n);
         if next == 0 {
-            return settling_of(f, loops - n);
+            return Settling {
+                verdict: verdict_of(none_negative(f)),
+                through: loops - n,
+            };
         }
         n = next - 1;
         let through = loops - n;
@@ -299,6 +391,137 @@ pub fn show(f: &mut Form, variables: usize, loops: usize, lows: &[Form], highs: 
                 through,
             };
         }
+    }
+}
+
+// Shows f to be 0 or more by the plain rule, under so many family variables and open loops.
+pub fn show_plainly(
+    f: &Form,
+    variables: usize,
+    loops: usize,
+    lows: &[Form],
+    highs: &[Form],
+) -> Settling
+    requires { ⌜ Kept (now f) ⌝ }
+    requires { ⌜ variables + loops ≤ allVariables ⌝ }
+    requires { ⌜ Rows (now lows) loops ⌝ }
+    requires { ⌜ Rows (now highs) loops ⌝ }
+    ensures { λ r. ⌜ shownOf (r .verdict) ≡ plainly variables (loopsOf loops (now (lows .entry)) (now (highs .entry))) (built (asForm (now (f .entry)))) ⌝ }
+    ensures { λ r. ⌜ r .through ≡ goneThrough variables (loopsOf loops (now (lows .entry)) (now (highs .entry))) (built (asForm (now (f .entry)))) ⌝ }
+{
+    let next = left(f, variables, loops);
+    if next == 0 {
+        return Settling {
+            verdict: verdict_of(none_negative(f)),
+            through: 0,
+        };
+    }
+    let n = next - 1;
+    let passed = loops - n;
+    let mut g = [0i64; FORM_NUMBERS];
+    if replace_into(&mut g, f, variables + n, lows, highs, n) {
+        let s = scan(&mut g, variables, n, lows, highs);
+        let verdict = s.verdict;
+        return Settling {
+            verdict,
+            through: passed + s.through,
+        };
+    }
+    Settling {
+        verdict: Verdict::OutOfRange,
+        through: passed,
+    }
+}
+
+// f becomes f − (high − low) of the loop n, high − low being built first; false where a number is out of range.
+fn less_range(f: &mut Form, lows: &[Form], highs: &[Form], n: usize) -> bool
+    requires { ⌜ Kept (now f) ⌝ }
+    requires { ⌜ Rows (now lows) (n + 1) ⌝ }
+    requires { ⌜ Rows (now highs) (n + 1) ⌝ }
+    ensures { λ r. ⌜ builtOf r (now (f .exit)) ≡ lessRange (loopAt n (now (lows .entry)) (now (highs .entry))) (asForm (now (f .entry))) ⌝ }
+    ensures { λ r. ⌜ (r ≡ true → Kept (now (f .exit))) ⌝ }
+{
+    let mut range = highs[n];
+    if subtract(&mut range, &lows[n]) {
+        return subtract(f, &range);
+    }
+    false
+}
+
+// Whether the trial for the loop n shows f to be 0 or more.
+fn try_loop(
+    f: &Form,
+    variables: usize,
+    loops: usize,
+    lows: &[Form],
+    highs: &[Form],
+    n: usize,
+) -> bool
+    requires { ⌜ Kept (now f) ⌝ }
+    requires { ⌜ variables + loops ≤ allVariables ⌝ }
+    requires { ⌜ Rows (now lows) loops ⌝ }
+    requires { ⌜ Rows (now highs) loops ⌝ }
+    requires { ⌜ n < loops ⌝ }
+    ensures { λ r. ⌜ r ≡ trial variables (loopsOf loops (now (lows .entry)) (now (highs .entry))) (loopAt n (now (lows .entry)) (now (highs .entry))) (built (asForm (now (f .entry)))) ⌝ }
+{
+    let mut g = *f;
+    if less_range(&mut g, lows, highs, n) {
+        let s = show_plainly(&g, variables, loops, lows, highs);
+        let verdict = s.verdict;
+        return match verdict {
+            Verdict::Shown => true,
+            _ => false,
+        };
+    }
+    false
+}
+
+// The trials for f, from the innermost loop out, up to the first that shows it.
+fn try_loops(f: &Form, variables: usize, loops: usize, lows: &[Form], highs: &[Form]) -> Trials
+    requires { ⌜ Kept (now f) ⌝ }
+    requires { ⌜ variables + loops ≤ allVariables ⌝ }
+    requires { ⌜ Rows (now lows) loops ⌝ }
+    requires { ⌜ Rows (now highs) loops ⌝ }
+    ensures { λ r. ⌜ r .shown ≡ byTrial variables (loopsOf loops (now (lows .entry)) (now (highs .entry))) (loopsOf loops (now (lows .entry)) (now (highs .entry))) (built (asForm (now (f .entry)))) ⌝ }
+    ensures { λ r. ⌜ r .made ≡ trialsFor variables (loopsOf loops (now (lows .entry)) (now (highs .entry))) (loopsOf loops (now (lows .entry)) (now (highs .entry))) (built (asForm (now (f .entry)))) ⌝ }
+{
+    let mut made: usize = 0;
+    while made < loops {
+        made += 1;
+        if try_loop(f, variables, loops, lows, highs, loops - made) {
+            return Trials { shown: true, made };
+        }
+    }
+    Trials { shown: false, made }
+}
+
+// Shows f to be 0 or more, under so many family variables and open loops: by the plain rule, and only where that does not show it by a trial.
+pub fn show(f: &Form, variables: usize, loops: usize, lows: &[Form], highs: &[Form]) -> Shown
+    requires { ⌜ Kept (now f) ⌝ }
+    requires { ⌜ variables + loops ≤ allVariables ⌝ }
+    requires { ⌜ Rows (now lows) loops ⌝ }
+    requires { ⌜ Rows (now highs) loops ⌝ }
+    ensures { λ r. ⌜ shownOf (r .verdict) ≡ showing variables (loopsOf loops (now (lows .entry)) (now (highs .entry))) (built (asForm (now (f .entry)))) ⌝ }
+    ensures { λ r. ⌜ r .through ≡ goneThrough variables (loopsOf loops (now (lows .entry)) (now (highs .entry))) (built (asForm (now (f .entry)))) ⌝ }
+    ensures { λ r. ⌜ r .trials ≡ trialsMade variables (loopsOf loops (now (lows .entry)) (now (highs .entry))) (built (asForm (now (f .entry)))) ⌝ }
+{
+    let s = show_plainly(f, variables, loops, lows, highs);
+    let through = s.through;
+    let verdict = s.verdict;
+    match verdict {
+        Verdict::NotShown => {
+            let t = try_loops(f, variables, loops, lows, highs);
+            Shown {
+                verdict: verdict_of(t.shown),
+                through,
+                trials: t.made,
+            }
+        }
+        _ => Shown {
+            verdict,
+            through,
+            trials: 0,
+        },
     }
 }
 

@@ -1,4 +1,4 @@
--- The showing that ends as soon as its form is settled: the laws of specs/Settled. Assumes nothing.
+-- The plain rule's showing that ends as soon as its form is settled: the laws of specs/Settled. Assumes nothing.
 use mathlib.Core.Path.{_≡_, refl, sym, ap, ap₂, _∙_, subst}
 use mathlib.Core.List.{List, [], _∷_, map}
 use mathlib.Core.Bool.{Bool, true, false, cond, not, _&&_}
@@ -7,9 +7,8 @@ use native.Mathlib.Omega.{arith}
 use native.Mathlib.Decide.{decLe}
 use lib.IntN.{ℤ, pos, negsuc, _+ℤ_, _*ℤ_, *ℤ-zero}
 use lib.ListN.{getD, set, length, drop}
-use Rattle.language.specs.Form.{Form, Built, built, outOfRange, build, zipped, sumOf, multipleOf, _thenBuild_, isZero, Loop, without, closed, closedAll, showing}
-use Rattle.language.specs.Check as C
-use Rattle.language.specs.Settled.{coefficient, replaced, settled, Scan, ended, oneMore, thenScan, scan, Settling, settlingOf, settling, ifBuilt, replacements, noneTrue, toLast, goneThrough, AgreeLaw, PlaceLaw, Last, LastLaw, closedTo, SettledAfter, EndLaw, remaining, after, onward, NextLaw, Below, Scoped, none, inner, ScopeLaw}
+use Rattle.language.specs.Form.{Form, Built, built, outOfRange, build, zipped, sumOf, multipleOf, _thenBuild_, isZero, Loop, without, closed, closedAll, plainly}
+use Rattle.language.specs.Settled.{coefficient, replaced, settled, Scan, ended, oneMore, thenScan, scan, settlingOf, settling, ifBuilt, replacements, noneTrue, toLast, goneThrough, AgreeLaw, Last, LastLaw, closedTo, SettledAfter, EndLaw, remaining, after, onward, NextLaw, Below, Scoped, none, inner, ScopeLaw}
 use Rattle.language.proofs.Integers.{and-both}
 use Rattle.language.proofs.FormLaws.{then-built, build-is}
 
@@ -68,13 +67,9 @@ scan-plain m (l ∷ ls) f =
     go rest false e = plain-further m ls rest (replaced m l ls f)
 
 pub agree-law : AgreeLaw
-unfolding settling showing goneThrough _thenBuild_
+unfolding settling plainly goneThrough _thenBuild_
 agree-law m ls (built f) = ap settlingOf (scan-plain m ls f)
 agree-law m ls outOfRange = refl
-
-pub place-law : PlaceLaw
-unfolding C.mustShow
-place-law p s e = ap (λ (t : Settling). C.byShowing p (t .answer)) (agree-law (s .variables) (s .loops) e)
 
 -- ---- the number
 

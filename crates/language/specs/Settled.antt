@@ -1,4 +1,4 @@
--- The showing that ends as soon as its form is settled, and the number of loop variables that it goes through. Its laws are stated here; proofs/Settled and proofs/Scoped prove them.
+-- The plain rule's showing that ends as soon as its form is settled, and the number of loop variables that it goes through. Its laws are stated here; proofs/Settled and proofs/Scoped prove them.
 use mathlib.Core.Path.{_≡_}
 use mathlib.Core.Logic.{_↔_}
 use mathlib.Core.List.{List, [], _∷_}
@@ -6,9 +6,9 @@ use mathlib.Core.Bool.{Bool, true, false, cond, not, _&&_}
 use Prim.Native.Nat.{ℕ, zero, suc, _+_, _≤_, _<_}
 use lib.IntN.{ℤ, pos}
 use lib.ListN.{getD, length, drop}
-use Rattle.language.specs.Tree.{Place, Index}
-use Rattle.language.specs.Form.{Form, Built, built, outOfRange, _thenBuild_, isZero, Loop, closed, closedAll, Showing, showingOf, showing}
-use Rattle.language.specs.Check.{Scope, good, formOf, byShowing, mustShow, checkBounds, inLoop}
+use Rattle.language.specs.Tree.{Index}
+use Rattle.language.specs.Form.{Form, Built, built, outOfRange, _thenBuild_, isZero, Loop, closed, closedAll, Showing, showingOf, plainly}
+use Rattle.language.specs.Check.{Scope, good, formOf, checkBounds, inLoop}
 
 -- the coefficient of the variable v
 abbrev pub coefficient : ℕ → Form → ℤ
@@ -52,7 +52,7 @@ pub record Settling : Type 0 where
 abbrev pub settlingOf : Scan → Settling
 settlingOf s = record { answer = showingOf (s .form); through = s .through }
 
--- "Shown e ≥ 0", by the scan that ends early
+-- "Shown e ≥ 0" by the plain rule, by the scan that ends early
 unfoldable pub settling : (m : ℕ) → List Loop → Built → Settling
 settling m ls (built f) = settlingOf (scan m ls f)
 settling m ls outOfRange = settlingOf (record { form = outOfRange; through = 0 })
@@ -86,11 +86,7 @@ goneThrough m ls outOfRange = 0
 
 -- both scans agree: in the answer, a number out of range on the way included, and in the number of variables gone through
 abbrev pub AgreeLaw : Type 0
-AgreeLaw = (m : ℕ) (ls : List Loop) (e : Built) → settling m ls e ≡ record { answer = showing m ls e; through = goneThrough m ls e }
-
--- so what the check answers, by its number and place, is as before
-abbrev pub PlaceLaw : Type 0
-PlaceLaw = (p : Place) (s : Scope) (e : Built) → byShowing p (settling (s .variables) (s .loops) e .answer) ≡ mustShow p s e
+AgreeLaw = (m : ℕ) (ls : List Loop) (e : Built) → settling m ls e ≡ record { answer = plainly m ls e; through = goneThrough m ls e }
 
 -- k is the number from the first to the last that is true
 pub record Last (bs : List Bool) (k : ℕ) : Type 0 where

@@ -7,32 +7,32 @@ use lib.Dec.{eqb}
 use lib.IntN.{ℤ, pos, negℤ}
 use lib.ListN.{take}
 use Rattle.language.specs.Limits.{allVariables}
-use Rattle.language.specs.Form.{Form, Built, built, outOfRange, noVariables, Loop, Showing, shown, notShown, beyondRange, showing}
+use Rattle.language.specs.Form.{Form, Built, built, outOfRange, noVariables, Loop, Showing, shown, notShown, beyondRange, plainly}
 use Rattle.language.specs.Settled.{Settling, settling, goneThrough}
 use Rattle.language.specs.Computed.{forming, settlings}
 
 infix 40 _to_
 -- a constant, then the coefficients of n and of the loop variables 1, 2 and 3
-abbrev form : ℤ → ℤ → ℤ → ℤ → ℤ → Form
+abbrev pub form : ℤ → ℤ → ℤ → ℤ → ℤ → Form
 form k n a b c = record { constant = k; coefficients = take allVariables (n ∷ a ∷ b ∷ c ∷ noVariables) }
 
-abbrev number : ℕ → Form
+abbrev pub number : ℕ → Form
 number k = form (pos k) (pos 0) (pos 0) (pos 0) (pos 0)
 
 -- the family variable, and the loop variables
-abbrev n : Form
+abbrev pub n : Form
 n = form (pos 0) (pos 1) (pos 0) (pos 0) (pos 0)
 
-abbrev one : Form
+abbrev pub one : Form
 one = form (pos 0) (pos 0) (pos 1) (pos 0) (pos 0)
 
-abbrev two : Form
+abbrev pub two : Form
 two = form (pos 0) (pos 0) (pos 0) (pos 1) (pos 0)
 
-abbrev three : Form
+abbrev pub three : Form
 three = form (pos 0) (pos 0) (pos 0) (pos 0) (pos 1)
 
-abbrev _to_ : Form → Form → Loop
+abbrev pub _to_ : Form → Form → Loop
 f to g = record { low = f; high = g }
 
 -- loops stand innermost first
@@ -77,7 +77,7 @@ unfoldable pub allHold : List Example → Bool
 allHold [] = true
 allHold (e ∷ es) =
     sameSettling (settling 1 (e .loops) (e .shows)) (e .gives)
-    && sameSettling (record { answer = showing 1 (e .loops) (e .shows); through = goneThrough 1 (e .loops) (e .shows) }) (e .gives)
+    && sameSettling (record { answer = plainly 1 (e .loops) (e .shows); through = goneThrough 1 (e .loops) (e .shows) }) (e .gives)
     && allHold es
 
 abbrev example : List Loop → Built → Showing → ℕ → Example

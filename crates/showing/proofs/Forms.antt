@@ -9,12 +9,12 @@ use lib.Dec.{ltb}
 use lib.IntN.{ℤ}
 use lib.ListN.{length, getD}
 use Rattle.language.specs.Limits.{allVariables}
-use Rattle.language.specs.Form.{Built, built, allInRange, showing}
+use Rattle.language.specs.Form.{built, allInRange, showing}
 use Rattle.language.specs.Settled.{goneThrough}
-use Rattle.language.proofs.Settled.{gone-most}
+use Rattle.language.specs.Trials.{trialsMade}
 use Rattle.forms.specs.Flat.{Kept, asForm}
 use Rattle.forms.specs.Rows.{Rows, loopsOf}
-use Rattle.forms.proofs.Laws.{and-no, length-loops}
+use Rattle.forms.proofs.Laws.{and-no}
 use Rattle.showing.specs.Answers.{formsInRange, areForms, numberOf, noForms, answer}
 
 -- ---- forms one after another
@@ -51,11 +51,6 @@ one-more l i r h k = record { enough = omega arith; each = λ j p. by j p (ltb j
     by j p true f g = r .each j (f refl)
     by j p false f g = let q = g refl in let e : i ≡ j = omega arith in subst (λ (n : ℕ). Kept (getD l n [])) e k
 
--- ---- no more loop variables are gone through than there are
-
-pub gone-few : (m n : ℕ) (l h : List (List ℤ)) (e : Built) {k : ℕ} → k ≡ goneThrough m (loopsOf n l h) e → k ≤ n
-gone-few m n l h e p = omega (arith, gone-most m (loopsOf n l h) e, length-loops n l h)
-
 -- ---- the arguments, in the order in which they are tested
 
 module _ (v n : ℕ) (f : List ℤ) (l h : List (List ℤ)) where
@@ -76,10 +71,10 @@ module _ (v n : ℕ) (f : List ℤ) (l h : List (List ℤ)) where
     unfolding areForms
     up-to-high e g = rw (le-leb (v + n) allVariables few, e, g)
 
-  pub no-forms : areForms v n f l h ≡ false → answer v n f l h ≡ record { number = noForms; through = 0 }
+  pub no-forms : areForms v n f l h ≡ false → answer v n f l h ≡ record { number = noForms; through = 0; trials = 0 }
   unfolding answer
   no-forms e = rw e
 
-  pub forms-given : areForms v n f l h ≡ true → {a b : ℕ} → a ≡ numberOf (showing v (loopsOf n l h) (built (asForm f))) → b ≡ goneThrough v (loopsOf n l h) (built (asForm f)) → answer v n f l h ≡ record { number = a; through = b }
+  pub forms-given : areForms v n f l h ≡ true → {a b c : ℕ} → a ≡ numberOf (showing v (loopsOf n l h) (built (asForm f))) → b ≡ goneThrough v (loopsOf n l h) (built (asForm f)) → c ≡ trialsMade v (loopsOf n l h) (built (asForm f)) → answer v n f l h ≡ record { number = a; through = b; trials = c }
   unfolding answer
-  forms-given e p q = rw (e, p, q)
+  forms-given e p q r = rw (e, p, q, r)

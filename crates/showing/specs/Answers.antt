@@ -7,6 +7,7 @@ use lib.IntN.{ℤ}
 use Rattle.language.specs.Limits.{allVariables}
 use Rattle.language.specs.Form.{built, allInRange, Showing, shown, notShown, beyondRange, showing}
 use Rattle.language.specs.Settled.{goneThrough}
+use Rattle.language.specs.Trials.{trialsMade}
 use Rattle.forms.specs.Flat.{Kept, asForm}
 use Rattle.forms.specs.Rows.{Rows, loopsOf}
 use Rattle.showing.specs.declared.ShowingResult.{ShowingResult}
@@ -28,13 +29,14 @@ pub record AreForms (variables loops : ℕ) (f : List ℤ) (lows highs : List (L
   pub low : Rows lows loops
   pub high : Rows highs loops
 
--- What a showing answers: its number, and how many loop variables were gone through.
+-- What a showing answers: its number, how many loop variables the plain rule went through, and how many trials were made.
 pub record Answer : Type 0 where
   pub number : ℕ
   pub through : ℕ
+  pub trials : ℕ
 
 abbrev pub answered : ShowingResult → Answer
-answered r = record { number = r .number; through = r .through }
+answered r = record { number = r .number; through = r .through; trials = r .trials }
 
 unfoldable pub numberOf : Showing → ℕ
 numberOf shown = 0
@@ -45,11 +47,11 @@ numberOf beyondRange = 11
 abbrev pub noForms : ℕ
 noForms = 255
 
--- the number and the count of the showing, or that the arguments are no forms
+-- the number and the counts of the showing, or that the arguments are no forms
 unfoldable pub answer : (variables loops : ℕ) (f : List ℤ) (lows highs : List (List ℤ)) → Answer
 answer variables loops f lows highs =
     let e = built (asForm f) in
     let ls = loopsOf loops lows highs in
     cond (areForms variables loops f lows highs)
-    (record { number = numberOf (showing variables ls e); through = goneThrough variables ls e })
-    (record { number = noForms; through = 0 })
+    (record { number = numberOf (showing variables ls e); through = goneThrough variables ls e; trials = trialsMade variables ls e })
+    (record { number = noForms; through = 0; trials = 0 })

@@ -14,11 +14,12 @@ use limits::ALL_VARIABLES;
 // The number where the arguments are no forms, which is no number of a refusal.
 const NO_FORMS: u32 = 255;
 
-// The answer of a showing: its number, and how many loop variables were gone through.
+// The answer of a showing: its number, how many loop variables the plain rule went through, and how many trials were made.
 #[repr(C)]
 pub struct ShowingResult {
     pub number: u32,
     pub through: u32,
+    pub trials: u32,
 }
 
 // An array tells how long it is.
@@ -91,11 +92,10 @@ fn are_forms(f: &Form, variables: u32, loops: u32, lows: &[Form], highs: &[Form]
     rows_kept(highs, n)
 }
 
-// Shows a form to be 0 or more: 0 shown, 12 not shown, 11 a number out of range on the way, 255 no forms given. What the form holds
-// afterwards is of no use.
+// Shows a form to be 0 or more: 0 shown, 12 not shown, 11 a number out of range on the way, 255 no forms given.
 #[no_mangle]
 pub extern "C" fn metaqasm_showing(
-    f: &mut Form,
+    f: &Form,
     variables: u32,
     loops: u32,
     lows: &[Form],
@@ -107,13 +107,16 @@ pub extern "C" fn metaqasm_showing(
         return ShowingResult {
             number: NO_FORMS,
             through: 0,
+            trials: 0,
         };
     }
     let s = forms::show(f, variables as usize, loops as usize, lows, highs);
     let verdict = s.verdict;
     let through = s.through as u32;
+    let trials = s.trials as u32;
     ShowingResult {
         number: number(verdict),
         through,
+        trials,
     }
 }

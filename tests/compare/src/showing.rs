@@ -13,7 +13,8 @@ pub const MISSING: &str = "showing: NOT COMPARED, there is no archive with the c
 /// The numbers before and after the form that is lent to the library, which it may not change.
 const GUARD: FormNumbers = [0x3C5A_C3A5; FORM_NUMBERS];
 
-/// Shows a form, whose numbers are of no use afterwards; none where there is no archive.
+/// Shows a form, which is lent so that a change of its numbers would be seen; none where
+/// there is no archive.
 #[cfg(has_showing)]
 pub fn show(
     form: &mut FormNumbers,
@@ -27,10 +28,11 @@ pub fn show(
     struct Returned {
         number: u32,
         through: u32,
+        trials: u32,
     }
     extern "C" {
         fn metaqasm_showing(
-            form: *mut i64,
+            form: *const i64,
             variables: u32,
             loops: u32,
             lows: *const FormNumbers,
@@ -40,15 +42,20 @@ pub fn show(
         ) -> Returned;
     }
     let (lows_count, highs_count) = (lows.len(), highs.len());
-    let (form, lows, highs) = (form.as_mut_ptr(), lows.as_ptr(), highs.as_ptr());
+    let form = form.as_mut_ptr().cast_const();
+    let (lows, highs) = (lows.as_ptr(), highs.as_ptr());
     // SAFETY: pointers and counts are those of slices that outlive the call, and the
     // form is borrowed by this call alone.
-    let Returned { number, through } =
+    let returned =
         unsafe { metaqasm_showing(form, variables, loops, lows, lows_count, highs, highs_count) };
-    Some(ShowingOutcome { number, through })
+    Some(ShowingOutcome {
+        number: returned.number,
+        through: returned.through,
+        trials: returned.trials,
+    })
 }
 
-/// Shows a form, whose numbers are of no use afterwards; none where there is no archive.
+/// Shows a form; none where there is no archive.
 #[cfg(not(has_showing))]
 pub fn show(
     _: &mut FormNumbers,
@@ -65,9 +72,11 @@ fn ask_library(asked: &Showing) -> Result<Option<ShowingOutcome>, String> {
     let (lows, highs) = (&asked.lows, &asked.highs);
     let mut lent = [GUARD, asked.form, GUARD];
     let outcome = show(&mut lent[1], asked.variables, asked.loops, lows, highs);
-    match (lent[0], lent[2]) == (GUARD, GUARD) {
+    match lent == [GUARD, asked.form, GUARD] {
         true => Ok(outcome),
-        false => Err(format!("the library wrote outside the form of {asked:?}")),
+        false => Err(format!(
+            "the library changed the form of {asked:?}, or wrote beside it"
+        )),
     }
 }
 

@@ -51,11 +51,56 @@ fn slices_in_eight_loops(calls: usize) -> Vec<Field> {
     ]
 }
 
-/// A program of as many calls as fit into one.
-fn full(calls: fn(usize) -> Vec<Field>) -> Vec<Field> {
-    let bytes = |count| program(&calls(count)).len();
+/// The index 0 - s less a number, s being v0 + v1 + v2 + v3 times a factor.
+fn below_sizes(factor: u16, less: u16) -> Field {
+    let above = sum(all_sizes(factor), literal(less));
+    difference(literal(0), above)
+}
+
+/// Statements inside 8 loops, of which only the outermost helps to show anything.
+///
+/// The outermost goes from -2s - 3 to -300s - 300, with s = v0 + v1 + v2 + v3, so that its
+/// range shows much. The second may go up by 600s + 600, which is why what is shown against
+/// the high ends fails too. All others go from a form to the same form, with every variable
+/// above in it, so that all is gone through in each trial.
+fn in_tried_loops(statements: Vec<Field>) -> Vec<Field> {
+    let last = sum(all_above(11), variable(10));
+    let innermost = vec![repeat(last.clone(), last, statements)];
+    let inner = (6..11).rev().fold(innermost, |inside, number| {
+        vec![repeat(all_above(number), all_above(number), inside)]
+    });
+    let further = sum(all_above(5), sum(all_sizes(600), literal(600)));
+    let second = vec![repeat(all_above(5), further, inner)];
+    vec![repeat(below_sizes(2, 3), below_sizes(300, 300), second)]
+}
+
+/// A family of 4 index variables with so many statements inside the loops that are tried,
+/// behind one that takes 8 registers.
+fn tried(statement: Field, count: usize) -> Vec<Field> {
+    let body = in_tried_loops(vec![statement; count]);
+    let size = sum(all_sizes(1), literal(1));
+    vec![
+        family(0, vec![qbits(literal(1)); 8], vec![]),
+        family(4, vec![qbits(size)], body),
+    ]
+}
+
+/// So many gates, each with two showings.
+fn gates_in_tried_loops(gates: usize) -> Vec<Field> {
+    tried(h(element(0, variable(11))), gates)
+}
+
+/// So many calls with 8 slices, each with four showings.
+fn slices_in_tried_loops(calls: usize) -> Vec<Field> {
+    let part = slice(0, variable(10), variable(11));
+    tried(call(0, vec![], vec![part; 8]), calls)
+}
+
+/// A program of as many statements as fit into one.
+fn full(made: fn(usize) -> Vec<Field>) -> Vec<Field> {
+    let bytes = |count| program(&made(count)).len();
     let each = bytes(1) - bytes(0);
-    calls((MOST_BYTES - bytes(0)) / each)
+    made((MOST_BYTES - bytes(0)) / each)
 }
 
 /// The program of calls that takes the longest to check for each byte.
@@ -66,6 +111,17 @@ pub fn called_check() -> Vec<Field> {
 /// The program of slices that takes the longest to check for each byte.
 pub fn sliced_check() -> Vec<Field> {
     full(slices_in_eight_loops)
+}
+
+/// The program of gates that takes the longest to check for each byte: every showing
+/// fails by the plain rule and in all trials but that of the outermost of 8 loops.
+pub fn tried_check() -> Vec<Field> {
+    full(gates_in_tried_loops)
+}
+
+/// The same with slices, which have more showings for each byte.
+pub fn tried_slices() -> Vec<Field> {
+    full(slices_in_tried_loops)
 }
 
 /// The index 0 as a sum of so many literals, halved at each level.

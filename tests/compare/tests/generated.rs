@@ -141,7 +141,26 @@ fn small_programs() -> Vec<Vec<u8>> {
     programs.push(program(&library::nested_loops()));
     programs.push(program(&phases()));
     programs.push(program(&slices()));
+    programs.push(program(&ranges()));
     programs
+}
+
+/// Bodies that need the range of a loop: the innermost one's, an outer one's, and one over
+/// the variable of another loop.
+fn ranges() -> Vec<Field> {
+    let pair = cx(at(0, 0), at(0, 1));
+    let twice = repeat(literal(0), literal(1), vec![pair]);
+    let body = vec![h(at(0, 0)), twice];
+    let inner_cells = vec![repeat(literal(1), minus(0, 1), body)];
+    let down = || difference(literal(2), variable(0));
+    let turn = phase(down(), element(0, down()));
+    let triangle = repeat(variable(0), literal(2), vec![turn]);
+    vec![
+        family(1, vec![qbits(variable(0))], inner_cells),
+        qreg(3),
+        repeat(literal(0), literal(3), vec![triangle]),
+        reverse(vec![call(0, vec![literal(3)], vec![whole(0)])]),
+    ]
 }
 
 /// Slices of registers and of parameters, in a loop, a reversal and a condition.

@@ -28,6 +28,8 @@ compared!(a_library_of_4000_families, has_check, small_families);
 compared!(gates_in_eight_loops, has_check, loops_in_loops);
 compared!(the_slowest_check_of_calls, has_check, called_check);
 compared!(the_slowest_check_of_slices, has_check, sliced_check);
+compared!(the_slowest_check_of_trials, has_check, tried_check);
+compared!(the_slowest_check_of_tried_slices, has_check, tried_slices);
 compared!(the_slowest_steps, has_run, slowest_steps);
 
 /// Asks, and holds the reference to number, place, records and steps.
@@ -387,6 +389,16 @@ fn called_check(tally: &mut Tally) -> Result<(), String> {
 /// Checks the program of slices that takes the longest for each byte.
 fn sliced_check(tally: &mut Tally) -> Result<(), String> {
     full_check(tally, &slow::sliced_check())
+}
+
+/// Checks the program of gates that takes the longest for each byte, by trials.
+fn tried_check(tally: &mut Tally) -> Result<(), String> {
+    full_check(tally, &slow::tried_check())
+}
+
+/// Checks the program of slices that takes the longest for each byte, by trials.
+fn tried_slices(tally: &mut Tally) -> Result<(), String> {
+    full_check(tally, &slow::tried_slices())
 }
 
 /// Runs steps that evaluate an index of 60,000 bytes.

@@ -1,5 +1,7 @@
 //! Showings made from a seed: a form and the loops around it, sound and damaged.
 
+mod ranges;
+
 use crate::random::Random;
 use reference::{FormNumbers, ShowingOutcome, FORM_NUMBERS};
 
@@ -38,10 +40,11 @@ pub fn showing(seed: u64) -> Showing {
     let mut random = Random::new(seed);
     let mut made = Showing::small(&mut random);
     match random.below(100) {
-        0..=44 => {}
-        45..=64 => made.cancel(&mut random),
-        65..=89 => made.reach_an_edge(&mut random),
-        _ => made.enlarge(&mut random),
+        0..=29 => {}
+        30..=44 => made.cancel(&mut random),
+        45..=64 => made.reach_an_edge(&mut random),
+        65..=71 => made.enlarge(&mut random),
+        _ => made.need_a_range(&mut random),
     }
     match random.below(100) {
         0..=74 => {}

@@ -23,6 +23,13 @@ pub struct Bounds {
     pub high: Linear,
 }
 
+impl Bounds {
+    /// The high end less the low end, which is 0 or more where the loop's body runs.
+    pub fn range(&self) -> Linear {
+        self.high.plus(-1, &self.low)
+    }
+}
+
 impl Linear {
     /// A number.
     pub fn number(constant: i64) -> Linear {
@@ -63,8 +70,14 @@ impl Linear {
         built
     }
 
-    /// Whether this is likely to be shown 0 or more.
-    pub fn natural(mut self, sizes: usize, loops: &[Bounds]) -> bool {
+    /// Whether this is likely to be shown 0 or more, at times with the range of a loop.
+    pub fn natural(self, sizes: usize, loops: &[Bounds]) -> bool {
+        let shows = |tried: &Bounds| self.plus(-1, &tried.range()).plain(sizes, loops);
+        self.plain(sizes, loops) || loops.iter().any(shows)
+    }
+
+    /// Whether this is likely to be shown 0 or more without the range of a loop.
+    fn plain(mut self, sizes: usize, loops: &[Bounds]) -> bool {
         for (depth, bounds) in loops.iter().enumerate().rev() {
             let factor = std::mem::take(&mut self.coefficients[sizes + depth]);
             let bound = if factor > 0 { bounds.low } else { bounds.high };

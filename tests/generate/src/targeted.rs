@@ -1,6 +1,7 @@
 //! Programs near one limit or one rule each, for answers that chance misses.
 
 mod phases;
+pub mod ranges;
 mod slices;
 
 use crate::build::*;
@@ -60,6 +61,7 @@ const LONG_WRITERS: [Writer; 2] = [full_length, many_families];
 pub fn case(random: &mut Random) -> Case {
     match random.below(40) {
         0 => random.pick(&LONG_WRITERS)(random),
+        1..=7 => ranges::case(random),
         _ => random.pick(&WRITERS)(random),
     }
 }

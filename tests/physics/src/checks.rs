@@ -1,8 +1,13 @@
 //! Checks that the examples' lists do what they are meant to do.
 
+mod controlled;
 mod fourier;
 mod multiplier;
 
+pub use controlled::{
+    adds_under_control, ctrladd_adds_under_control, ctrladd_as_printed_adds_two_cells_only,
+    ctrladd_guarded_adds_from_two_cells_on,
+};
 pub use fourier::{
     fourier_adder_adds, fourier_and_back_is_no_change, fourier_run_adds_one_and_one,
     fourier_transforms,
@@ -26,6 +31,8 @@ const ADDER: &str = include_str!("../../../examples/adder.mq");
 const ADDER_REVERSED: &str = include_str!("../../../examples/adder-reversed.mq");
 const CTRLADD: &str = include_str!("../../../examples/ctrladd.mq");
 const CTRLADD_PRINTED: &str = include_str!("../../../examples/ctrladd-printed.mq");
+/// The text of the controlled adder on n cells.
+pub const CTRLADD_GUARDED: &str = include_str!("../../../examples/ctrladd-guarded.mq");
 const LOOP_DOWN: &str = include_str!("../../../examples/loop-down.mq");
 const THERE_AND_BACK: &str = include_str!("../../../examples/there-and-back.mq");
 const LIBRARY: &str = include_str!("../../../examples/library.mq");
@@ -40,7 +47,7 @@ pub type Answer = Result<(), String>;
 pub type Check = fn(&Calls) -> Answer;
 
 /// Every check by its name.
-pub const ALL: [(&str, Check); 22] = [
+pub const ALL: [(&str, Check); 23] = [
     ("bell_pair_agrees", bell_pair_agrees),
     ("coin_is_put_back", coin_is_put_back),
     ("teleport_moves_the_state", teleport_moves_the_state),
@@ -52,6 +59,10 @@ pub const ALL: [(&str, Check); 22] = [
     (
         "ctrladd_as_printed_adds_two_cells_only",
         ctrladd_as_printed_adds_two_cells_only,
+    ),
+    (
+        "ctrladd_guarded_adds_from_two_cells_on",
+        ctrladd_guarded_adds_from_two_cells_on,
     ),
     ("there_and_back_is_no_change", there_and_back_is_no_change),
     ("library_flips_what_it_names", library_flips_what_it_names),
@@ -276,33 +287,6 @@ pub fn adder_and_back_is_no_change(calls: &Calls) -> Answer {
     Ok(())
 }
 
-/// Where the control is 1, y becomes x + y + c; else nothing changes.
-pub fn ctrladd_adds_under_control(calls: &Calls) -> Answer {
-    (0..3).try_for_each(|m| adds_under_control(calls, CTRLADD, m))
-}
-
-/// As printed, the loops do not add, so that only two cells are right.
-pub fn ctrladd_as_printed_adds_two_cells_only(calls: &Calls) -> Answer {
-    adds_under_control(calls, CTRLADD_PRINTED, 0)?;
-    family_list(calls, CTRLADD_PRINTED, "ctrladd", &[1])?;
-    fails(adds_under_control(calls, CTRLADD_PRINTED, 1), "it adds")
-}
-
-/// Shows that a controlled adder adds all inputs of m + 2 cells.
-fn adds_under_control(calls: &Calls, text: &str, m: u32) -> Answer {
-    let list = family_list(calls, text, "ctrladd", &[m])?;
-    let cells = m as usize + 2;
-    let wires = 2 * cells + 2;
-    let mask = (1 << cells) - 1;
-    (0..1 << wires).try_for_each(|from: usize| {
-        let (x, y) = ((from >> 1) & mask, (from >> (1 + cells)) & mask);
-        let carry = from >> (wires - 1);
-        let sum = (x + y + carry) & mask;
-        let changed = if from & 1 == 1 { sum ^ y } else { 0 };
-        takes(&list, wires, from, from ^ (changed << (1 + cells)))
-    })
-}
-
 /// A family with loops and calls and then its reverse change nothing.
 pub fn there_and_back_is_no_change(calls: &Calls) -> Answer {
     for n in 0..4 {
@@ -364,6 +348,7 @@ pub fn lists_of_both_calls_agree(calls: &Calls) -> Answer {
         (ADDER, "add", vec![2]),
         (ADDER_REVERSED, "unadd", vec![1]),
         (CTRLADD, "ctrladd", vec![1]),
+        (CTRLADD_GUARDED, "ctrladd", vec![3]),
     ];
     for (text, family, sizes) in pairs {
         if run_list(calls, text)? != family_list(calls, text, family, &sizes)? {

@@ -1,5 +1,5 @@
-//! The checks notice unrollers that are wrong in ways that look finished, and
-//! multipliers with wrong slices.
+//! The checks notice unrollers that are wrong in ways that look finished,
+//! multipliers with wrong slices, and controlled adders with wrong loops around them.
 
 use physics::{checks, Calls, Outcome, REFERENCE};
 use reference::RECORD_BYTES;
@@ -122,6 +122,7 @@ fn tdg_written_as_t_is_noticed() {
     let failed = failing(&NO_TDG);
     assert!(failed.contains(&"toffoli_is_a_toffoli"));
     assert!(failed.contains(&"adder_adds"));
+    assert!(failed.contains(&"ctrladd_guarded_adds_from_two_cells_on"));
     assert!(failed.contains(&"there_and_back_is_no_change"));
     assert!(failed.contains(&"reversed_lists_are_mirrored"));
 }
@@ -173,6 +174,7 @@ fn a_missing_record_is_noticed() {
         "toffoli_is_a_toffoli",
         "adder_adds",
         "ctrladd_adds_under_control",
+        "ctrladd_guarded_adds_from_two_cells_on",
         "there_and_back_is_no_change",
         "library_flips_what_it_names",
         "fourier_transforms",
@@ -219,4 +221,25 @@ fn wrong_slices_are_noticed() {
     wrong_slice("(n, 1)(x[i], y, z[i..i+n])", "(n, 0)(x[i], y, z[i+1..i+n])");
     wrong_slice("(n, 1)(x[i], y, z[i..i+n])", "(n, 0)(x[i], y, z[i..i+n-1])");
     checks::multiplies(&REFERENCE, checks::MULTIPLIER, "mult", 2).unwrap();
+}
+
+/// Shows that a controlled adder with one loop put for another is accepted, and whether it adds on
+/// two cells and on three.
+fn with_loop(right: &str, put: &str, adds: [bool; 2]) {
+    assert!(checks::CTRLADD_GUARDED.contains(right), "{right}");
+    let text = checks::CTRLADD_GUARDED.replace(right, put);
+    let bytes = programs::assemble(&text).unwrap().bytes;
+    assert_eq!(reference::check(&bytes).number, 0, "{put}");
+    let found = [2, 3].map(|n| checks::adds_under_control(&REFERENCE, &text, n, n).is_ok());
+    assert_eq!(found, adds, "{put}");
+}
+
+#[test]
+fn wrong_loops_are_noticed() {
+    with_loop("for j = i..1", "for j = i..1", [true, true]);
+    with_loop("for j = i..1", "for j = 1..1", [true, false]);
+    with_loop("for j = i..1", "for j = i..2", [false, false]);
+    with_loop("for i = 1..n-1", "for i = 2..n", [false, false]);
+    with_loop("for k = 1..n-2", "for k = 2..n-2", [true, false]);
+    with_loop("for k = 2..n-1", "for k = 3..n-1", [true, false]);
 }

@@ -23,6 +23,7 @@ with_the_reference! {
     adder_and_back_is_no_change
     ctrladd_adds_under_control
     ctrladd_as_printed_adds_two_cells_only
+    ctrladd_guarded_adds_from_two_cells_on
     there_and_back_is_no_change
     library_flips_what_it_names
     fourier_transforms

@@ -1,9 +1,12 @@
 //! Index forms for messages: a constant plus a factor for each variable.
 //!
-//! The check decides what is shown; forms here only say why it was not.
+//! The check decides what is shown; forms here only say which showing failed, and why.
 
 use crate::field::{tags, Field};
 use crate::scope::two_bytes;
+
+/// The largest number, up or down, that a form may have.
+const LARGEST: i64 = 2_000_000_000;
 
 /// What an index means before its variables have values.
 #[derive(Clone, Debug, PartialEq, Eq)]
@@ -64,6 +67,24 @@ impl Form {
             constant: add(self.constant, other.constant),
             factors: pairs.map(|(left, right)| add(*left, *right)).collect(),
         }
+    }
+
+    /// This form and another one so many times, unless a number that is built leaves the range.
+    pub fn plus_in_range(&self, times: i64, other: &Form) -> Option<Form> {
+        let multiple = Form::constant(0, self.factors.len()).plus(times, other);
+        let sum = self.plus(1, &multiple);
+        (multiple.is_in_range() && sum.is_in_range()).then_some(sum)
+    }
+
+    /// Whether every number is in the range of forms.
+    fn is_in_range(&self) -> bool {
+        let mut numbers = self.factors.iter().chain([&self.constant]);
+        numbers.all(|number| (-LARGEST..=LARGEST).contains(number))
+    }
+
+    /// Whether the constant and all factors are 0 or more.
+    pub fn is_natural(&self) -> bool {
+        self.constant >= 0 && self.factors.iter().all(|factor| *factor >= 0)
     }
 
     /// The value where the variables have values.

@@ -205,6 +205,26 @@ fn every_row_has_its_marks_in_order() {
     assert!(marks > 5000 && phases > 100, "{marks}, {phases}");
 }
 
+/// What is said of the loops around what is not shown: of one, and of several.
+const OF_LOOPS: [&str; 2] = [
+    ", and that the loop over ",
+    ", and no single loop around it ",
+];
+
+#[test]
+fn loops_around_what_is_not_shown_are_named() {
+    let mut found = [0; OF_LOOPS.len()];
+    for seed in 0..6000 {
+        let (_, output, messages) = tool(&["check", "--bytes", "-"], &case(seed).program);
+        for (count, words) in found.iter_mut().zip(OF_LOOPS) {
+            let said = messages.contains(words);
+            assert!(!said || number(&output) == 12, "{seed}: {messages}");
+            *count += usize::from(said);
+        }
+    }
+    assert!(found.iter().all(|count| *count > 20), "{found:?}");
+}
+
 /// What is said of slices that are not shown, or of the wrong kind.
 const OF_SLICES: [&str; 5] = [
     ": the first index ",

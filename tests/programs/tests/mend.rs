@@ -2,7 +2,7 @@
 
 mod common;
 
-use common::{gives, said, tool};
+use common::{gives, not_shown, said, tool};
 use programs::meaning;
 
 /// Shows where a text is refused, with which number, and what is said to mend.
@@ -12,26 +12,19 @@ fn mend(text: &str, spot: &str, end: &str, number: u32, details: &str) {
     gives(&["check", "-"], text, 1, end, &message);
 }
 
-/// Shows what is said of a text that is not shown to be within its range.
-fn not_shown(text: &str, details: &str) {
-    let found = tool(&["check", "-"], text.as_bytes());
-    let lines = said(&found);
-    let second = lines.lines().nth(1).unwrap_or_default();
-    assert!(lines.contains(": 12: "), "{text}: {lines}");
-    assert_eq!(second.trim_start(), details, "{text}");
-}
-
 #[test]
 fn an_index_below_zero() {
     not_shown(
         "family(n) f(x: Qbit[n]) { for i = 0..n { h x[i-1]; } }",
         "x[i - 1]: the index i - 1 is not shown to be 0 or more: \
-         it comes to -1 with i at its low bound 0",
+         it comes to -1 with i at its low bound 0, \
+         and that the loop over i runs only where 0 <= n does not make up for it",
     );
     not_shown(
         "qreg q[1]; for i = 0..3 { for j = 0..3 { h q[i-j]; } }",
         "q[i - j]: the index i - j is not shown to be 0 or more: \
-         it comes to -3 with j at its high bound 3 and i at its low bound 0",
+         it comes to -3 with j at its high bound 3 and i at its low bound 0, \
+         and no single loop around it makes up for it by running only where low <= high",
     );
 }
 
@@ -55,7 +48,8 @@ fn an_index_past_the_size() {
     not_shown(
         "family(n, m) f(x: Qbit[2*n+m]) { for i = 1..n { h x[2*i+m]; } }",
         "x[2 * i + m]: the index 2 * i + m is 0 or more, but is not shown to be below the size \
-         2 * n + m: size - 1 - index comes to -1 with i at its high bound n",
+         2 * n + m: size - 1 - index comes to -1 with i at its high bound n, \
+         and that the loop over i runs only where 1 <= n does not make up for it",
     );
 }
 
@@ -78,7 +72,8 @@ fn a_k_below_zero() {
     not_shown(
         "family(n) f(x: Qbit[n]) { for i = 0..n-1 { phase(i-1) x[i]; } }",
         "the k i - 1 of this phase is not shown to be 0 or more: \
-         it comes to -1 with i at its low bound 0",
+         it comes to -1 with i at its low bound 0, \
+         and that the loop over i runs only where 0 <= n - 1 does not make up for it",
     );
     not_shown(
         "family(n) f(x: Qbit[2]) { cphase(n-2) x[0], x[1]; }",
@@ -112,13 +107,15 @@ fn registers_that_are_too_small() {
     );
 }
 
-/// Shows what is said of a slice of x: Qbit[n], handed over for n cells with i from 0 to n - 1.
+/// Shows what is said of a slice of x: Qbit[n], handed over for n cells with i from 0 to n - 1,
+/// before the words on that loop.
 fn slice_not_shown(slice: &str, details: &str) {
+    let range = "and that the loop over i runs only where 0 <= n - 1 does not make up for it";
     let text = format!(
         "family(k) f(y: Qbit[k]) {{}}
          family(n) g(x: Qbit[n]) {{ for i = 0..n-1 {{ f(n)({slice}); }} }}"
     );
-    not_shown(&text, details);
+    not_shown(&text, &format!("{details}, {range}"));
 }
 
 #[test]

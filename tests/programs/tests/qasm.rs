@@ -67,12 +67,17 @@ fn the_tool_writes_them() {
 #[test]
 fn they_say_what_the_listings_say() {
     /// The wires of instances, reckoned by hand from their parameters.
-    const WIRES: [(&str, u32); 10] = [
+    const WIRES: [(&str, u32); 15] = [
         ("loop.n0.list", 0),
         ("loop.n3.list", 3),
+        ("loop-short.n1.list", 1),
+        ("loop-short.n3.list", 3),
         ("two-sizes.m2.n1.list", 3),
         ("ctrladd.m0.list", 6),
         ("ctrladd.m2.list", 10),
+        ("ctrladd-guarded.n1.list", 4),
+        ("ctrladd-guarded.n2.list", 6),
+        ("ctrladd-guarded.n4.list", 10),
         ("adder.n1.list", 8),
         ("qft.n3.list", 3),
         ("qft.unqft.n3.list", 3),

@@ -33,7 +33,7 @@ pub struct Bounds {
     pub high: Form,
 }
 
-/// What a scan of the loops' variables finds.
+/// What a scan of the loops' variables, which is the plain rule, finds.
 #[derive(Clone, Copy, Debug, PartialEq, Eq)]
 pub struct Scanned {
     /// Whether the form is shown to be 0 or more.
@@ -97,14 +97,9 @@ impl Form {
         Ok(built)
     }
 
-    /// Whether this form is shown to be 0 or more.
+    /// Goes through the loops' variables from the highest to the lowest: the plain rule.
     ///
-    /// The loops' variables follow the family's own, of which there are `sizes`.
-    pub fn shown(&self, sizes: usize, loops: &[Bounds]) -> Result<bool, OutOfRange> {
-        self.scanned(sizes, loops).shown
-    }
-
-    /// Goes through the loops' variables from the highest to the lowest.
+    /// They follow the family's own variables, of which there are `sizes`.
     pub fn scanned(&self, sizes: usize, loops: &[Bounds]) -> Scanned {
         let mut form = self.clone();
         let mut through = 0;
@@ -169,8 +164,8 @@ mod tests {
             },
         ];
         // v1 - v0 with v1 from v0 up: 0 once v1 gives way to v0.
-        assert_eq!(form(0, -1, 1).shown(0, &loops), Ok(true));
-        assert_eq!(form(-1, -1, 1).shown(0, &loops), Ok(false));
+        assert_eq!(form(0, -1, 1).scanned(0, &loops).shown, Ok(true));
+        assert_eq!(form(-1, -1, 1).scanned(0, &loops).shown, Ok(false));
     }
 
     #[test]
@@ -206,7 +201,6 @@ mod tests {
     fn hold(form: &Form, loops: &[Bounds], shown: Result<bool, OutOfRange>, through: usize) {
         let found = form.scanned(1, loops);
         assert_eq!(found, Scanned { shown, through }, "{form:?}");
-        assert_eq!(form.shown(1, loops), shown, "{form:?}");
     }
 
     #[test]

@@ -13,6 +13,7 @@ mod operand;
 mod showing;
 mod text;
 mod tree;
+mod trial;
 
 use bytes::Refusal;
 use machine::{Layout, Locations, Machine};

@@ -1,6 +1,7 @@
 //! The showing of a form that is given by its numbers.
 
-use crate::form::{in_range, Bounds, Form, Scanned, VARIABLES};
+use crate::form::{in_range, Bounds, Form, VARIABLES};
+use crate::trial::Tried;
 
 /// How many numbers a form has.
 pub const FORM_NUMBERS: usize = 1 + VARIABLES;
@@ -16,20 +17,23 @@ pub const NO_FORMS: u32 = 255;
 #[derive(Clone, Copy, Debug, PartialEq, Eq)]
 pub struct ShowingOutcome {
     pub number: u32,
-    /// How many loop variables were gone through.
+    /// How many loop variables the plain scan of the form went through.
     pub through: u32,
+    /// How many loops' ranges were tried behind it.
+    pub trials: u32,
 }
 
-impl From<Scanned> for ShowingOutcome {
-    /// What a scan finds as an answer.
-    fn from(scanned: Scanned) -> ShowingOutcome {
+impl From<Tried> for ShowingOutcome {
+    /// What the plain rule and the trials find as an answer.
+    fn from(tried: Tried) -> ShowingOutcome {
         ShowingOutcome {
-            number: match scanned.shown {
+            number: match tried.shown {
                 Ok(true) => 0,
                 Ok(false) => 12,
                 Err(_) => 11,
             },
-            through: scanned.through as u32,
+            through: tried.through as u32,
+            trials: tried.trials as u32,
         }
     }
 }
@@ -46,10 +50,11 @@ pub fn showing(
     let few = u64::from(variables) + u64::from(loops) <= VARIABLES as u64;
     let forms = read(form).zip(bounds(loops as usize, lows, highs));
     match forms {
-        Some((form, loops)) if few => form.scanned(variables as usize, &loops).into(),
+        Some((form, loops)) if few => form.tried(variables as usize, &loops).into(),
         _ => ShowingOutcome {
             number: NO_FORMS,
             through: 0,
+            trials: 0,
         },
     }
 }

@@ -212,32 +212,37 @@ within-requires c κs =
     let b = t .kindRows in
     (u .1, (t .sizeRows .each (c .before .before .size-by .result) (omega (arith, c .before .before .size-by .ensures, t .named (a .s .first + c .before .before .before .before .before .before .before .before .before .before .before .before .before .before .before .before .before .before .wide .result))), (omega arith, (fewer (t .lowRows) g, fewer (t .highRows) g))))
 
+answered-requires : tie.Need-answered-requires
+answered-requires c κs =
+    search needs
+
 returns-6 : tie.Need-returns-6
 returns-6 c =
-    let a = c .before .before .before .before .before .before .before .before .before .before .before .before .before .before .before .before .before .before .before .before .before .before .before .before .args in
+    let a = c .before .before .before .before .before .before .before .before .before .before .before .before .before .before .before .before .before .before .before .before .before .before .before .before .before .args in
     let program = now (a .program) in
     let from = a .at + 3 in
     let ls = loopsOf (a .s .loops) (now (a .lows)) (now (a .highs)) in
     let ks = kindsAt (a .s .count) (a .s .first) (now (a .kinds)) (now (a .sizes)) in
     let d = wantedOf (a .wanted) (now (a .size)) in
     let n = getD program from 0 in
-    let e = one-byte from (a .next) program (c .before .before .before .before .before .before .before .before .before .before .before .before .before .before .before .before .before .before .before .before .before .if1 .left) (c .before .before .before .before .before .before .before .before .before .before .before .before .before .before .before .before .before .before .before .before .before .before .before .before .pre .0 .1) in
-    let v : c .before .before .before .before .before .before .before .before .before .before .before .before .before .before .before .before .before .before .before .wide .result ≡ n = c .before .before .before .before .before .before .before .before .before .before .before .before .before .before .before .before .before .before .before .wide .ensures .0 in
+    let e = one-byte from (a .next) program (c .before .before .before .before .before .before .before .before .before .before .before .before .before .before .before .before .before .before .before .before .before .before .if1 .left) (c .before .before .before .before .before .before .before .before .before .before .before .before .before .before .before .before .before .before .before .before .before .before .before .before .before .pre .0 .1) in
+    let v : c .before .before .before .before .before .before .before .before .before .before .before .before .before .before .before .before .before .before .before .before .wide .result ≡ n = c .before .before .before .before .before .before .before .before .before .before .before .before .before .before .before .before .before .before .before .before .wide .ensures .0 in
     let row = a .s .first + n in
     let k = kindAt row (now (a .kinds)) (now (a .sizes)) in
-    let get = kinds-get (a .s .count) (a .s .first) n (now (a .kinds)) (now (a .sizes)) (let q = c .before .before .before .before .before .before .before .before .before .before .before .before .before .before .before .before .before .if2 .left in omega arith) in
-    let l = c .before .before .before .before .before .before .before .before .before .before .before .before .before .index .last .1 .1 .1 .1 .1 .1 .0 in
+    let get = kinds-get (a .s .count) (a .s .first) n (now (a .kinds)) (now (a .sizes)) (let q = c .before .before .before .before .before .before .before .before .before .before .before .before .before .before .before .before .before .before .if2 .left in omega arith) in
+    let l = c .before .before .before .before .before .before .before .before .before .before .before .before .before .before .index .last .1 .1 .1 .1 .1 .1 .0 in
     let i = due (readIndex 16) (badIndex 4 (a .at)) (fieldsAt program (a .at + 4) (a .next)) in
-    let end = c .before .before .before .before .before .before .before .before .before .before .before .r .given .0 .0 in
-    let u = form-passes-upto program (a .at + 4) (a .next) (c .before .before .before .before .before .before .before .before .before .before .before .before .before .index .result) l end (c .before .before .before .before .before .before .before .before .before .before .before .r .given .1) (c .before .before .before .before .before .before .before .before .before .before .before .before .before .index .ensures .1) in
+    let end = c .before .before .before .before .before .before .before .before .before .before .before .before .r .given .0 .0 in
+    let u = form-passes-upto program (a .at + 4) (a .next) (c .before .before .before .before .before .before .before .before .before .before .before .before .before .before .index .result) l end (c .before .before .before .before .before .before .before .before .before .before .before .before .r .given .1) (c .before .before .before .before .before .before .before .before .before .before .before .before .before .before .index .ensures .1) in
     let size = asForm (widened (getD (now (a .sizes)) (sizeOfRow (getD (now (a .kinds)) row 0)) [])) in
-    let fits = c .before .before .before .before .before .before .element-kind .ensures .0 size (now (a .size)) ∙ ap (λ (k : Kind). elementSize (a .at) d (kindIn k size)) (c .before .before .before .before .before .before .before .kind-by .ensures ∙ ap (λ (j : ℕ). kindOfRow (getD (now (a .kinds)) (a .s .first + j) 0)) v) in
-    let good : (fs : List Signature) → (elementSize (a .at) d k >>= λ size. checkWithin (a .at) (scopeAt fs (a .s) (now (a .kinds)) (now (a .sizes)) (now (a .lows)) (now (a .highs))) size (asForm l)) ≡ checkOperand (scopeAt fs (a .s) (now (a .kinds)) (now (a .sizes)) (now (a .lows)) (now (a .highs))) d (readElement (a .at) (slice from (a .next) program)) = λ fs. element-good (scopeAt fs (a .s) (now (a .kinds)) (now (a .sizes)) (now (a .lows)) (now (a .highs))) d (a .at) (slice from (a .next) program) n program (a .next) e k get (c .before .before .before .before .before .before .before .before .before .before .before .before .before .index .result) l (c .before .before .before .before .before .before .before .before .before .before .before .before .before .index .ensures .0 ∙ scope-forms fs ks (a .s .variables) (a .s .loops) (now (a .lows)) (now (a .highs)) i) end (c .before .before .before .before .before .before .before .before .before .before .before .r .given .1) (u .0) (c .before .before .before .before .before .before .before .before .before .if3 .left) in (
-      λ fs. c .within .ensures .0 fs ks
-          ∙ ap (λ (j : ℕ). checkWithin (a .at) (scopeAt fs (a .s) (now (a .kinds)) (now (a .sizes)) (now (a .lows)) (now (a .highs))) (asForm (widened (getD (now (a .sizes)) j []))) (asForm l)) (c .before .before .before .size-by .ensures ∙ ap (λ (j : ℕ). sizeOfRow (getD (now (a .kinds)) (a .s .first + j) 0)) v)
-          ∙ kind-goes (elementSize (a .at) d k) (λ m. checkWithin (a .at) (scopeAt fs (a .s) (now (a .kinds)) (now (a .sizes)) (now (a .lows)) (now (a .highs))) m (asForm l)) size (c .before .before .before .before .before .before .element-kind .result) fits (c .before .before .before .before .before .match2 .keys1)
+    let fits = c .before .before .before .before .before .before .before .element-kind .ensures .0 size (now (a .size)) ∙ ap (λ (k : Kind). elementSize (a .at) d (kindIn k size)) (c .before .before .before .before .before .before .before .before .kind-by .ensures ∙ ap (λ (j : ℕ). kindOfRow (getD (now (a .kinds)) (a .s .first + j) 0)) v) in
+    let good : (fs : List Signature) → (elementSize (a .at) d k >>= λ size. checkWithin (a .at) (scopeAt fs (a .s) (now (a .kinds)) (now (a .sizes)) (now (a .lows)) (now (a .highs))) size (asForm l)) ≡ checkOperand (scopeAt fs (a .s) (now (a .kinds)) (now (a .sizes)) (now (a .lows)) (now (a .highs))) d (readElement (a .at) (slice from (a .next) program)) = λ fs. element-good (scopeAt fs (a .s) (now (a .kinds)) (now (a .sizes)) (now (a .lows)) (now (a .highs))) d (a .at) (slice from (a .next) program) n program (a .next) e k get (c .before .before .before .before .before .before .before .before .before .before .before .before .before .before .index .result) l (c .before .before .before .before .before .before .before .before .before .before .before .before .before .before .index .ensures .0 ∙ scope-forms fs ks (a .s .variables) (a .s .loops) (now (a .lows)) (now (a .highs)) i) end (c .before .before .before .before .before .before .before .before .before .before .before .before .r .given .1) (u .0) (c .before .before .before .before .before .before .before .before .before .before .if3 .left) in (
+      λ fs. c .answered .ensures .0
+          ∙ c .before .within .ensures (a .at) fs ks
+          ∙ ap (λ (j : ℕ). checkWithin (a .at) (scopeAt fs (a .s) (now (a .kinds)) (now (a .sizes)) (now (a .lows)) (now (a .highs))) (asForm (widened (getD (now (a .sizes)) j []))) (asForm l)) (c .before .before .before .before .size-by .ensures ∙ ap (λ (j : ℕ). sizeOfRow (getD (now (a .kinds)) (a .s .first + j) 0)) v)
+          ∙ kind-goes (elementSize (a .at) d k) (λ m. checkWithin (a .at) (scopeAt fs (a .s) (now (a .kinds)) (now (a .sizes)) (now (a .lows)) (now (a .highs))) m (asForm l)) size (c .before .before .before .before .before .before .before .element-kind .result) fits (c .before .before .before .before .before .before .match2 .keys1)
           ∙ good fs,
-      c .within .ensures .1,
+      c .answered .ensures .1,
     )
 
 pub element-spec : {M : Type 1} → statement M
@@ -268,4 +273,5 @@ element-spec =
     mul-within
     shared-slice-element-within
     within-requires
+    answered-requires
     returns-6)

@@ -6,14 +6,12 @@ use mathlib.Core.Path.{_≡_, refl, sym, ap, _∙_}
 use mathlib.Core.List.{List}
 use lib.IntN.{ℤ, pos}
 use denote.Ref.{now}
-use Rattle.language.specs.Form.{Form, Built, inRange, differenceOf, constantForm}
-use Rattle.language.specs.Check.{Checked, Kind, Signature, mustShow, roomAfter}
-use Rattle.forms.specs.Flat.{asForm, builtOf, widened}
+use Rattle.language.specs.Form.{Form, Built, inRange, differenceOf, constantForm, Showing, showing}
+use Rattle.language.specs.Check.{roomAfter}
+use Rattle.forms.specs.Flat.{asForm, builtOf, widened, shownOf}
 use Rattle.forms.specs.Rows.{loopsOf}
-use Rattle.forms.proofs.Laws.{one-less}
-use Rattle.check_index.specs.Answers.{checkedPart}
-use Rattle.check_operand.specs.Tables.{scopeWith}
-use Rattle.check_operand.proofs.OperandKinds.{shown-outside, is-made, not-made, then-made, then-not}
+use Rattle.forms.proofs.Laws.{one-less, show-outside}
+use Rattle.check_operand.proofs.OperandKinds.{is-made, not-made, then-made, then-not}
 
 -- size − 1, as it was built
 less : (c : tie.After-add-constant) → builtOf (c .add-constant .result) (c .add-constant .last .0) ≡ differenceOf (asForm (widened (now (c .before .before .before .before .args .size)))) (constantForm (pos 1))
@@ -24,8 +22,8 @@ abbrev next : tie.Start → Form → Built
 next s x = differenceOf x (asForm (now (s .args .f)))
 
 -- what is shown of it
-abbrev shows : tie.Start → List Signature → List Kind → Built → Checked (Unit {0})
-shows s fs ks b = mustShow (s .args .at) (scopeWith fs ks (s .args .variables) (loopsOf (s .args .loops) (now (s .args .lows)) (now (s .args .highs)))) b
+abbrev shows : tie.Start → Built → Showing
+shows s b = showing (s .args .variables) (loopsOf (s .args .loops) (now (s .args .lows)) (now (s .args .highs))) b
 
 load-requires : tie.Need-load-requires
 load-requires c κs =
@@ -40,8 +38,8 @@ subtract-requires : tie.Need-subtract-requires
 subtract-requires c κs =
     (c .before .before .add-constant .ensures .1 (c .before .if1 .taken), c .before .before .before .before .before .before .pre .0)
 
-must-show-requires : tie.Need-must-show-requires
-must-show-requires c κs =
+show-requires : tie.Need-show-requires
+show-requires c κs =
     (c .before .before .subtract .ensures .1 (c .before .if2 .taken), c .before .before .before .before .before .before .before .before .before .pre .1 .1)
 
 returns : tie.Need-returns
@@ -50,22 +48,22 @@ returns c =
     let s = c .before .before .before .before .before .before .before .before .before .before in
     let a = c .before .before .before .before .before .before in
     let d = a .add-constant .last .0 in
-    (λ fs ks. c .must-show .ensures .0 fs ks ∙ ap (shows s fs ks) (sym (then-made (next s) (asForm d) (is-made d (less a) (c .before .before .before .before .before .if1 .taken)) ∙ is-made (c .before .before .before .subtract .last .0) (c .before .before .before .subtract .ensures .0) (c .before .before .if2 .taken))), c .must-show .ensures .1)
+    c .show .ensures ∙ ap (shows s) (sym (then-made (next s) (asForm d) (is-made d (less a) (c .before .before .before .before .before .if1 .taken)) ∙ is-made (c .before .before .before .subtract .last .0) (c .before .before .before .subtract .ensures .0) (c .before .before .if2 .taken)))
 
 returns-2 : tie.Need-returns-2
-unfolding checkedPart roomAfter
+unfolding shownOf roomAfter
 returns-2 c =
     let s = c .before .before .before .before .before .before .before .before in
     let a = c .before .before .before .before in
     let d = a .add-constant .last .0 in
-    (λ fs ks. shown-outside _ _ ∙ ap (shows s fs ks) (sym (then-made (next s) (asForm d) (is-made d (less a) (c .before .before .before .if1 .taken)) ∙ not-made (c .before .subtract .last .0) (c .before .subtract .ensures .0) (c .if2 .left))), tt)
+    sym (show-outside _ _) ∙ ap (shows s) (sym (then-made (next s) (asForm d) (is-made d (less a) (c .before .before .before .if1 .taken)) ∙ not-made (c .before .subtract .last .0) (c .before .subtract .ensures .0) (c .if2 .left)))
 
 returns-3 : tie.Need-returns-3
-unfolding checkedPart roomAfter
+unfolding shownOf roomAfter
 returns-3 c =
     let s = c .before .before .before .before .before in
     let a = c .before in
-    (λ fs ks. shown-outside _ _ ∙ ap (shows s fs ks) (sym (then-not (next s) (not-made (a .add-constant .last .0) (less a) (c .if1 .left)))), tt)
+    sym (show-outside _ _) ∙ ap (shows s) (sym (then-not (next s) (not-made (a .add-constant .last .0) (less a) (c .if1 .left))))
 
 pub room-after-spec : {M : Type 1} → statement M
 room-after-spec =
@@ -74,7 +72,7 @@ room-after-spec =
     load-requires
     add-constant-requires
     subtract-requires
-    must-show-requires
+    show-requires
     returns
     returns-2
     returns-3)

@@ -7,7 +7,7 @@ use denote.Ref.{now}
 use mathlib.Core.List.{List}
 use lib.IntN.{ℤ}
 use Rattle.language.specs.Form.{differenceOf, _thenBuild_}
-use Rattle.language.specs.Check.{mustShow, wholeFits}
+use Rattle.language.specs.Check.{byShowing, mustShow, wholeFits}
 use Rattle.forms.specs.Flat.{widened, asForm, builtOf}
 use Rattle.forms.specs.Rows.{loopsOf}
 use Rattle.check_operand.specs.declared.Wanted.{Wanted}
@@ -44,6 +44,10 @@ large-enough-requires : tie.Need-large-enough-requires
 large-enough-requires c κs =
     (rw (c .before .before .before .before .before .before .wanted .given .1) at (c .before .before .before .before .before .before .before .before .pre .0), (c .before .load .ensures .1, c .before .before .before .before .before .before .before .before .pre .1 .1))
 
+answered-requires : tie.Need-answered-requires
+answered-requires c κs =
+    search needs
+
 returns : tie.Need-returns
 unfolding checkedPart
 returns c =
@@ -72,12 +76,13 @@ returns-3 c =
     (λ fs ks. bit-bad (a .at) (scopeWith fs ks (a .variables) ls) f l (kindIn (a .kind) f) ∙ ap (λ (w : Wanted). wholeFits (a .at) (scopeWith fs ks (a .variables) ls) (wantedOf w l) (kindIn (a .kind) f)) (sym (c .enum-told3 .given .1)), tt)
 
 returns-4 : tie.Need-returns-4
+unfolding mustShow
 returns-4 c =
-    let a = c .before .before .before .before .before .before .before .before .before .args in
+    let a = c .before .before .before .before .before .before .before .before .before .before .args in
     let ls = loopsOf (a .loops) (now (a .lows)) (now (a .highs)) in
     let f = asForm (widened (now (a .own))) in
     let l = now (a .size) in
-    (λ fs ks. c .large-enough .ensures .0 fs ks ∙ ap (λ (x : List ℤ). mustShow (a .at) (scopeWith fs ks (a .variables) ls) (builtOf (c .before .before .before .before .before .before .before .wanted .given .0 .0) l thenBuild differenceOf (asForm x))) (c .before .before .load .ensures .0) ∙ register-good (a .at) (scopeWith fs ks (a .variables) ls) f l (c .before .before .before .before .before .before .before .wanted .given .0 .0) ∙ (λ i. wholeFits (a .at) (scopeWith fs ks (a .variables) ls) (wantedOf (sym (c .before .before .before .before .before .before .before .wanted .given .1) i) l) (kindIn (sym (c .before .before .before .before .enum-told4 .given .1) i) f)), c .large-enough .ensures .1)
+    (λ fs ks. c .answered .ensures .0 ∙ ap (byShowing (a .at)) (c .before .large-enough .ensures) ∙ ap (λ (x : List ℤ). mustShow (a .at) (scopeWith fs ks (a .variables) ls) (builtOf (c .before .before .before .before .before .before .before .before .wanted .given .0 .0) l thenBuild differenceOf (asForm x))) (c .before .before .before .load .ensures .0) ∙ register-good (a .at) (scopeWith fs ks (a .variables) ls) f l (c .before .before .before .before .before .before .before .before .wanted .given .0 .0) ∙ (λ i. wholeFits (a .at) (scopeWith fs ks (a .variables) ls) (wantedOf (sym (c .before .before .before .before .before .before .before .before .wanted .given .1) i) l) (kindIn (sym (c .before .before .before .before .before .enum-told4 .given .1) i) f)), c .answered .ensures .1)
 
 returns-5 : tie.Need-returns-5
 unfolding checkedPart
@@ -99,6 +104,7 @@ whole-fits-spec =
     enum-told-4
     load-requires
     large-enough-requires
+    answered-requires
     returns
     returns-2
     returns-3

@@ -44,7 +44,7 @@ returns : tie.Need-returns Inv-loop μ-loop
 returns c =
     let s = c .before .before .before .before in
     let n = c .before .before .before .loop .n in
-    (λ l h. c .before .before .before .loop .inv .1 l h ∙ met (s .args .variables) l h (s .args .f .now) (s .pre .0) n (c .before .before .loop-test .taken) (λ e. c .if1 .taken (ap (ofZ w64) e)), c .before .before .before .loop .inv .0)
+    (λ l h. c .before .before .before .loop .inv .1 l h ∙ met (s .args .variables) l h (s .args .f .now) (s .pre .0) n (c .before .before .loop-test .taken) (λ e. c .if1 .taken (ap (ofZ w64) e)), (c .before .before .before .loop .inv .0, λ p e. c .if1 .taken (ap (ofZ w64) e)))
 
 sub-n : tie.Need-sub-n Inv-loop μ-loop
 sub-n c =
@@ -65,7 +65,7 @@ loop-again c =
 returns-2 : tie.Need-returns-2 Inv-loop μ-loop
 returns-2 c =
     let s = c .before .before in
-    (λ l h. c .before .loop .inv .1 l h ∙ none-met (s .args .variables) (c .before .loop .n) l h (asForm (s .args .f .now)) (c .loop-test .left), c .before .loop .inv .0)
+    (λ l h. c .before .loop .inv .1 l h ∙ none-met (s .args .variables) (c .before .loop .n) l h (asForm (s .args .f .now)) (c .loop-test .left), (c .before .loop .inv .0, λ p e. absurd (omega (arith, c .loop-test .left))))
 
 pub left-spec : {M : Type 1} → statement M
 left-spec =

@@ -1,139 +1,47 @@
--- `show` meets its contract. The invariant: the scan of the form that came in is the scan of the form as it is, over the loops below the last variable that was replaced.
--- Assumes nothing.
+-- `forms::show` meets its contract: the plain rule, and the trials only where that does not show the form. Assumes nothing.
+use borrow.Author.Needs.{needs}
 use Rattle.forms.proofs.show.Statement.{statement}
 use Rattle.forms.proofs.show.Tie as tie
-use borrow.Author.Needs.{needs}
-use native.Mathlib.Omega.{arith}
-use mathlib.Core.Path.{_≡_, sym, ap, _∙_}
-use mathlib.Core.Bool.{Bool, true, false}
-use Prim.Native.Nat.{ℕ, _+_, _-_, _≤_}
-use Rattle.language.specs.Form.{built, outOfRange, showingOf}
-use Rattle.language.specs.Settled.{scan, after}
-use Rattle.forms.specs.Flat.{Kept, asForm, builtOf, shownOf}
-use Rattle.forms.specs.Rows.{loopsOf}
-use Rattle.forms.proofs.Laws.{fewer, told, none-after, scan-on, scan-out, scan-end}
+use mathlib.Core.Path.{sym, ap, _∙_}
+use Rattle.language.specs.Form.{showing}
+use Rattle.language.specs.Trials.{trialsMade}
+use Rattle.forms.specs.Flat.{showingBy, shownOf}
+use Rattle.forms.proofs.Verdicts.{is-tried, not-tried}
 
-abbrev Inv-loop : tie.InvT-loop
-Inv-loop f₀ variables loops lows highs n₀ f n =
-    (n ≤ loops) × Kept f × (scan variables (loopsOf loops lows highs) (asForm f₀) ≡ after (loops - n) (scan variables (loopsOf n lows highs) (asForm f)))
+show-plainly-requires : tie.Need-show-plainly-requires
+show-plainly-requires c κs = search needs
 
-abbrev μ-loop : tie.MeasureT-loop
-μ-loop f₀ variables loops lows highs n₀ f n =
-    n
+enum-told : tie.Need-enum-told
+enum-told c = search needs
 
--- no variable remains
-at-end : (c : tie.Then1 Inv-loop μ-loop) →
-    let s = c .before .before .before .before in
-    let h = c .before .before .before .loop in
-    scan (s .args .variables) (loopsOf (s .args .loops) (s .args .lows .now) (s .args .highs .now)) (asForm (s .args .f .now)) ≡ record { form = built (asForm (h .f)); through = s .args .loops - h .n }
-at-end c =
-    let s = c .before .before .before .before in
-    let h = c .before .before .before .loop in
-    let l = s .args .lows .now in
-    let u = s .args .highs .now in
-    scan-end (s .args .variables) (s .args .loops) (h .n) l u (asForm (s .args .f .now)) (asForm (h .f)) (h .inv .0) (h .inv .2) (c .before .left .ensures .0 l u ∙ ap (λ (k : ℕ). loopsOf k l u) (c .if1 .taken))
+try-loops-requires : tie.Need-try-loops-requires
+try-loops-requires c κs = search needs
 
--- the next loop is one of those that are open
-next-open : (c : tie.Else1 Inv-loop μ-loop) → c .before .left .result - 1 + 1 ≤ c .before .before .before .before .args .loops
-next-open c = omega (arith, c .before .left .ensures .1, c .before .before .before .loop .inv .0, c .if1 .left)
+verdict-of-requires : tie.Need-verdict-of-requires
+verdict-of-requires c κs = search needs
 
--- the variable of the turn is replaced
-replaced-on : (a : tie.After-substitute Inv-loop μ-loop) → a .substitute .result ≡ true →
-    let s = a .before .before .before .before .before .before in
-    let n = a .before .before .before .left .result - 1 in
-    let l = s .args .lows .now in
-    let u = s .args .highs .now in
-    scan (s .args .variables) (loopsOf (s .args .loops) l u) (asForm (s .args .f .now)) ≡ after (s .args .loops - n) (scan (s .args .variables) (loopsOf n l u) (asForm (a .substitute .last .0)))
-replaced-on a e =
-    let s = a .before .before .before .before .before .before in
-    let h = a .before .before .before .before .before .loop in
-    let m = a .before .before .before in
-    let l = s .args .lows .now in
-    let u = s .args .highs .now in
-    scan-on (s .args .variables) (s .args .loops) (h .n) l u (asForm (s .args .f .now)) (asForm (h .f)) (h .inv .0) (h .inv .2)
-    (m .left .result) (asForm (a .substitute .last .0)) (omega (arith, a .before .before .if1 .left)) (m .left .ensures .1) (m .left .ensures .0 l u) (ap (λ (t : Bool). builtOf t (a .substitute .last .0)) (sym e) ∙ a .substitute .ensures .0)
-
--- its replacement is out of range
-replaced-out : (a : tie.After-substitute Inv-loop μ-loop) → a .substitute .result ≡ false →
-    let s = a .before .before .before .before .before .before in
-    scan (s .args .variables) (loopsOf (s .args .loops) (s .args .lows .now) (s .args .highs .now)) (asForm (s .args .f .now)) ≡ record { form = outOfRange; through = s .args .loops - (a .before .before .before .left .result - 1) }
-replaced-out a e =
-    let s = a .before .before .before .before .before .before in
-    let h = a .before .before .before .before .before .loop in
-    let m = a .before .before .before in
-    let l = s .args .lows .now in
-    let u = s .args .highs .now in
-    scan-out (s .args .variables) (s .args .loops) (h .n) l u (asForm (s .args .f .now)) (asForm (h .f)) (h .inv .0) (h .inv .2)
-    (m .left .result) (omega (arith, a .before .before .if1 .left)) (m .left .ensures .1) (m .left .ensures .0 l u) (ap (λ (t : Bool). builtOf t (a .substitute .last .0)) (sym e) ∙ a .substitute .ensures .0)
-
-loop-holds : tie.Need-loop-holds Inv-loop μ-loop
-loop-holds c =
-    (omega arith, c .pre .0, none-after (c .args .loops) _)
-
-left-requires : tie.Need-left-requires Inv-loop μ-loop
-left-requires c κs =
-    (c .before .loop .inv .1, omega (arith, c .before .loop .inv .0, c .before .before .pre .1 .0))
-
-sub-settling-of : tie.Need-sub-settling-of Inv-loop μ-loop
-sub-settling-of c =
-    omega (arith, c .before .before .before .before .loop .inv .0, c .before .before .left .ensures .1)
-
-settling-of-requires : tie.Need-settling-of-requires Inv-loop μ-loop
-settling-of-requires c κs =
-    c .before .before .before .before .loop .inv .1
-
-returns : tie.Need-returns Inv-loop μ-loop
+returns : tie.Need-returns
+unfolding showing trialsMade shownOf
 returns c =
-    let t = told _ _ _ _ (at-end (c .before .before)) in
-    (c .settling-of .ensures .0 ∙ t .0, c .settling-of .ensures .1 ∙ t .1)
+    let p = c .before .before .before .before in
+    let t = c .before in
+    let k = is-tried (sym (p .show-plainly .ensures .0) ∙ ap shownOf (t .before .enum-told .given .1)) _ _ in
+    (c .verdict-of .ensures ∙ ap showingBy (t .try-loops .ensures .0) ∙ k .0, (p .show-plainly .ensures .1, t .try-loops .ensures .1 ∙ k .1))
 
-sub-n : tie.Need-sub-n Inv-loop μ-loop
-sub-n c =
-    search needs
-
-sub-through : tie.Need-sub-through Inv-loop μ-loop
-sub-through c =
-    omega (arith, next-open c)
-
-add-substitute : tie.Need-add-substitute Inv-loop μ-loop
-add-substitute c =
-    let h = next-open (c .before) in
-    let p = c .before .before .before .before .before .pre .1 .0 in
-    search needs
-
-substitute-requires : tie.Need-substitute-requires Inv-loop μ-loop
-substitute-requires c κs =
-    let h = next-open (c .before) in
-    (c .before .before .before .before .loop .inv .1, (omega (arith, h, c .before .before .before .before .before .pre .1 .0), (fewer (c .before .before .before .before .before .pre .1 .1 .0) h, fewer (c .before .before .before .before .before .pre .1 .1 .1) h)))
-
-loop-less : tie.Need-loop-less Inv-loop μ-loop
-loop-less c =
-    omega (arith, c .before .before .before .before .left .ensures .1, c .before .before .before .if1 .left)
-
-loop-again : tie.Need-loop-again Inv-loop μ-loop
-loop-again c =
-    (omega (arith, next-open (c .before .before .before)), c .before .substitute .ensures .1 (c .if2 .taken), replaced-on (c .before) (c .if2 .taken))
-
-returns-2 : tie.Need-returns-2 Inv-loop μ-loop
-unfolding shownOf showingOf
+returns-2 : tie.Need-returns-2
+unfolding showing trialsMade
 returns-2 c =
-    told _ _ _ _ (replaced-out (c .before) (c .if2 .left))
+    let p = c .before in
+    let k = not-tried (p .show-plainly .result .verdict) (c .match .keys2) (p .show-plainly .ensures .0) _ _ in
+    (k .0, (p .show-plainly .ensures .1, k .1))
 
 pub show-spec : {M : Type 1} → statement M
 show-spec =
     tie.close
     (tie.spec
-    Inv-loop
-    μ-loop
-    loop-holds
-    left-requires
-    sub-settling-of
-    settling-of-requires
+    show-plainly-requires
+    enum-told
+    try-loops-requires
+    verdict-of-requires
     returns
-    sub-n
-    sub-through
-    add-substitute
-    substitute-requires
-    loop-less
-    loop-again
     returns-2)

@@ -165,6 +165,8 @@ fn checks() -> Vec<Workload> {
         Workload::check("check, loops in loops", &loops),
         Workload::check("check, calls", &slow::called_check()),
         Workload::check("check, slices", &slow::sliced_check()),
+        Workload::check("check, tried", &slow::tried_check()),
+        Workload::check("check, tried slices", &slow::tried_slices()),
     ]
 }
 

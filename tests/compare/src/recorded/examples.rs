@@ -26,7 +26,7 @@ const DISTANCE: &str = "02 02 00 01 00 26 29 00 40 02 00 00 00 40 02 00 03 00 \
     20 0f 00 31 0c 00 00 43 08 00 41 01 00 00 41 01 00 01";
 
 /// x:Qbit[n], for i=1..n-1 h(x[0]).
-const NEVER_RUN: &str = "01 29 00 01 01 11 04 00 41 01 00 00 \
+pub(super) const FIRST_IN_LOOP: &str = "01 29 00 01 01 11 04 00 41 01 00 00 \
     26 1d 00 40 02 00 01 00 43 09 00 41 01 00 00 40 02 00 01 00 \
     20 09 00 31 06 00 00 40 02 00 00 00";
 
@@ -89,7 +89,7 @@ fn checked() -> Vec<Recorded> {
         row("L from 0", L_FROM_0, 12, 27),
         row("h(x[n-1-i])", DOWN, 0, 0),
         row("i=0..3, j=0..3, q[i-j] of size 1", DISTANCE, 12, 34),
-        row("i=1..n-1, h(x[0]), x:Qbit[n]", NEVER_RUN, 12, 35),
+        row("i=1..n-1, h(x[0]), x:Qbit[n]", FIRST_IN_LOOP, 0, 0),
         row("cx on one wire is accepted", ONE_WIRE, 0, 0),
     ]
 }

@@ -4,6 +4,7 @@ mod examples;
 mod families;
 mod limits;
 mod phases;
+mod ranges;
 mod refusals;
 pub mod showings;
 mod slices;
@@ -47,6 +48,7 @@ pub fn recorded() -> Vec<Recorded> {
     rows.extend(families::rows());
     rows.extend(phases::rows());
     rows.extend(slices::rows());
+    rows.extend(ranges::rows());
     rows.extend(states::rows());
     rows.extend(texts::rows());
     rows

@@ -10,7 +10,7 @@ use crate::random::Random;
 use reference::RECORD_BYTES;
 
 /// A family over n: t on each wire of x:Qbit[n], and cx on each two that are neighbours.
-fn each() -> Field {
+pub(super) fn each() -> Field {
     let (before, wire) = (|| element(0, minus(1, 1)), || element(0, variable(1)));
     let body = vec![
         repeat(literal(1), variable(0), vec![t(before())]),
@@ -284,7 +284,7 @@ pub fn ended(random: &mut Random) -> Case {
 }
 
 /// Leaves few steps, little room, or enough of both.
-fn short_of(case: &mut Case, random: &mut Random) {
+pub(super) fn short_of(case: &mut Case, random: &mut Random) {
     case.limit = random.pick(&[0, 1, 2, 3, 5, 8, 13, 21, 34, 10_000, 10_000]);
     case.output = random.pick(&[0, RECORD_BYTES - 1, RECORD_BYTES, 40, RECORD_BYTES * 500]);
 }

@@ -1,5 +1,6 @@
 //! What a person must mend: details beside the plain sentence of a number.
 
+mod below;
 mod kinds;
 mod locate;
 mod shape;

@@ -1,9 +1,9 @@
 //! Why an index or a size is not shown to be within its range.
 
+use super::below::below_zero;
 use super::locate::Found;
 use crate::field::{tags, Field};
 use crate::form::Form;
-use crate::print::join;
 use crate::scope::{called_number, own_variables, parameter_name};
 use crate::scope::{two_bytes, variable_name, Scope};
 
@@ -143,55 +143,5 @@ fn size_of(number: usize, scope: &Scope) -> Option<(Form, String)> {
             let size = two_bytes(scope.registers.get(number)?);
             Some((Form::constant(i64::from(size), variables), size.to_string()))
         }
-    }
-}
-
-/// How a form can come to lie below 0; none if it is shown to be 0 or more.
-fn below_zero(form: &Form, scope: &Scope) -> Option<String> {
-    let own = scope.inside.map_or(0, own_variables);
-    let variables = scope.variables();
-    let mut form = form.clone();
-    let mut bounds = Vec::new();
-    for (depth, open) in scope.loops.iter().enumerate().rev() {
-        let factor = std::mem::take(form.factors.get_mut(own + depth)?);
-        if factor == 0 {
-            continue;
-        }
-        let (side, bound) = match factor > 0 {
-            true => ("low", &open.parts[0]),
-            false => ("high", &open.parts[1]),
-        };
-        form = form.plus(factor, &Form::of(bound, variables)?);
-        let name = scope.variable(own + depth);
-        bounds.push(format!("{name} at its {side} bound {}", scope.index(bound)));
-    }
-    let falling = form.factors.iter().position(|factor| *factor < 0);
-    if form.constant >= 0 && falling.is_none() {
-        return None;
-    }
-    Some(reason(&form, falling, &bounds, scope))
-}
-
-/// What a form comes to, and where that lies below 0.
-fn reason(form: &Form, falling: Option<usize>, bounds: &[String], scope: &Scope) -> String {
-    let text = form.text(|variable| scope.variable(variable));
-    let used = |number: &usize| form.factors[*number] != 0;
-    let names = join((0..form.factors.len()).filter(used), |number| {
-        format!("{} = 0", scope.variable(number))
-    });
-    let with = match bounds.is_empty() {
-        true => String::new(),
-        false => format!(" with {}", bounds.join(" and ")),
-    };
-    match falling {
-        Some(number) => {
-            let name = scope.variable(number);
-            format!("comes to {text}{with}, which falls below 0 as {name} grows")
-        }
-        None if names.is_empty() => format!("comes to {text}{with}"),
-        None => format!(
-            "comes to {text}{with}, which is {} at {names}",
-            form.constant
-        ),
     }
 }

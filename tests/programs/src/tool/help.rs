@@ -84,6 +84,12 @@ Checks a program and ends with a line of number, place, records and steps. If
 the number is not 0, a message says what to mend. FILE is a path, or - for
 standard input; a path that ends in .bytes is read as bytes, anything else as
 text.
+
+Every index and size must be shown to be within its range, whatever the sizes
+of its family are. There a loop's variable counts as its low or its high bound,
+whichever is worse. Where this is not enough, one loop around it may make up for
+it, as its body runs only where low <= high: of x: Qbit[n], x[0] is refused by
+itself, and accepted inside for i = 1..n-1 { .. }.
 ";
 
 /// The options that list, qasm and draw share.

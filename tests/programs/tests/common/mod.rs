@@ -55,6 +55,15 @@ pub fn refuses(words: &[&str], message: &str) {
     gives(words, "", 2, "", &said);
 }
 
+/// Shows what is said of a text that is not shown to be within its range.
+pub fn not_shown(text: &str, details: &str) {
+    let found = tool(&["check", "-"], text.as_bytes());
+    let lines = said(&found);
+    let second = lines.lines().nth(1).unwrap_or_default();
+    assert!(lines.contains(": 12: "), "{text}: {lines}");
+    assert_eq!(second.trim_start(), details, "{text}");
+}
+
 /// A file of a test's own, which is removed again.
 pub struct Scratch(pub PathBuf);
 

@@ -54,60 +54,60 @@ fn made(tag: u8, parts: &[&str]) -> Vec<u8> {
 }
 
 /// A literal as an index, 5 bytes.
-fn number(value: u16) -> Vec<u8> {
+pub(super) fn number(value: u16) -> Vec<u8> {
     field(0x40, &value.to_le_bytes())
 }
 
 /// An index variable, 4 bytes.
-fn variable(value: u8) -> Vec<u8> {
+pub(super) fn variable(value: u8) -> Vec<u8> {
     field(0x41, &[value])
 }
 
 /// A sum, a difference and a product of two indexes.
-fn sum(left: &[u8], right: &[u8]) -> Vec<u8> {
+pub(super) fn sum(left: &[u8], right: &[u8]) -> Vec<u8> {
     field(0x42, &joined(&[left, right]))
 }
-fn difference(left: &[u8], right: &[u8]) -> Vec<u8> {
+pub(super) fn difference(left: &[u8], right: &[u8]) -> Vec<u8> {
     field(0x43, &joined(&[left, right]))
 }
-fn product(left: &[u8], right: &[u8]) -> Vec<u8> {
+pub(super) fn product(left: &[u8], right: &[u8]) -> Vec<u8> {
     field(0x44, &joined(&[left, right]))
 }
 
 /// -2,000,000,000 as an index.
-fn smallest() -> Vec<u8> {
+pub(super) fn smallest() -> Vec<u8> {
     difference(&number(0), &bytes(MOST))
 }
 
 /// A slice by its number and its two indexes.
-fn slice(operand: u8, first: &[u8], last: &[u8]) -> Vec<u8> {
+pub(super) fn slice(operand: u8, first: &[u8], last: &[u8]) -> Vec<u8> {
     field(SLICE, &joined(&[&[operand], first, last]))
 }
 
 /// A slice between two literals, 14 bytes.
-fn between(operand: u8, first: u16, last: u16) -> Vec<u8> {
+pub(super) fn between(operand: u8, first: u16, last: u16) -> Vec<u8> {
     slice(operand, &number(first), &number(last))
 }
 
 /// A call of a family with indexes and operands.
-fn call(family: u8, parts: &[&[u8]]) -> Vec<u8> {
+pub(super) fn call(family: u8, parts: &[&[u8]]) -> Vec<u8> {
     field(CALL, &joined(&[&[family], &parts.concat()]))
 }
 
 /// A family over so many index variables, with types in hexadecimal and a body.
-fn family(variables: u8, types: &[&str], body: &[u8]) -> Vec<u8> {
+pub(super) fn family(variables: u8, types: &[&str], body: &[u8]) -> Vec<u8> {
     let head = [variables, types.len() as u8];
     field(1, &joined(&[&head, &bytes(&types.join(" ")), body]))
 }
 
 /// A loop with its bounds and its body.
-fn looped(low: &[u8], high: &[u8], body: &[u8]) -> Vec<u8> {
+pub(super) fn looped(low: &[u8], high: &[u8], body: &[u8]) -> Vec<u8> {
     field(0x26, &joined(&[low, high, body]))
 }
 
 /// The family L of 43 bytes: x:Qbit[n], for i=1..n h(x[i-1]); then registers and statements.
 /// Its loop stands at 12 and its gate at 24.
-fn behind_l(registers: &str, statements: &[u8]) -> Vec<u8> {
+pub(super) fn behind_l(registers: &str, statements: &[u8]) -> Vec<u8> {
     joined(&[&bytes(L), &bytes(registers), statements])
 }
 
@@ -122,7 +122,7 @@ fn parts_row(name: &str, parts: &[&str], [number, place]: [u32; 2]) -> Recorded 
 }
 
 /// The records of h on wires.
-fn gates(wires: &[u16]) -> String {
+pub(super) fn gates(wires: &[u16]) -> String {
     let record = |wire: &u16| {
         let [low, high] = wire.to_le_bytes();
         format!("01 00 {low:02x} {high:02x} 00 00 00 00 00 00 00 00")

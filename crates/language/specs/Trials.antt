@@ -1,0 +1,75 @@
+-- The trials of a showing: what they change, and how many are made. Their laws are stated here; proofs/Trials proves them.
+use mathlib.Core.Path.{_≡_}
+use mathlib.Core.List.{List, [], _∷_}
+use mathlib.Core.Bool.{true, cond}
+use mathlib.Core.Option.{some}
+use Prim.Native.Nat.{ℕ, suc, _<_}
+use lib.ListN.{length, getElem?}
+use Rattle.language.specs.Tree.{Place, Refusal, Top}
+use Rattle.language.specs.Form.{Built, Loop, Showing, shown, notShown, beyondRange, plainly, trial, showing}
+use Rattle.language.specs.Check as C
+use Rattle.language.specs.Check.{Checked, good, refused, Scope, byShowing}
+use Rattle.language.specs.Result.{checkResult}
+use Rattle.language.specs.Settled.{settling}
+use Rattle.language.specs.PlainCheck as P
+
+-- ---- how many are made
+
+-- of the trials for these loops: as many as there are up to the first that shows e, or all of them
+unfoldable pub trialsFor : (m : ℕ) → (ls tried : List Loop) → Built → ℕ
+trialsFor m ls [] e = 0
+trialsFor m ls (l ∷ tried) e = suc (cond (trial m ls l e) 0 (trialsFor m ls tried e))
+
+-- only what is not shown is tried
+unfoldable pub ifNotShown : Showing → (made : ℕ) → ℕ
+ifNotShown shown made = 0
+ifNotShown notShown made = made
+ifNotShown beyondRange made = 0
+
+-- of the trials of a showing
+unfoldable pub trialsMade : (m : ℕ) → List Loop → Built → ℕ
+trialsMade m ls e =
+    let made = trialsFor m ls ls e in
+    ifNotShown (plainly m ls e) made
+
+-- the trial for the loop at j, counted from the innermost
+abbrev pub TrialAt : (m : ℕ) → List Loop → Built → ℕ → Type 0
+TrialAt m ls e j = (l : Loop) × (getElem? ls j ≡ some l) × (trial m ls l e ≡ true)
+
+-- of what the plain rule does not show and the check does, the last trial made is the first that shows it
+abbrev pub FirstLaw : Type 0
+FirstLaw =
+    (m : ℕ) (ls : List Loop) (e : Built) → plainly m ls e ≡ notShown → showing m ls e ≡ shown
+    → (j : ℕ) × (trialsMade m ls e ≡ suc j) × TrialAt m ls e j × ((i : ℕ) → i < j → TrialAt m ls e i → ⊥)
+
+-- and where it is not shown either, all are made and none shows it
+abbrev pub NoneLaw : Type 0
+NoneLaw = (m : ℕ) (ls : List Loop) (e : Built) → showing m ls e ≡ notShown → (trialsMade m ls e ≡ length ls) × ((j : ℕ) → TrialAt m ls e j → ⊥)
+
+-- ---- what they change
+
+-- the plain rule's answer, and that with the trials: the same, but what is not shown may be shown
+pub data Widens : (plain wide : Showing) → Type 0 where
+  same : {x : Showing} → Widens x x
+  nowShown : Widens notShown shown
+
+abbrev pub WidensLaw : Type 0
+WidensLaw = (m : ℕ) (ls : List Loop) (e : Built) → Widens (plainly m ls e) (showing m ls e)
+
+-- what the plain rule has a part checked to, and what it is checked to: the same, but anything may come in the place of 12
+pub data Later {A : Type 0} : (plain wide : Checked A) → Type 0 where
+  bothGood : {a : A} → Later (good a) (good a)
+  bothRefused : {n : Refusal} {p : Place} → Later (refused n p) (refused n p)
+  from12 : {p : Place} {c : Checked A} → Later (refused 12 p) c
+
+-- of one showing, by the scan that ends early
+abbrev pub ShowingLaw : Type 0
+ShowingLaw = (p : Place) (s : Scope) (e : Built) → Later (byShowing p (settling (s .variables) (s .loops) e .answer)) (C.mustShow p s e)
+
+-- of a program's tree
+abbrev pub TwelveLaw : Type 0
+TwelveLaw = (tops : List Top) → Later (P.check tops) (C.check tops)
+
+-- of a program's bytes: an answer of the plain rule other than 12 stays, acceptance among them
+abbrev pub StaysLaw : Type 0
+StaysLaw = (program : List ℕ) → (P.plainResult program .number ≡ 12 → ⊥) → checkResult program ≡ P.plainResult program

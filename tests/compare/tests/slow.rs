@@ -1,0 +1,112 @@
+//! The slow programs are what they are meant to be, by the reference: full, accepted, and
+//! shown by the last of their trials only.
+
+use compare::slow;
+use generate::build::{program, Field};
+use generate::forms::Showing;
+use reference::{FormNumbers, ShowingOutcome, FORM_NUMBERS};
+
+/// The form 0.
+const ZERO: FormNumbers = [0; FORM_NUMBERS];
+
+/// One form plus a number times another.
+fn plus(one: &FormNumbers, factor: i64, other: &FormNumbers) -> FormNumbers {
+    let mut sum = *one;
+    for (mine, theirs) in sum.iter_mut().zip(other) {
+        *mine += factor * theirs;
+    }
+    sum
+}
+
+/// The form of a number.
+fn constant(number: i64) -> FormNumbers {
+    let mut form = ZERO;
+    form[0] = number;
+    form
+}
+
+/// The form of an index field, whose products have a number on the left.
+fn form(index: &Field) -> FormNumbers {
+    let side = |place: usize| form(&index.parts[place]);
+    match (index.tag, index.head.as_slice()) {
+        (64, &[low, high]) => constant(u16::from_le_bytes([low, high]).into()),
+        (65, &[variable]) => {
+            let mut form = ZERO;
+            form[1 + usize::from(variable)] = 1;
+            form
+        }
+        (66, _) => plus(&side(0), 1, &side(1)),
+        (67, _) => plus(&side(0), -1, &side(1)),
+        (68, _) => plus(&ZERO, side(0)[0], &side(1)),
+        other => panic!("no index: {other:?}"),
+    }
+}
+
+/// The loops around the first statement that is none, and that statement.
+fn innermost(body: &Field) -> (Vec<[FormNumbers; 2]>, &Field) {
+    let mut loops = Vec::new();
+    let mut field = body;
+    while field.tag == 38 {
+        loops.push([form(&field.parts[0]), form(&field.parts[1])]);
+        field = &field.parts[2];
+    }
+    (loops, field)
+}
+
+/// What is shown of an operand of a register: an element or a slice for one wire.
+fn shown(operand: &Field, size: &FormNumbers) -> Vec<FormNumbers> {
+    let first = form(&operand.parts[0]);
+    let last = form(operand.parts.last().unwrap_or(operand));
+    let room = plus(&plus(size, -1, &last), -1, &constant(1));
+    match operand.tag {
+        49 => vec![first, room],
+        _ => {
+            let distance = plus(&last, -1, &first);
+            vec![first, room, plus(&distance, 1, &constant(1)), distance]
+        }
+    }
+}
+
+/// The answers to all showings of the first statement inside the loops of a program's last
+/// family, whose register is its only parameter.
+fn answers(fields: &[Field]) -> Vec<ShowingOutcome> {
+    let family = &fields[1];
+    let size = form(&family.parts[0].parts[0]);
+    let (loops, statement) = innermost(&family.parts[1]);
+    let operands = statement.parts.iter();
+    let forms = operands.flat_map(|operand| shown(operand, &size));
+    forms
+        .map(|form| Showing {
+            form,
+            variables: 4,
+            loops: loops.len() as u32,
+            lows: loops.iter().map(|bounds| bounds[0]).collect(),
+            highs: loops.iter().map(|bounds| bounds[1]).collect(),
+        })
+        .map(|asked| asked.answer())
+        .collect()
+}
+
+/// Tests that a program is full and accepted, with so many showings in each statement, all by
+/// the eighth trial and through nearly all loops.
+fn hold(fields: &[Field], showings: usize) {
+    let bytes = program(fields);
+    assert!((65_400..=65_535).contains(&bytes.len()), "{}", bytes.len());
+    assert_eq!(reference::check(&bytes).number, 0);
+    let answers = answers(fields);
+    assert_eq!(answers.len(), showings);
+    for answer in answers {
+        assert_eq!((answer.number, answer.trials), (0, 8), "{answer:?}");
+        assert_eq!(answer.through, 8, "{answer:?}");
+    }
+}
+
+#[test]
+fn every_gate_takes_all_trials() {
+    hold(&slow::tried_check(), 2);
+}
+
+#[test]
+fn every_slice_takes_all_trials() {
+    hold(&slow::tried_slices(), 32);
+}
