@@ -19,11 +19,13 @@
  * Nothing else is asked. Every byte string, number and length has an answer and every call ends. The library keeps no state
  * between calls, and uses no heap, no files and no globals, so calls may run on any number of threads at once.
  *
- * Time. The figures are of common machines of two cores. A check takes at most some 25 to 40 ns for each byte of the program, 1.5
- * to 2.5 ms for the longest. The step limit bounds steps, not seconds: a step takes time in proportion to the indexes and operands
- * of its own statement (and, where a list begins to run backward, to the fields of the list). Most take 0.1 microseconds or
- * less. The slowest found are gates in a loop with an index of 60,000 bytes, which each round evaluates: 0.07 ms a step, or
- * 1 ns for each byte of the program, and twice that while the machine was busy. Reckon with at most 0.2 ms, or 3 ns a byte.
+ * Time. The figures are of common machines of two cores. A check takes at most some 25 to 40 ns for each byte of the program,
+ * 1.5 to 2.5 ms for the longest, unless it is written to be slow: 8 loops in each other, and indexes that are there only
+ * because the outermost has a round, take up to 450 ns a byte, 30 ms for the longest. The step limit bounds steps, not seconds:
+ * a step takes time in proportion to the indexes and operands of its own statement (and, where a list begins to run backward,
+ * to the fields of the list). Most take 0.1 microseconds or less. The slowest found are gates in a loop with an index of 60,000
+ * bytes, which each round evaluates: 0.07 ms a step, or 1 ns for each byte of the program, and twice that while the machine was
+ * busy. Reckon with at most 0.2 ms, or 3 ns a byte.
  * The calls that print a text go through the list twice more, to measure the text and to print it: some 5 to 20 ns a record,
  * and 10 ns for each declared bit.
  * A call cannot be cancelled: give it a limit that may be waited for, or make it in a process that may be ended. (A later
@@ -39,6 +41,9 @@
  *     3 ns more for each byte of the program. For 1 s these are some 300,000 steps at 1,000 bytes and 5,000 at 65,535.
  *     (1,000,000 steps may take 200 s there.)
  *
+ * Coming from 1.4: an index inside a loop may be there because the loop has a round, as x[0] inside `for i = 1..n-1` where x has
+ * n cells. It was refused with 12 before. Only programs that were refused with 12 are answered otherwise: they are accepted, or
+ * refused for what comes later. Numbers, records, steps and texts are what they were, and a host needs no change.
  * Coming from 1.3: a program may hand a part of a register to a parameter that takes a register, by a slice (operand tag 50: a
  * number byte, the first index and the last one, which is in the slice). It was refused with 3 before. Numbers, records, steps
  * and texts are what they were, and a host needs no change.
@@ -58,7 +63,7 @@ extern "C" {
 #endif
 
 /* The version of this header and of the archive that is built beside it. */
-#define METAQASM_VERSION "1.4.0"
+#define METAQASM_VERSION "1.5.0"
 
 /* The stack that a call needs at most, in KiB, for every program within the limits and beside what the host has in use there;
  * and what a check alone needs. On less, a deep program may end the process at the guard page below the stack. (The first

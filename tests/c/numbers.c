@@ -277,6 +277,6 @@ int main(void)
     entries();
     records();
     expect(METAQASM_RECORD_BYTES == 12, "a record", "12 bytes");
-    expect(strcmp(METAQASM_VERSION, "1.4.0") == 0, "the version", "1.4.0");
+    expect(strcmp(METAQASM_VERSION, "1.5.0") == 0, "the version", "1.5.0");
     return closed();
 }
