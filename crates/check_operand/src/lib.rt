@@ -70,7 +70,7 @@ fn answered(verdict: Verdict, at: usize, next: usize) -> Read
     }
 }
 
-// Shows f to be 0 or more. The plain rule shows nearly all there is to show, so it is asked by itself first.
+// Shows f to be 0 or more: by the plain rule, and only where that does not show it by a trial.
 fn show(f: &Form, variables: usize, loops: usize, lows: &[Form], highs: &[Form]) -> Verdict
     requires { ⌜ Kept (now f) ⌝ }
     requires { ⌜ variables + loops ≤ allVariables ⌝ }
@@ -81,11 +81,8 @@ fn show(f: &Form, variables: usize, loops: usize, lows: &[Form], highs: &[Form])
     let s = forms::show_plainly(f, variables, loops, lows, highs);
     let plain = s.verdict;
     match plain {
-        Verdict::Shown => Verdict::Shown,
-        _ => {
-            let t = forms::show(f, variables, loops, lows, highs);
-            t.verdict
-        }
+        Verdict::NotShown => forms::tried(f, variables, loops, lows, highs),
+        _ => plain,
     }
 }
 
@@ -109,12 +106,11 @@ pub fn must_show(
     let s = forms::show_plainly(f, variables, loops, lows, highs);
     let plain = s.verdict;
     match plain {
-        Verdict::Shown => Read::Upto(next),
-        _ => {
-            let t = forms::show(f, variables, loops, lows, highs);
-            let verdict = t.verdict;
-            answered(verdict, at, next)
+        Verdict::NotShown => {
+            let v = forms::tried(f, variables, loops, lows, highs);
+            answered(v, at, next)
         }
+        _ => answered(plain, at, next),
     }
 }
 

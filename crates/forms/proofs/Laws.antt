@@ -8,11 +8,11 @@ use lib.IntN.{ℤ, pos, negsuc, _+ℤ_, _-ℤ_, _*ℤ_, +ℤ-idl, +ℤ-idr, *ℤ
 use native.Mathlib.Numerals.{add-one}
 use lib.ListN.{length, getD, set, take, drop, replicate, length-map, length-take, drop-of-length-le, List·getD-map}
 use lib.Seq.{drop-cons, getD-take, length-take-le, set-getD}
-use Rattle.language.specs.Form.{Form, Built, built, outOfRange, isZero, closed, Loop, beyondRange, Showing, shown, plainly, lessRange, isShown, trial, byTrial, orTried, showing, showingOf, inRange, allInRange, zipped, build, sumOf, differenceOf, multipleOf, _thenBuild_, constantForm, termsPutIn}
+use Rattle.language.specs.Form.{Form, Built, built, outOfRange, isZero, closed, Loop, beyondRange, Showing, plainly, lessRange, isShown, trial, byTrial, orTried, showing, showingOf, inRange, allInRange, zipped, build, sumOf, differenceOf, multipleOf, _thenBuild_, constantForm, termsPutIn}
 use Rattle.language.specs.Settled.{coefficient, Scan, ended, oneMore, thenScan, scan, remaining, after, onward, Settling, settling, goneThrough}
 use Rattle.language.specs.Trials.{trialsFor, trialsMade}
 use Rattle.language.proofs.Settled.{next-law, agree-law, gone-most}
-use Rattle.language.proofs.Trials.{trials-most}
+use Rattle.language.proofs.Trials.{for-most, trials-most}
 use Rattle.forms.specs.Flat.{Kept, asForm, builtOf}
 use Rattle.language.proofs.Integers.{integers, plus, minus, times, clash}
 use Rattle.forms.proofs.Lists.{sum-flat, difference-flat, ranges, rest-good, rest-bad, rest-none, Passed, begun, again, stopped, ended-kept, both, zero-yes, zero-no, term-flat, rest-long, set-kept}
@@ -148,11 +148,6 @@ gone-few m n l h e p = omega (arith, gone-most m (loopsOf n l h) e, length-loops
 pub trials-few : (m n : ℕ) (l h : List (List ℤ)) (e : Built) {k : ℕ} → k ≡ trialsMade m (loopsOf n l h) e → k ≤ n
 trials-few m n l h e p = omega (arith, trials-most m (loopsOf n l h) e, length-loops n l h)
 
--- what the plain rule shows is shown
-pub plain-shows : (m : ℕ) (ls : List Loop) (e : Built) → plainly m ls e ≡ shown → shown ≡ showing m ls e
-unfolding showing orTried
-plain-shows m ls e q = ap (λ (x : Showing). orTried x (byTrial m ls ls e)) (sym q)
-
 pub show-outside : (m : ℕ) (ls : List Loop) → showing m ls outOfRange ≡ beyondRange
 unfolding showing orTried plainly _thenBuild_ showingOf
 show-outside m ls = refl
@@ -285,49 +280,32 @@ module _ (m : ℕ) (ls : List Loop) (l : Loop) (f : Form) where
   unfolding trial plainly isShown showingOf _thenBuild_
   trial-out e = ap (λ (b : Built). isShown (plainly m ls b)) e
 
--- what holds after so many trials, none of which shows e
-pub record Tried (m : ℕ) (ls : List Loop) (l h : List (List ℤ)) (e : Built) (loops made : ℕ) : Type 0 where
-  pub bound : made ≤ loops
-  pub answer : byTrial m ls (loopsOf loops l h) e ≡ byTrial m ls (loopsOf (loops - made) l h) e
-  pub count : trialsFor m ls (loopsOf loops l h) e ≡ made + trialsFor m ls (loopsOf (loops - made) l h) e
-
+-- the trials for the outermost loops, so many: of none; where the innermost of them shows e, and where it does not
 module _ (m : ℕ) (ls : List Loop) (l h : List (List ℤ)) (e : Built) where
-  -- the trial for the innermost loop of those that are left, and those outside it
-  innermost : (j : ℕ) (b : Bool) → trial m ls (loopAt j l h) e ≡ b → (byTrial m ls (loopsOf (suc j) l h) e ≡ (b || byTrial m ls (loopsOf j l h) e)) × (trialsFor m ls (loopsOf (suc j) l h) e ≡ suc (cond b 0 (trialsFor m ls (loopsOf j l h) e)))
+  pub tried-none : (n : ℕ) → n ≡ 0 → (false ≡ byTrial m ls (loopsOf n l h) e) × (0 ≡ trialsFor m ls (loopsOf n l h) e)
   unfolding byTrial trialsFor loopsOf
-  innermost j b t = (ap (λ (x : Bool). x || byTrial m ls (loopsOf j l h) e) t, ap (λ (x : Bool). suc (cond x 0 (trialsFor m ls (loopsOf j l h) e))) t)
+  tried-none n q = (sym (ap (λ (k : ℕ). byTrial m ls (loopsOf k l h) e) q), sym (ap (λ (k : ℕ). trialsFor m ls (loopsOf k l h) e) q))
 
-  none-left : (byTrial m ls (loopsOf 0 l h) e ≡ false) × (trialsFor m ls (loopsOf 0 l h) e ≡ 0)
+  innermost : (n : ℕ) → 0 < n → (b : Bool) → trial m ls (loopAt (n - 1) l h) e ≡ b → ((b || byTrial m ls (loopsOf (n - 1) l h) e) ≡ byTrial m ls (loopsOf n l h) e) × (suc (cond b 0 (trialsFor m ls (loopsOf (n - 1) l h) e)) ≡ trialsFor m ls (loopsOf n l h) e)
   unfolding byTrial trialsFor loopsOf
-  none-left = (refl, refl)
+  innermost zero p b t = absurd (omega arith)
+  innermost (suc j) p b t =
+      let d : suc j - 1 ≡ j = omega arith in
+      let q : trial m ls (loopAt j l h) e ≡ b = ap (λ (i : ℕ). trial m ls (loopAt i l h) e) (sym d) ∙ t in (
+        ap (λ (i : ℕ). b || byTrial m ls (loopsOf i l h) e) d ∙ ap (λ (x : Bool). x || byTrial m ls (loopsOf j l h) e) (sym q),
+        ap (λ (i : ℕ). suc (cond b 0 (trialsFor m ls (loopsOf i l h) e))) d ∙ ap (λ (x : Bool). suc (cond x 0 (trialsFor m ls (loopsOf j l h) e))) (sym q),
+      )
 
-  pub tried-begun : (loops : ℕ) → Tried m ls l h e loops 0
-  tried-begun loops = record { bound = omega arith; answer = ap (λ (n : ℕ). byTrial m ls (loopsOf n l h) e) d; count = ap (λ (n : ℕ). trialsFor m ls (loopsOf n l h) e) d ∙ (let w : trialsFor m ls (loopsOf (loops - 0) l h) e ≡ 0 + trialsFor m ls (loopsOf (loops - 0) l h) e = omega arith in w) }
-    where
-      d : loops ≡ loops - 0
-      d = omega arith
+  module _ (n : ℕ) (p : 0 < n) where
+    pub tried-hit : trial m ls (loopAt (n - 1) l h) e ≡ true → (true ≡ byTrial m ls (loopsOf n l h) e) × (1 ≡ trialsFor m ls (loopsOf n l h) e)
+    tried-hit q = innermost n p true q
 
-  module _ {loops made : ℕ} (t : Tried m ls l h e loops made) where
-    module _ (p : made < loops) where
-      left-is : loops - made ≡ suc (loops - (made + 1))
-      left-is = omega arith
+    pub tried-miss : trial m ls (loopAt (n - 1) l h) e ≡ false → {b : Bool} {k : ℕ} → b ≡ byTrial m ls (loopsOf (n - 1) l h) e → k ≡ trialsFor m ls (loopsOf (n - 1) l h) e → (b ≡ byTrial m ls (loopsOf n l h) e) × (k + 1 ≡ trialsFor m ls (loopsOf n l h) e)
+    tried-miss q u v = let i = innermost n p false q in (u ∙ i .0, ap (λ (k : ℕ). k + 1) v ∙ rw add-one (i .1))
 
-      next : (b : Bool) → trial m ls (loopAt (loops - (made + 1)) l h) e ≡ b → (byTrial m ls (loopsOf loops l h) e ≡ (b || byTrial m ls (loopsOf (loops - (made + 1)) l h) e)) × (trialsFor m ls (loopsOf loops l h) e ≡ made + suc (cond b 0 (trialsFor m ls (loopsOf (loops - (made + 1)) l h) e)))
-      next b q =
-          let i = innermost (loops - (made + 1)) b q in
-          (t .answer ∙ ap (λ (n : ℕ). byTrial m ls (loopsOf n l h) e) left-is ∙ i .0, t .count ∙ ap (λ (n : ℕ). made + trialsFor m ls (loopsOf n l h) e) left-is ∙ ap (λ (n : ℕ). made + n) (i .1))
-
-      pub tried-hit : trial m ls (loopAt (loops - (made + 1)) l h) e ≡ true → (true ≡ byTrial m ls (loopsOf loops l h) e) × (made + 1 ≡ trialsFor m ls (loopsOf loops l h) e)
-      tried-hit q = let n = next true q in (sym (n .0), sym (n .1))
-
-      pub tried-miss : trial m ls (loopAt (loops - (made + 1)) l h) e ≡ false → Tried m ls l h e loops (made + 1)
-      tried-miss q = let n = next false q in record { bound = omega arith; answer = n .0; count = n .1 ∙ (let w : made + suc (trialsFor m ls (loopsOf (loops - (made + 1)) l h) e) ≡ made + 1 + trialsFor m ls (loopsOf (loops - (made + 1)) l h) e = omega arith in w) }
-
-    pub tried-out : loops ≤ made → (false ≡ byTrial m ls (loopsOf loops l h) e) × (made ≡ trialsFor m ls (loopsOf loops l h) e)
-    tried-out p =
-        let d : loops - made ≡ 0 = omega (arith, t .bound) in
-        let w : made + 0 ≡ made = omega arith in
-        (sym (t .answer ∙ ap (λ (n : ℕ). byTrial m ls (loopsOf n l h) e) d ∙ none-left .0), sym (t .count ∙ ap (λ (n : ℕ). made + trialsFor m ls (loopsOf n l h) e) d ∙ ap (λ (n : ℕ). made + n) (none-left .1) ∙ w))
+  -- no more trials are made than there are of these loops
+  pub tried-few : (n : ℕ) {k : ℕ} → k ≡ trialsFor m ls (loopsOf n l h) e → k ≤ n
+  tried-few n q = omega (arith, for-most m ls (loopsOf n l h) e, length-loops n l h)
 
 -- ---- forms that are set
 

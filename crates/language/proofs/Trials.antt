@@ -86,7 +86,8 @@ none-of m ls (l ∷ tried) e t = go (none-of m ls tried e) (trial m ls l e) refl
       none = here h (later t);
     }
 
-for-most : (m : ℕ) (ls tried : List Loop) (e : Built) → trialsFor m ls tried e ≤ length tried
+-- no more than these loops
+pub for-most : (m : ℕ) (ls tried : List Loop) (e : Built) → trialsFor m ls tried e ≤ length tried
 unfolding trialsFor
 for-most m ls [] e = omega arith
 for-most m ls (l ∷ tried) e = go (for-most m ls tried e) (trial m ls l e)

@@ -2,6 +2,7 @@
 use borrow.Author.Needs.{needs}
 use Rattle.forms.proofs.show.Statement.{statement}
 use Rattle.forms.proofs.show.Tie as tie
+use native.Mathlib.Omega.{arith}
 use mathlib.Core.Path.{sym, ap, _∙_}
 use Rattle.language.specs.Form.{showing}
 use Rattle.language.specs.Trials.{trialsMade}
@@ -15,7 +16,7 @@ enum-told : tie.Need-enum-told
 enum-told c = search needs
 
 try-loops-requires : tie.Need-try-loops-requires
-try-loops-requires c κs = search needs
+try-loops-requires c κs = let p = c .before .before .before .pre in (p .0, (p .1 .0, (p .1 .1 .0, (p .1 .1 .1, omega arith))))
 
 verdict-of-requires : tie.Need-verdict-of-requires
 verdict-of-requires c κs = search needs
