@@ -36,7 +36,9 @@ sum-but-requires : tie.Need-sum-but-requires
 sum-but-requires c κs =
     let s = c .before .before .before .before in
     let k = k-in s in
-    (s .pre .0, (s .pre .1 .0, (omega (arith, s .pre .1 .1 .0), (ap inRange (range-back k) ∙ k, s .pre .1 .1 .1 .1 .1 .each (s .args .n) (omega arith)))))
+    let low = s .pre .1 .1 .1 .1 .0 .each (s .args .n) (omega arith) in
+    let high = s .pre .1 .1 .1 .1 .1 .each (s .args .n) (omega arith) in
+    (s .pre .0, (s .pre .1 .0, (omega (arith, s .pre .1 .1 .0), (ap inRange (range-back k) ∙ k, search needs))))
 
 returns : tie.Need-returns
 returns c =
@@ -57,7 +59,9 @@ sum-but-requires-2 : tie.Need-sum-but-requires-2
 sum-but-requires-2 c κs =
     let s = c .before .before .before .before in
     let k = k-in s in
-    (s .pre .0, (s .pre .1 .0, (omega (arith, s .pre .1 .1 .0), (ap inRange (range-back k) ∙ k, s .pre .1 .1 .1 .1 .0 .each (s .args .n) (omega arith)))))
+    let low = s .pre .1 .1 .1 .1 .0 .each (s .args .n) (omega arith) in
+    let high = s .pre .1 .1 .1 .1 .1 .each (s .args .n) (omega arith) in
+    (s .pre .0, (s .pre .1 .0, (omega (arith, s .pre .1 .1 .0), (ap inRange (range-back k) ∙ k, search needs))))
 
 returns-2 : tie.Need-returns-2
 returns-2 c =
