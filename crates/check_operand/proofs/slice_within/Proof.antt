@@ -41,7 +41,9 @@ slice-size-requires c κs =
 
 show-requires-2 : tie.Need-show-requires-2
 show-requires-2 c κs =
-    (c .before .before .slice-size .ensures .1 (c .before .if1 .taken), c .before .before .before .before .before .before .before .before .before .before .before .pre .1 .1 .1)
+    let first = c .before .before .before .before .before .before .before .before .before .before .before .pre .0 in
+    let last = c .before .before .slice-size .ensures .1 (c .before .if1 .taken) in
+    (search needs, c .before .before .before .before .before .before .before .before .before .before .before .pre .1 .1 .1)
 
 returns-3 : tie.Need-returns-3
 unfolding shownForm
