@@ -41,9 +41,10 @@ slice-size-requires c κs =
 
 show-requires-2 : tie.Need-show-requires-2
 show-requires-2 c κs =
-    let first = c .before .before .before .before .before .before .before .before .before .before .before .pre .0 in
-    let last = c .before .before .slice-size .ensures .1 (c .before .if1 .taken) in
-    (search needs, c .before .before .before .before .before .before .before .before .before .before .before .pre .1 .1 .1)
+    let p = c .before .before .before .before .before .before .before .before .before .before .before .pre .1 .1 .1 in
+    let low = p .1 .0 in
+    let high = p .1 .1 in
+    (c .before .before .slice-size .ensures .1 (c .before .if1 .taken), (p .0, (search needs, search needs)))
 
 returns-3 : tie.Need-returns-3
 unfolding shownForm
