@@ -34,6 +34,10 @@ use Rattle.kinds.proofs.Kind as K
 use Rattle.kinds.specs.declared.Kind as D
 use Rattle.language.specs.Check as C
 
+-- what a showing, with a form beside it, answers
+abbrev withForm : ℕ → Showing → List ℤ → Checked Form
+withForm at x l = byShowing at x >> good (asForm l)
+
 -- a slice of a register of a size: what is shown of it, one after the other
 module _ (at : ℕ) (s : C.Scope) (size first last : Form) where
   abbrev sizeShown : Built → Checked Form
@@ -42,16 +46,12 @@ module _ (at : ℕ) (s : C.Scope) (size first last : Form) where
   abbrev lastShown : Checked Form
   lastShown = mustShow at s (roomAfter size last) >> sizeShown (sliceSize first last)
 
-  -- what a verdict x, with a form beside it, answers
-  abbrev answered : Showing → List ℤ → Checked Form
-  answered x l = byShowing at x >> good (asForm l)
-
   module _ {x : Showing} (e : x ≡ showing (s .variables) (s .loops) (built first)) where
     first-is : (byShowing at x >> lastShown) ≡ checkSlice at s size first last
     unfolding checkSlice mustShow
     first-is = ap (λ (z : Showing). byShowing at z >> lastShown) e
 
-    pub first-stops : (l : List ℤ) → false ≡ isShown x → answered x l ≡ checkSlice at s size first last
+    pub first-stops : (l : List ℤ) → false ≡ isShown x → withForm at x l ≡ checkSlice at s size first last
     first-stops l h = stops at x h (good (asForm l)) lastShown ∙ first-is
 
     module _ (h : x ≡ shown) {y : Showing} (d : y ≡ showing (s .variables) (s .loops) (roomAfter size last)) where
@@ -59,20 +59,20 @@ module _ (at : ℕ) (s : C.Scope) (size first last : Form) where
       unfolding mustShow
       last-is = ap (λ (z : Showing). byShowing at z >> sizeShown (sliceSize first last)) d ∙ goes at h lastShown ∙ first-is
 
-      pub last-stops : (l : List ℤ) → false ≡ isShown y → answered y l ≡ checkSlice at s size first last
+      pub last-stops : (l : List ℤ) → false ≡ isShown y → withForm at y l ≡ checkSlice at s size first last
       last-stops l k = stops at y k (good (asForm l)) (sizeShown (sliceSize first last)) ∙ last-is
 
       module _ (k : y ≡ shown) where
         size-is : sizeShown (sliceSize first last) ≡ checkSlice at s size first last
         size-is = goes at k (sizeShown (sliceSize first last)) ∙ last-is
 
-        pub size-outside : (l : List ℤ) → sliceSize first last ≡ outOfRange → answered beyondRange l ≡ checkSlice at s size first last
+        pub size-outside : (l : List ℤ) → sliceSize first last ≡ outOfRange → withForm at beyondRange l ≡ checkSlice at s size first last
         unfolding inForm _>>=_ byShowing _>>_
         size-outside l q = sym (ap sizeShown q) ∙ size-is
 
-        pub size-shown : (l : List ℤ) → sliceSize first last ≡ built (asForm l) → {z : Showing} → z ≡ showing (s .variables) (s .loops) (built (asForm l)) → answered z l ≡ checkSlice at s size first last
+        pub size-shown : (l : List ℤ) → sliceSize first last ≡ built (asForm l) → {z : Showing} → z ≡ showing (s .variables) (s .loops) (built (asForm l)) → withForm at z l ≡ checkSlice at s size first last
         unfolding inForm _>>=_ mustShow
-        size-shown l q v = ap (λ (z : Showing). answered z l) v ∙ sym (ap sizeShown q) ∙ size-is
+        size-shown l q v = ap (λ (z : Showing). withForm at z l) v ∙ sym (ap sizeShown q) ∙ size-is
 
 -- whether a slice fits: not where no register is due or none stands there, else by the answer on where it lies
 module _ (at : ℕ) (s : C.Scope) (m : List ℤ) (size first last : Form) where
@@ -88,11 +88,11 @@ module _ (at : ℕ) (s : C.Scope) (m : List ℤ) (size first last : Form) where
   slice-no-register b Quantum h = absurd (miss (0 ∷ 2 ∷ []) 1 tt h)
   slice-no-register b Classical h = refl
 
-  module _ (b : Bool) (x : Showing) (l : List ℤ) (v : (byShowing at x >> good (asForm l)) ≡ checkSlice at s size first last) where
+  module _ (b : Bool) (x : Showing) (l : List ℤ) (v : withForm at x l ≡ checkSlice at s size first last) where
     abbrev enough : Form → Checked (Unit {0})
     enough n = wholeFits at s (wantedOf (Register b) m) (C.quantum n)
 
-    fits-is : ((byShowing at x >> good (asForm l)) >>= enough) ≡ sliceFits at s (wantedOf (Register b) m) (kindIn Quantum size) first last
+    fits-is : (withForm at x l >>= enough) ≡ sliceFits at s (wantedOf (Register b) m) (kindIn Quantum size) first last
     unfolding sliceFits slicedSize wantedOf kindIn _>>=_
     fits-is = ap (λ (c : Checked Form). c >>= enough) v
 
@@ -100,7 +100,7 @@ module _ (at : ℕ) (s : C.Scope) (m : List ℤ) (size first last : Form) where
     unfolding isShown byShowing _>>_ _>>=_
     lies-stops q = stopped x q ∙ fits-is
       where
-        stopped : (x : Showing) → false ≡ isShown x → byShowing at x ≡ ((byShowing at x >> good (asForm l)) >>= enough)
+        stopped : (x : Showing) → false ≡ isShown x → byShowing at x ≡ (withForm at x l >>= enough)
         stopped shown q = absurd (let z : _≡_ {A = ℕ} 0 1 = cc in omega arith)
         stopped notShown q = refl
         stopped beyondRange q = refl

@@ -70,7 +70,7 @@ fn answered(verdict: Verdict, at: usize, next: usize) -> Read
     }
 }
 
-// Shows f to be 0 or more: by the plain rule, and only where that does not show it by a trial.
+// Shows f to be 0 or more.
 fn show(f: &Form, variables: usize, loops: usize, lows: &[Form], highs: &[Form]) -> Verdict
     requires { ⌜ Kept (now f) ⌝ }
     requires { ⌜ variables + loops ≤ allVariables ⌝ }
@@ -78,12 +78,8 @@ fn show(f: &Form, variables: usize, loops: usize, lows: &[Form], highs: &[Form])
     requires { ⌜ Rows (now highs) loops ⌝ }
     ensures { λ r. ⌜ shownOf r ≡ showing variables (loopsOf loops (now (lows .entry)) (now (highs .entry))) (built (asForm (now (f .entry)))) ⌝ }
 {
-    let s = forms::show_plainly(f, variables, loops, lows, highs);
-    let plain = s.verdict;
-    match plain {
-        Verdict::NotShown => forms::tried(f, variables, loops, lows, highs),
-        _ => plain,
-    }
+    let s = forms::show(f, variables, loops, lows, highs);
+    s.verdict
 }
 
 // Shows f to be 0 or more, for the field from `at` to `next`.
@@ -103,15 +99,8 @@ pub fn must_show(
     ensures { λ r. ⌜ ((fs : List Signature) (ks : List Kind) → checkedPart r ≡ mustShow at (scopeWith fs ks variables (loopsOf loops (now (lows .entry)) (now (highs .entry)))) (built (asForm (now (f .entry))))) ⌝ }
     ensures { λ r. ⌜ EndsAt next r ⌝ }
 {
-    let s = forms::show_plainly(f, variables, loops, lows, highs);
-    let plain = s.verdict;
-    match plain {
-        Verdict::NotShown => {
-            let v = forms::tried(f, variables, loops, lows, highs);
-            answered(v, at, next)
-        }
-        _ => answered(plain, at, next),
-    }
+    let v = show(f, variables, loops, lows, highs);
+    answered(v, at, next)
 }
 
 // Shows that a register of a size goes on after the index f: size − 1 − f is 0 or more.

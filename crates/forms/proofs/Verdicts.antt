@@ -1,12 +1,12 @@
 -- Verdicts other than the one that a match names. Assumes nothing.
 use mathlib.Core.Path.{_≡_, refl, sym, ap}
-use mathlib.Core.List.{List, [], _∷_}
+use mathlib.Core.List.{[], _∷_}
 use mathlib.Core.Bool.{Bool, false}
 use Prim.Native.Nat.{ℕ}
 use native.Mathlib.Omega.{arith}
 use types.Run.{OneOf, miss}
 use denote.Enum.Declared.{tagOf}
-use Rattle.language.specs.Form.{Built, Loop, Showing, shown, notShown, beyondRange, plainly, isShown, byTrial, orTried, showing}
+use Rattle.language.specs.Form.{Showing, shown, notShown, beyondRange, isShown, orTried}
 use Rattle.language.specs.Trials.{ifNotShown}
 use Rattle.forms.proofs.Verdict.{the-type}
 use Rattle.forms.specs.declared.Verdict.{Verdict}
@@ -40,7 +40,3 @@ unfolding orTried ifNotShown shownOf
 not-tried Shown h e t made = (ap (λ (x : Showing). orTried x t) e, ap (λ (x : Showing). ifNotShown x made) e)
 not-tried NotShown h e t made = absurd (miss (0 ∷ 2 ∷ []) 1 tt h)
 not-tried OutOfRange h e t made = (ap (λ (x : Showing). orTried x t) e, ap (λ (x : Showing). ifNotShown x made) e)
-
-pub plain-answers : (v : Verdict) → OneOf (0 ∷ 2 ∷ []) (tagOf the-type v) → (m : ℕ) (ls : List Loop) (e : Built) → shownOf v ≡ plainly m ls e → shownOf v ≡ showing m ls e
-unfolding showing
-plain-answers v h m ls e q = not-tried v h q (byTrial m ls ls e) 0 .0

@@ -5,7 +5,7 @@ ghost use mathlib.Core.List.{List};
 ghost use Prim.Native.Nat.{_+_, _≤_, _<_};
 ghost use lib.ListN.{length, getD, set, drop, replicate};
 ghost use lib.IntN.{ℤ, pos, _+ℤ_, _*ℤ_};
-ghost use Rattle.language.specs.Form.{built, inRange, constantForm, variableForm, sumOf, differenceOf, multipleOf, _thenBuild_, allZero, closed, notShown, showingOf, plainly, lessRange, trial, byTrial, showing, putIn};
+ghost use Rattle.language.specs.Form.{built, inRange, constantForm, variableForm, sumOf, differenceOf, multipleOf, _thenBuild_, allZero, closed, showingOf, plainly, lessRange, trial, byTrial, showing, putIn};
 ghost use Rattle.language.specs.Settled.{goneThrough, remaining};
 ghost use Rattle.language.specs.Trials.{trialsFor, trialsMade};
 ghost use Rattle.language.specs.Tree.{Place, product};
@@ -395,13 +395,7 @@ fn scan(f: &mut Form, variables: usize, loops: usize, lows: &[Form], highs: &[Fo
 }
 
 // Shows f to be 0 or more by the plain rule, under so many family variables and open loops.
-pub fn show_plainly(
-    f: &Form,
-    variables: usize,
-    loops: usize,
-    lows: &[Form],
-    highs: &[Form],
-) -> Settling
+fn show_plainly(f: &Form, variables: usize, loops: usize, lows: &[Form], highs: &[Form]) -> Settling
     requires { ⌜ Kept (now f) ⌝ }
     requires { ⌜ variables + loops ≤ allVariables ⌝ }
     requires { ⌜ Rows (now lows) loops ⌝ }
@@ -477,7 +471,7 @@ fn try_loop(
 }
 
 // The trials of f for the outermost loops, so many, from the innermost of these out, up to the first that shows it.
-// It calls itself and not a loop, so that it stays a function of its own: what shows a form by the plain rule is small beside it.
+// It calls itself: a loop would be copied into each place that shows a form, and make those slower that need no trial.
 fn try_loops(
     f: &Form,
     variables: usize,
@@ -512,18 +506,6 @@ fn try_loops(
         shown: t.shown,
         made,
     }
-}
-
-// What the trials show of a form that the plain rule does not show.
-pub fn tried(f: &Form, variables: usize, loops: usize, lows: &[Form], highs: &[Form]) -> Verdict
-    requires { ⌜ Kept (now f) ⌝ }
-    requires { ⌜ variables + loops ≤ allVariables ⌝ }
-    requires { ⌜ Rows (now lows) loops ⌝ }
-    requires { ⌜ Rows (now highs) loops ⌝ }
-    ensures { λ r. ⌜ (plainly variables (loopsOf loops (now (lows .entry)) (now (highs .entry))) (built (asForm (now (f .entry)))) ≡ notShown → shownOf r ≡ showing variables (loopsOf loops (now (lows .entry)) (now (highs .entry))) (built (asForm (now (f .entry))))) ⌝ }
-{
-    let t = try_loops(f, variables, loops, lows, highs, loops);
-    verdict_of(t.shown)
 }
 
 // Shows f to be 0 or more, under so many family variables and open loops: by the plain rule, and only where that does not show it by a trial.
