@@ -88,7 +88,7 @@ fn answers(fields: &[Field]) -> Vec<ShowingOutcome> {
 }
 
 /// Tests that a program is full and accepted, with so many showings in each statement, all by
-/// the eighth trial and through nearly all loops.
+/// the eighth trial, and through all loops by the plain rule.
 fn hold(fields: &[Field], showings: usize) {
     let bytes = program(fields);
     assert!((65_400..=65_535).contains(&bytes.len()), "{}", bytes.len());
