@@ -41,6 +41,12 @@
  *     3 ns more for each byte of the program. For 1 s these are some 300,000 steps at 1,000 bytes and 5,000 at 65,535.
  *     (1,000,000 steps may take 200 s there.)
  *
+ * Coming from 1.5: a family may take families. The type of such a parameter (tag 18) says how many sizes and which wires and
+ * registers a family has that is passed there; a call passes a declared family by its two-byte number (operand tag 51), and the
+ * body calls its parameter (statement tag 42). These tags were refused with 3 before. Be ready for two more numbers: 33, where
+ * a program passes a family that is not declared before the one it calls, and 34 from an instance, where it is asked of a
+ * family that takes families. A program without the new tags is answered as it was, and records, steps and texts are what they
+ * were.
  * Coming from 1.4: an index inside a loop may be there because the loop has a round, as x[0] inside `for i = 1..n-1` where x has
  * n cells. It was refused with 12 before. Only programs that were refused with 12 are answered otherwise: they are accepted, or
  * refused for what comes later. Numbers, records, steps and texts are what they were, and a host needs no change.
@@ -63,7 +69,7 @@ extern "C" {
 #endif
 
 /* The version of this header and of the archive that is built beside it. */
-#define METAQASM_VERSION "1.5.0"
+#define METAQASM_VERSION "1.6.0"
 
 /* The stack that a call needs at most, in KiB, for every program within the limits and beside what the host has in use there;
  * and what a check alone needs. On less, a deep program may end the process at the guard page below the stack. (The first
@@ -80,8 +86,8 @@ extern "C" {
 #define METAQASM_MOST_REGISTERS 255      /* qregs and cregs together */
 #define METAQASM_MOST_QUBITS 65535       /* of all qregs, or of an instance's parameters */
 #define METAQASM_MOST_BITS 65535         /* of all cregs */
-#define METAQASM_MOST_INDEX_VARIABLES 4  /* of a family */
-#define METAQASM_MOST_PARAMETERS 8       /* of a family, which has 1 at least */
+#define METAQASM_MOST_INDEX_VARIABLES 4  /* of a family, and of a family type */
+#define METAQASM_MOST_PARAMETERS 8       /* of a family, and of a family type, which have 1 at least */
 #define METAQASM_MOST_OPEN_LOOPS 8
 #define METAQASM_MOST_NESTING 16         /* of statements, and of indexes */
 #define METAQASM_MOST_INDEX 2000000000   /* of an index, above 0 and below */
@@ -117,6 +123,8 @@ extern "C" {
  *             and records and steps count it.
  *   31        from every call: the program is refused, as with 1 to 13
  *   32        from an instance or a run: it has ended early, as with 24 to 27
+ *   33        from every call: the program is refused, as with 1 to 13
+ *   34        from an instance: what is asked for cannot be had, as with 20 to 23
  *
  * A call that prints a text answers as an instance or a run does, and with 30 after all else. Where its number is not 0, the
  * text is as it was. */
@@ -144,7 +152,8 @@ static inline const char *metaqasm_message(uint32_t number)
  *
  * number   0: done. Otherwise the program or the call is turned down, or the run has ended early (see above)
  * place    the offset in the program of the tag that the number is about: for 24 to 27 and 32 that of the statement (or, where
- *          a parameter's size is out of range, of its type), for 23 that of the type; 0 where the number is 0, 20 to 22 or 30
+ *          a parameter's size is out of range, of its type), for 23 that of the type; 0 where the number is 0, 20 to 22, 30 or
+ *          34
  * records  how many 12-byte records are written
  * steps    how many steps are taken
  */
@@ -156,7 +165,8 @@ typedef struct {
 } metaqasm_result;
 
 /* Checks a program. Number 0 says that it is accepted: then every run of it, and every instance of every family of it at
- * every sizes, comes to one of the ends above and never to anything else. Records and steps are 0, as nothing is run.
+ * every sizes, comes to one of the ends above and never to anything else. (For a family that takes families that is 34: only
+ * a call can pass one.) Records and steps are 0, as nothing is run.
  *
  * program  the program's bytes; NULL is allowed where program_len is 0 (the empty program, which is accepted) */
 metaqasm_result metaqasm_check(const uint8_t *program, size_t program_len);
@@ -203,7 +213,8 @@ enum metaqasm_condition {
  * limit    the most steps that may be taken
  * output   where the list is written; NULL is allowed where output_len is 0 (27 where a record is due)
  *
- * The parameters are laid out in order from wire 0 on: a Qbit takes one wire, a Qbit[I] as many as I's value at the sizes.
+ * The parameters are laid out in order from wire 0 on: a Qbit takes one wire, a Qbit[I] as many as I's value at the sizes. A
+ * family with a parameter that takes a family has no list of its own: 34, whatever the sizes are, and before 21 to 23.
  * Number 0 says that the list is complete. */
 metaqasm_result metaqasm_instance(const uint8_t *program, size_t program_len, uint32_t family, const uint8_t *sizes,
                                   size_t sizes_len, uint64_t limit, uint8_t *output, size_t output_len);

@@ -1,7 +1,7 @@
 /* A host: takes a guest's program, copies it, checks it, and prints instances and the whole run as lists of gates; first with
- * the paper's adder, then with the Fourier transform, then with a multiplier, which hands on slices. After the check the guest
- * changes its own bytes, and the lists stay what they are. Run it from the repository's root; it compares the lists with those
- * in examples. */
+ * the paper's adder, then with the Fourier transform, then with a multiplier, which hands on slices, then with one that takes
+ * its adder as an argument, and two adders. After the check the guest changes its own bytes, and the lists stay what they are.
+ * Run it from the repository's root; it compares the lists with those in examples. */
 #include "answers.h"
 #include "expect.h"
 #include "load.h"
@@ -45,6 +45,19 @@ static const question multiplier[] = {
     {"unmult at n = 1", 6, {1, 0, 0, 0}, 4, 16, "examples/multiplier.unmult.n1.list"},
     {"mult_printed at n = 2", 7, {2, 0, 0, 0}, 4, 42, "examples/multiplier.printed.n2.list"},
     {NULL, 0, {0}, 0, 86, "examples/multiplier.list"},
+};
+
+/* The families that pass an adder to the multiplier, with the index variable n: 9 mult_ripple, 10 mult_fourier,
+ * 11 unmult_ripple and 12 unmult_fourier. */
+static const question multiplier_of[] = {
+    {"mult_ripple at n = 0", 9, {0, 0, 0, 0}, 4, 0, "examples/multiplier-of.ripple.n0.list"},
+    {"mult_ripple at n = 1", 9, {1, 0, 0, 0}, 4, 82, "examples/multiplier-of.ripple.n1.list"},
+    {"mult_ripple at n = 2", 9, {2, 0, 0, 0}, 4, 296, "examples/multiplier-of.ripple.n2.list"},
+    {"mult_fourier at n = 1", 10, {1, 0, 0, 0}, 4, 16, "examples/multiplier-of.fourier.n1.list"},
+    {"mult_fourier at n = 2", 10, {2, 0, 0, 0}, 4, 74, "examples/multiplier-of.fourier.n2.list"},
+    {"unmult_ripple at n = 1", 11, {1, 0, 0, 0}, 4, 82, "examples/multiplier-of.unmult-ripple.n1.list"},
+    {"unmult_fourier at n = 1", 12, {1, 0, 0, 0}, 4, 16, "examples/multiplier-of.unmult-fourier.n1.list"},
+    {NULL, 0, {0}, 0, 382, "examples/multiplier-of.list"},
 };
 
 #define COUNT(list) (sizeof(list) / sizeof((list)[0]))
@@ -185,6 +198,22 @@ static void refusals(const uint8_t *program, size_t length)
            "untouched bytes past the records");
 }
 
+/* Asks for the multiplier without an adder: families 7 and 8, mult and unmult, take one. */
+static void without_adder(const uint8_t *program, size_t length)
+{
+    static const uint8_t two_cells[METAQASM_SIZE_BYTES] = {2};
+    uint8_t output[METAQASM_RECORD_BYTES];
+    metaqasm_result result;
+    uint32_t family;
+
+    memset(output, 0xA5, sizeof output);
+    for (family = 7; family <= 8; family++) {
+        result = metaqasm_instance(program, length, family, two_cells, sizeof two_cells, 1000000, output, sizeof output);
+        expect(is(result, METAQASM_HAS_FAMILY_PARAMETER, 0, 0, 0) && all(output, sizeof output, 0xA5), "no adder",
+               "34 and an untouched output");
+    }
+}
+
 /* A guest's bytes, which the guest may change at any time, and the host's own copy of them. */
 typedef struct {
     uint8_t guests[METAQASM_MOST_PROGRAM_BYTES + 1];
@@ -241,5 +270,8 @@ int main(void)
     }
     serve(&program, "examples/qft.bytes", fourier, COUNT(fourier));
     serve(&program, "examples/multiplier.bytes", multiplier, COUNT(multiplier));
+    if (serve(&program, "examples/multiplier-of.bytes", multiplier_of, COUNT(multiplier_of))) {
+        without_adder(program.own, program.length);
+    }
     return closed();
 }

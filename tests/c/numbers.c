@@ -55,6 +55,10 @@ static const uint8_t is_2[] = {3, 2, 0, 1, 0, 6, 10, 0, 2, 49, 6, 0, 0, 64, 2, 0
 static const uint8_t low_number[] = {39, 2, 0, 255, 0};
 /* a qreg of 1, and a phase on its wire whose k is 64 */
 static const uint8_t k_64[] = {2, 2, 0, 1, 0, 40, 14, 0, 64, 2, 0, 64, 0, 49, 6, 0, 0, 64, 2, 0, 0, 0};
+/* a family with a parameter that takes a family of one wire */
+static const uint8_t takes_family[] = {1, 10, 0, 0, 1, 18, 5, 0, 0, 1, 16, 0, 0};
+/* the same, and a call that passes it to itself */
+static const uint8_t to_itself[] = {1, 10, 0, 0, 1, 18, 5, 0, 0, 1, 16, 0, 0, 36, 6, 0, 0, 51, 2, 0, 0, 0};
 /* a family of n with two parameters Qbit[n] */
 static const uint8_t pair[] = {1, 16, 0, 1, 2, 17, 4, 0, 65, 1, 0, 0, 17, 4, 0, 65, 1, 0, 0};
 /* a family of n with a parameter Qbit[n * 40000] */
@@ -109,10 +113,12 @@ static const question questions[] = {
     PRINTED(bell, sizeof BELLS_TEXT - 2, TEXT_FULL, 30, 0),
     CHECKED(low_number, LOW_NUMBER, 31, 0),
     LISTED(k_64, 9, ROOM, K_TOO_LARGE, 32, 5),
+    CHECKED(to_itself, PASSED_TOO_LATE, 33, 17),
+    ASKED(takes_family, NULL, 0, HAS_FAMILY_PARAMETER, 34, 0),
 };
 
 /* Numbers that no call answers. */
-static const uint32_t unknown[] = {14,  15,  16,  17,  18,    19,          28,         29, 33,
+static const uint32_t unknown[] = {14,  15,  16,  17,  18,    19,          28,         29, 35,
                                    100, 255, 256, 268, 65536, 0x80000000u, 0xFFFFFFFFu};
 
 #define COUNT(list) (sizeof(list) / sizeof((list)[0]))
@@ -224,7 +230,7 @@ static void entries(void)
     };
     size_t i;
 
-    expect(COUNT(listed) == COUNT(questions), "metaqasm_numbers.def", "25 entries");
+    expect(COUNT(listed) == COUNT(questions), "metaqasm_numbers.def", "27 entries");
     for (i = 0; i < COUNT(listed) && i < COUNT(questions); i++) {
         expect(listed[i] == questions[i].value, metaqasm_message(listed[i]), "entries in order");
     }
@@ -277,6 +283,6 @@ int main(void)
     entries();
     records();
     expect(METAQASM_RECORD_BYTES == 12, "a record", "12 bytes");
-    expect(strcmp(METAQASM_VERSION, "1.5.0") == 0, "the version", "1.5.0");
+    expect(strcmp(METAQASM_VERSION, "1.6.0") == 0, "the version", "1.6.0");
     return closed();
 }

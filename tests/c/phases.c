@@ -194,8 +194,8 @@ static void refusals(void)
     built.bytes[FIRST + 1]++;
     refused("a byte behind the wire", METAQASM_BAD_CONTENT, FIRST);
     begin_program();
-    put((const uint8_t[]){CPHASE + 1, 0, 0}, 3);
-    refused("tag 42", METAQASM_BAD_TAG, FIRST);
+    put((const uint8_t[]){CPHASE + 2, 0, 0}, 3);
+    refused("tag 43", METAQASM_BAD_TAG, FIRST);
 }
 
 int main(void)

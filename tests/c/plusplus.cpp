@@ -7,7 +7,7 @@
 #include <string>
 #include <vector>
 
-static_assert(METAQASM_NOT_SHOWN == 12 && METAQASM_K_TOO_LARGE == 32, "constants can be used where C++ asks for one");
+static_assert(METAQASM_NOT_SHOWN == 12 && METAQASM_HAS_FAMILY_PARAMETER == 34, "constants can be used where C++ asks for one");
 
 int main()
 {

@@ -1,6 +1,6 @@
 #!/usr/bin/env bash
 # Builds the C and C++ programs over the archive and runs them: as they are, with the compiler's sanitizers and under valgrind;
-# then the host of ten lines, and the adder, the Fourier transform and the multiplier in libquantum. What is not there is left
+# then the host of ten lines, and the adder, the Fourier transform and both multipliers in libquantum. What is not there is left
 # out, with a line `skipped: ..`. Run it after `rt staticlib metaqasm`. Its last line is `N passed, M failed`, and it succeeds
 # only with M = 0.
 set -u

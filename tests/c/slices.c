@@ -314,7 +314,7 @@ static const refusal refusals[] = {
     {"a variable as the first index", {EACH_1(19), SLICE, 10, 0, 0, 65, 1, 0, 0, ZERO}, 22, METAQASM_NOT_IN_SCOPE, 13},
     {"a variable as the last index", {EACH_1(19), SLICE, 10, 0, 0, ZERO, 65, 1, 0, 0}, 22, METAQASM_NOT_IN_SCOPE, 18},
     {"an operand as the last index", {EACH_1(19), SLICE, 10, 0, 0, ZERO, WHOLE, 1, 0, 0}, 22, METAQASM_BAD_TAG, 18},
-    {"tag 51", {EACH_1(20), SLICE + 1, 11, 0, 0, ZERO, ZERO}, 23, METAQASM_BAD_TAG, 9},
+    {"tag 52", {EACH_1(20), SLICE + 2, 11, 0, 0, ZERO, ZERO}, 23, METAQASM_BAD_TAG, 9},
     {"a slice where a size is due", {CALL, 15, 0, EACH, SLICE, 11, 0, 0, ZERO, ZERO}, 18, METAQASM_BAD_TAG, 4},
 };
 

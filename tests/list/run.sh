@@ -72,6 +72,14 @@ family multiplier.n1 multiplier 5 1
 family multiplier.n2 multiplier 5 2
 family multiplier.unmult.n1 multiplier 6 1
 family multiplier.printed.n2 multiplier 7 2
+family multiplier-of.ripple.n0 multiplier-of 9 0
+family multiplier-of.ripple.n1 multiplier-of 9 1
+family multiplier-of.ripple.n2 multiplier-of 9 2
+family multiplier-of.fourier.n1 multiplier-of 10 1
+family multiplier-of.fourier.n2 multiplier-of 10 2
+family multiplier-of.unmult-ripple.n1 multiplier-of 11 1
+family multiplier-of.unmult-fourier.n1 multiplier-of 12 1
+family multiplier-of.mult.n2 multiplier-of 7 2
 family slices.inner.n0 slices 1 0
 family slices.tails.n2 slices 2 2
 family there-and-back.there.n1 there-and-back 1 1
@@ -95,7 +103,7 @@ phases() {
 }
 gives 'phases' $'phase 3 0\ncphase 2 1 0\nif 0 1 cphasedg 63 0 1\nif 0 1 phasedg 0 1\nend 0 0 4 6' '' "$list" < <(phases)
 gives 'a k of 64' 'end 32 5 0 1' '' "$list" < <(printf '\2\2\0\1\0\50\16\0\100\2\0\100\0\61\6\0\0\100\2\0\0\0')
-gives 'a tag past the phases' 'end 3 0 0 0' '' "$list" < <(printf '\52\0\0')
+gives 'a tag past the statements' 'end 3 0 0 0' '' "$list" < <(printf '\53\0\0')
 
 # A family of n with x: Qbit[n] and h on each cell, a qreg of 3, and a call of the family at a size about a slice of the qreg.
 sliced() { # SIZE FIRST LAST
@@ -111,7 +119,7 @@ gives 'a slice past the register' 'end 12 57 0 0' '' "$list" < <(sliced 1 2 3)
 gives 'a slice that ends too far before its start' 'end 12 57 0 0' '' "$list" < <(sliced 0 2 0)
 gives 'a slice that is too small' 'end 12 57 0 0' '' "$list" < <(sliced 3 1 2)
 gives 'a slice as a wire' 'end 9 8 0 0' '' "$list" < <(printf '\2\2\0\2\0\40\16\0\62\13\0\0\100\2\0\0\0\100\2\0\0\0')
-gives 'a tag past the slices' 'end 3 8 0 0' '' "$list" < <(printf '\2\2\0\2\0\40\3\0\63\0\0')
+gives 'a tag past the operands' 'end 3 8 0 0' '' "$list" < <(printf '\2\2\0\2\0\40\3\0\64\0\0')
 
 # A family of n with x: Qbit[n], and h on a cell in a loop from 1 to n - 1, which has rounds where there are two cells or more.
 short_loop() { # CELL
@@ -121,6 +129,24 @@ short_loop() { # CELL
 gives 'a cell that the loop shows, at 0' 'end 0 0 0 1' '' "$list" 0 0 < <(short_loop 0)
 gives 'a cell that the loop shows, at 2' $'h 1\nend 0 0 1 3' '' "$list" 0 2 < <(short_loop 1)
 gives 'a cell that the loop does not show' 'end 12 35 0 0' '' "$list" 0 3 < <(short_loop 2)
+
+# Family 0 of one wire with t, family 1 of one wire with h, and family 2, which calls the family that is passed to it forward and
+# reversed; a qreg of 2, and a call of family 2 that passes a family, about wire 1.
+passing() { # FAMILY
+    printf '\1\14\0\0\1\20\0\0\41\4\0\60\1\0\0'
+    printf '\1\14\0\0\1\20\0\0\40\4\0\60\1\0\0'
+    printf '\1\40\0\0\2\22\5\0\0\1\20\0\0\20\0\0\52\5\0\0\60\1\0\1\45\10\0\52\5\0\0\60\1\0\1'
+    printf '\2\2\0\2\0\44\17\0\2\63\2\0%b\0\61\6\0\0\100\2\0\1\0' "\\0$1"
+}
+gives 'family 0 passed' $'t 1\ntdg 1\nend 0 0 2 6' '' "$list" < <(passing 0)
+gives 'family 1 passed' $'h 1\nh 1\nend 0 0 2 6' '' "$list" < <(passing 1)
+gives 'a family passed to itself' 'end 33 74 0 0' '' "$list" < <(passing 2)
+gives 'a family passed to itself, for a family' 'end 33 74 0 0' '' "$list" 2 < <(passing 2)
+gives 'a family that is not there, passed' 'end 8 74 0 0' '' "$list" < <(passing 3)
+gives 'a family with a family parameter' 'end 34 0 0 0' '' "$list" 2 < <(passing 0)
+gives 'a family with a family parameter, with sizes' 'end 34 0 0 0' '' "$list" 2 65536 1 < <(passing 0)
+gives 'a family behind one with a family parameter' 'end 20 0 0 0' '' "$list" 3 < <(passing 0)
+gives 'a call of a register' 'end 9 5 0 0' '' "$list" < <(printf '\2\2\0\2\0\52\1\0\0')
 
 # A library of 257 families of one wire: h in family 0, nothing in families 1 to 255, t in family 256; then a call of 256.
 long_library() {

@@ -2,10 +2,9 @@
 use mathlib.Core.Path.{_≡_, refl, sym, ap, _∙_}
 use mathlib.Core.Bool.{Bool, true, false, cond, _&&_}
 use mathlib.Core.List.{List, [], _∷_, _++_}
-use mathlib.Core.Logic.{⊎-elim}
 use Prim.Native.Nat.{ℕ, zero, suc, _+_, _*_, _-_, _≤_, _<_}
 use native.Mathlib.Omega.{arith}
-use types.Run.{OneOf}
+use types.Run.{OneOf, miss}
 use denote.Enum.Declared.{tagOf}
 use borrow.Author.Tests.{ne-eqb, leb-true, leb-false}
 use lib.IntN.{ℤ}
@@ -13,13 +12,13 @@ use lib.ListN.{length, take, set, length-append, length-take}
 use lib.Seq.{slice}
 use lib.Dec.{leb}
 use Rattle.language.specs.Limits.{mostParameters}
-use Rattle.language.specs.Tree.{Place, ParameterType, qbit, qbits, badType, operand, badArgument}
+use Rattle.language.specs.Tree.{Place, qbit, qbits, badType, ParameterType, plain, familyType, operand, badArgument}
 use Rattle.language.specs.Read.{field, readArgument, readOperand, choose, isIndexTag, isOperandTag}
-use Rattle.language.specs.Machine.{Meaning, Run, Outcome, going, begin, give, noMeaning, after, _>>=_, Direction, Condition, meaningsOf, meaningOf, isWire, isQuantum, takes, allTake}
+use Rattle.language.specs.Machine.{Meaning, Run, Outcome, going, begin, give, noMeaning, after, _>>=_, Direction, Condition, meaningsOf, meaningOf, isWire, isQuantum, isFamily, takes, allTake}
 use Rattle.kinds.specs.declared.Kind.{Kind}
 use Rattle.kinds.specs.Numbers.{numberOf, kindWith, kind-back}
 use Rattle.operands.specs.declared.OperandMeaning.{OperandMeaning}
-use Rattle.operands.specs.declared.OperandMeaning.the-variants.{AWire, ABit, Wires, Bits, Over, Stuck}
+use Rattle.operands.specs.declared.OperandMeaning.the-variants.{AWire, ABit, Wires, Bits, AFamily, Over, Stuck}
 use Rattle.operands.specs.Meanings.{frameOf, meaningTold, FieldMeans}
 use Rattle.operands.proofs.OperandMeaning.{the-type as meaning-type}
 use Rattle.fields.specs.declared.Header.the-variants.{Whole, End, Cut}
@@ -42,18 +41,19 @@ all-take-long [] (m ∷ ms) h = refl
 all-take-long (x ∷ xs) [] h = refl
 all-take-long (x ∷ xs) (m ∷ ms) h = and-second (takes x m) (allTake xs ms) (all-take-long xs ms (λ e. h (ap suc e)))
 
-takes-none : (x : ParameterType) (m : Meaning) → isWire m ≡ false → isQuantum m ≡ false → takes x m ≡ false
+takes-none : (x : ParameterType) (m : Meaning) → isWire m ≡ false → isQuantum m ≡ false → isFamily m ≡ false → takes x m ≡ false
 unfolding takes
-takes-none (qbit p e) m a b = a
-takes-none (qbits p i e) m a b = b
-takes-none (badType n p) m a b = refl
+takes-none (plain (qbit p e)) m a b c = a
+takes-none (plain (qbits p i e)) m a b c = b
+takes-none (plain (badType n p)) m a b c = refl
+takes-none (familyType p v n types e) m a b c = c
 
-all-take-classical : (xs : List ParameterType) (ms : List Meaning) (m : Meaning) → isWire m ≡ false → isQuantum m ≡ false → allTake xs (ms ++ (m ∷ [])) ≡ false
+all-take-classical : (xs : List ParameterType) (ms : List Meaning) (m : Meaning) → isWire m ≡ false → isQuantum m ≡ false → isFamily m ≡ false → allTake xs (ms ++ (m ∷ [])) ≡ false
 unfolding allTake
-all-take-classical [] [] m a b = refl
-all-take-classical [] (n ∷ ms) m a b = refl
-all-take-classical (x ∷ xs) [] m a b = rw (takes-none x m a b) refl
-all-take-classical (x ∷ xs) (n ∷ ms) m a b = and-second (takes x n) (allTake xs (ms ++ (m ∷ []))) (all-take-classical xs ms m a b)
+all-take-classical [] [] m a b c = refl
+all-take-classical [] (n ∷ ms) m a b c = refl
+all-take-classical (x ∷ xs) [] m a b c = rw (takes-none x m a b c) refl
+all-take-classical (x ∷ xs) (n ∷ ms) m a b c = and-second (takes x n) (allTake xs (ms ++ (m ∷ []))) (all-take-classical xs ms m a b c)
 
 -- what does not fit does not fit with more after it
 all-take-more : (xs : List ParameterType) (ms : List Meaning) (m : Meaning) → allTake (take (length ms) xs) ms ≡ false → allTake xs (ms ++ (m ∷ [])) ≡ false
@@ -118,15 +118,15 @@ module _ (given : List ℕ) (n : ℕ) (s : OperandMeaning) where
       go false f g = unfit-more ms m (k .unfit (g refl))
 
   module _ (h : n < mostParameters) where
-    pub gathers-quantum : (kind : Kind) (first size : ℕ) (after : List ℕ) → ((p : Place) → meaningTold p s ≡ give (gatheredOperand kind first size))
+    pub gathers-taken : (kind : Kind) (first size : ℕ) (after : List ℕ) → ((p : Place) → meaningTold p s ≡ give (gatheredOperand kind first size))
         → gatheredOperands (take (3 * (n + 1)) after) ≡ gatheredOperands (take (3 * n) given) ++ (gatheredOperand kind first size ∷ []) → GathersMore given n s after (n + 1)
-    gathers-quantum kind first size after f g p ms m e k = record {
+    gathers-taken kind first size after f g p ms m e k = record {
       same = λ i. rw (give-same (sym e ∙ f p)) (ap (λ (x : List Meaning). x ++ (gatheredOperand kind first size ∷ [])) (k .same (omega arith)) ∙ sym g);
       unfit = λ i. absurd (omega arith);
     }
 
-    pub gathers-classical : (c : Meaning) → ((p : Place) → meaningTold p s ≡ give c) → isWire c ≡ false → isQuantum c ≡ false → GathersMore given n s given tooMany
-    gathers-classical c f x y p ms m e k = record { same = λ i. absurd (omega arith); unfit = λ i. rw (give-same (sym e ∙ f p)) (λ types j. all-take-classical types ms c x y) }
+    pub gathers-classical : (c : Meaning) → ((p : Place) → meaningTold p s ≡ give c) → isWire c ≡ false → isQuantum c ≡ false → isFamily c ≡ false → GathersMore given n s given tooMany
+    gathers-classical c f x y z p ms m e k = record { same = λ i. absurd (omega arith); unfit = λ i. rw (give-same (sym e ∙ f p)) (λ types j. all-take-classical types ms c x y z) }
 
     pub gathers-over : s ≡ Over → GathersMore given n s given tooMany
     unfolding meaningTold
@@ -161,7 +161,7 @@ module _ (values : List ℤ) (ms : List Meaning) (tag : ℕ) (content : List ℕ
 
   no-operand : isOperandTag tag ≡ false → (q t : Place) (d : Direction) (c : Condition) → meaningOf q (frameOf d c values ms) (readOperand (field t tag content)) ≡ noMeaning
   unfolding readOperand choose meaningOf
-  no-operand h q t d c = rw (ne-eqb tag 48 (λ e. other e h refl), ne-eqb tag 49 (λ e. other e h refl), ne-eqb tag 50 (λ e. other e h refl)) refl
+  no-operand h q t d c = rw (ne-eqb tag 48 (λ e. other e h refl), ne-eqb tag 49 (λ e. other e h refl), ne-eqb tag 50 (λ e. other e h refl), ne-eqb tag 51 (λ e. other e h refl)) refl
     where
       other : {n : ℕ} → tag ≡ n → isOperandTag tag ≡ false → isOperandTag n ≡ true → ⊥
       other e h f = let z : _≡_ {A = Bool} true false = sym f ∙ ap isOperandTag (sym e) ∙ h in let y : _≡_ {A = ℕ} 0 1 = cc in omega arith
@@ -174,11 +174,8 @@ module _ (values : List ℤ) (ms : List Meaning) (tag : ℕ) (content : List ℕ
       go true e = refl
       go false e = rw (no-operand e q t d c)
 
-pub not-over : (x : OperandMeaning) → OneOf (0 ∷ 1 ∷ 2 ∷ 3 ∷ 5 ∷ []) (tagOf meaning-type x) → x ≡ Over → ⊥
-not-over x h e = not-four (rw e at h)
-  where
-    not-four : OneOf (0 ∷ 1 ∷ 2 ∷ 3 ∷ 5 ∷ []) 4 → ⊥
-    not-four k = ⊎-elim (λ z. omega arith) (⊎-elim (λ z. omega arith) (⊎-elim (λ z. omega arith) (⊎-elim (λ z. omega arith) (λ z. omega arith)))) k
+pub not-over : (x : OperandMeaning) → OneOf (0 ∷ 1 ∷ 2 ∷ 3 ∷ 4 ∷ 6 ∷ []) (tagOf meaning-type x) → x ≡ Over → ⊥
+not-over x h e = miss (0 ∷ 1 ∷ 2 ∷ 3 ∷ 4 ∷ 6 ∷ []) 5 tt (rw e at h)
 
 -- what an operand stands for, if for anything
 some-meaning : (x : OperandMeaning) → (x ≡ Over → ⊥) → (x ≡ Stuck → ⊥) → (m : Meaning) × ((q : Place) → meaningTold q x ≡ give m)
@@ -187,6 +184,7 @@ some-meaning (AWire w) a b = (_, λ q. refl)
 some-meaning (ABit w) a b = (_, λ q. refl)
 some-meaning (Wires w n) a b = (_, λ q. refl)
 some-meaning (Bits w n) a b = (_, λ q. refl)
+some-meaning (AFamily n) a b = (_, λ q. refl)
 some-meaning Over a b = absurd (a refl)
 some-meaning Stuck a b = absurd (b refl)
 

@@ -38,9 +38,9 @@ pub record SizesSoFar (l : List ℕ) (from to : ℕ) (values stored : List ℤ) 
 
 -- an operand tag is no index tag
 operand-no-index : (tag : ℕ) → isOperandTag tag ≡ true → isIndexTag tag ≡ false
-operand-no-index tag h = rw (lt-leb 64 tag (high (leb 48 tag) (leb tag 50) (leb-true tag 50) h)) refl
+operand-no-index tag h = rw (lt-leb 64 tag (high (leb 48 tag) (leb tag 51) (leb-true tag 51) h)) refl
   where
-    high : (a b : Bool) → (b ≡ true → tag ≤ 50) → (a && b) ≡ true → tag < 64
+    high : (a b : Bool) → (b ≡ true → tag ≤ 51) → (a && b) ≡ true → tag < 64
     high true true f h = let q = f refl in omega arith
     high true false f h = absurd (let z : _≡_ {A = ℕ} 0 1 = cc in omega arith)
     high false b f h = absurd (let z : _≡_ {A = ℕ} 0 1 = cc in omega arith)

@@ -98,7 +98,7 @@ fn is_index(tag: u8) -> bool
 fn is_operand(tag: u8) -> bool
     ensures { λ r. ⌜ r ≡ isOperandTag tag ⌝ }
 {
-    fields::WHOLE <= tag && tag <= fields::SLICE
+    fields::WHOLE <= tag && tag <= fields::PASSED
 }
 
 // Stores a size if it is one of the first that a family can have.
@@ -156,7 +156,7 @@ fn tell_given(given: [u16; OPERAND_NUMBERS])
     ensures { λ _. ⌜ length given ≡ operandNumbers ⌝ }
 {}
 
-// Puts an operand of a kind behind the n that are gathered, with its first wire and its size.
+// Puts an operand of a kind behind the n that are gathered, with its first wire and its size, or with its number.
 fn put(given: &mut [u16; OPERAND_NUMBERS], n: usize, kind: Kind, first: u16, size: u16)
     requires { ⌜ n < mostParameters ⌝ }
     ensures { λ _. ⌜ gatheredOperands (take (3 * (n + 1)) (now (given .exit))) ≡ gatheredOperands (take (3 * n) (now (given .entry))) ++ (gatheredOperand kind first size ∷ []) ⌝ }
@@ -187,6 +187,10 @@ fn gather(given: &mut [u16; OPERAND_NUMBERS], n: usize, s: OperandMeaning) -> us
         }
         OperandMeaning::Wires(first, size) => {
             put(given, n, Kind::Quantum, first.0, size);
+            return more;
+        }
+        OperandMeaning::AFamily(number) => {
+            put(given, n, Kind::Family, number, 0);
             return more;
         }
         OperandMeaning::ABit(_) => {
@@ -252,6 +256,9 @@ fn takes(tag: u8, kind: Kind) -> bool
     if let Kind::Quantum = kind {
         return tag == fields::QBITS;
     }
+    if let Kind::Family = kind {
+        return tag == fields::FAMILY_TYPE;
+    }
     tag == fields::QBIT
 }
 
@@ -315,15 +322,21 @@ fn parameter(given: &[u16; OPERAND_NUMBERS], i: usize) -> Parameter
 {
     let second = i + 1;
     let third = i + 2;
-    let first = Wire(given[second]);
-    if let Kind::Quantum = kinds::with_number(given[i]) {
-        let size = given[third];
-        return Parameter {
-            operand: Operand::Register { first, size },
-        };
-    }
-    Parameter {
-        operand: Operand::Single(first),
+    let number = given[second];
+    let first = Wire(number);
+    match kinds::with_number(given[i]) {
+        Kind::Quantum => {
+            let size = given[third];
+            Parameter {
+                operand: Operand::Register { first, size },
+            }
+        }
+        Kind::Family => Parameter {
+            operand: Operand::Family(number),
+        },
+        _ => Parameter {
+            operand: Operand::Single(first),
+        },
     }
 }
 

@@ -4,3 +4,5 @@ pub mod Registers
 pub mod Families
 pub mod Tables
 pub mod Sizes
+pub mod Formals
+pub mod FamilyTypes

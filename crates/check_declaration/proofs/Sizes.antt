@@ -8,9 +8,9 @@ use lib.Dec.{ltb}
 use lib.IntN.{ℤ, pos}
 use lib.ListN.{length, drop, replicate, length-drop}
 use borrow.Author.Tests.{ltb-true}
-use Rattle.language.specs.Tree.{Operation, sum, difference, product, Index, literal, variable, operation, badIndex, ParameterType, qbit, qbits, badType}
+use Rattle.language.specs.Tree.{Operation, sum, difference, product, Index, literal, variable, operation, badIndex, PlainType, qbit, qbits, badType}
 use Rattle.language.specs.Form.{Form, Built, built, outOfRange, constantForm, variableForm, sumOf, differenceOf, multipleOf, allZero}
-use Rattle.language.specs.Check.{Checked, good, refused, _>>=_, _>>_, require, noLeftover, inForm, productAt, combined, formOf, mustShow, Kind, qubit, quantum, classical, Scope, kindOf}
+use Rattle.language.specs.Check.{Checked, good, refused, _>>=_, _>>_, require, noLeftover, inForm, productAt, combined, formOf, mustShow, Kind, qubit, quantum, classical, formal, Scope, plainKind}
 use Rattle.language.proofs.FormLaws.{Zeros, also, Within, constant-within, variable-within, within-sum, within-difference, within-multiple}
 use Rattle.forms.specs.Flat.{Kept, asForm}
 use Rattle.check_declaration.specs.Types.{checkedType}
@@ -70,6 +70,7 @@ module _ (n : ℕ) where
   FewKind (good qubit) = Unit {0}
   FewKind (good (quantum f)) = Within n f
   FewKind (good (classical f)) = Unit {0}
+  FewKind (good (formal g)) = Unit {0}
   FewKind (refused a b) = Unit {0}
 
   then-kind : (x : Checked (Unit {0})) (y : Checked Kind) → FewKind y → FewKind (x >> y)
@@ -82,8 +83,8 @@ module _ (n : ℕ) where
   bind-kind (good f) g h k = k f h
   bind-kind (refused a b) g h k = tt
 
-  kind-few : (s : Scope) (x : ParameterType) → s .variables + length (s .loops) ≤ n → FewKind (kindOf s x)
-  unfolding kindOf
+  kind-few : (s : Scope) (x : PlainType) → s .variables + length (s .loops) ≤ n → FewKind (plainKind s x)
+  unfolding plainKind
   kind-few s (qbit p e) h = then-kind (noLeftover p e) (good qubit) tt
   kind-few s (qbits p i e) h =
       bind-kind (formOf s i) (λ f. noLeftover p e >> (mustShow p s (built f) >> good (quantum f))) (form-few s i h)
@@ -95,7 +96,7 @@ zeros-all [] z = refl
 zeros-all (c ∷ cs) (also e z) = λ i. e i ∷ zeros-all cs z i
 
 -- beyond the numbers of such a size, the list of such a form has only zeros
-pub narrow : (r : TypeRead) (n : ℕ) (l : List ℤ) (s : Scope) (x : ParameterType) → r ≡ Many n → Kept l → checkedType r l ≡ kindOf s x → s .variables + length (s .loops) ≤ 4 → drop 5 l ≡ replicate 8 (pos 0)
+pub narrow : (r : TypeRead) (n : ℕ) (l : List ℤ) (s : Scope) (x : PlainType) → r ≡ Many n → Kept l → checkedType r l ≡ plainKind s x → s .variables + length (s .loops) ≤ 4 → drop 5 l ≡ replicate 8 (pos 0)
 unfolding checkedType asForm
 narrow r n l s x u k e h = by l k (subst (λ (c : Checked Kind). FewKind 4 c) (sym e ∙ ap (λ (y : TypeRead). checkedType y l) u) (kind-few 4 s x h))
   where

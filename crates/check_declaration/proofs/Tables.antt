@@ -15,10 +15,10 @@ use denote.Enum.Declared.{tagOf}
 use Rattle.language.specs.Limits.{mostRegisters}
 use Rattle.kinds.specs.Numbers.{numberOf, kindWith, kind-back}
 use Rattle.kinds.specs.declared.Kind.{Kind}
-use Rattle.kinds.specs.declared.Kind.the-variants.{Qubit, Quantum, Classical}
+use Rattle.kinds.specs.declared.Kind.the-variants.{Qubit, Quantum, Classical, Family}
 use Rattle.forms.specs.Flat.{Short, widened, asForm}
 use Rattle.forms.specs.Rows.{ShortRows}
-use Rattle.check_operand.specs.Tables.{kindOfRow, sizeOfRow, kindIn, kindBy, kindAt, kindsAt}
+use Rattle.check_operand.specs.Tables.{Formals, kindOfRow, sizeOfRow, kindIn, kindBy, kindAt, kindsAt}
 use Rattle.check_operand.proofs.Tables.{rows-same}
 use Rattle.check_declaration.specs.Types.{sizeRow, rowNumber, OperandTable, InUse, InUseAfter, InUseBefore, Apart}
 use Rattle.check_index.specs.declared.Read.{Read}
@@ -44,6 +44,7 @@ unfolding numberOf
 number-few Qubit = omega arith
 number-few Quantum = omega arith
 number-few Classical = omega arith
+number-few Family = omega arith
 
 -- the number for a kind and the row of a size stands for both
 pub number-size : (k : Kind) (row b : ℕ) → b ≡ rowNumber k row → sizeOfRow b ≡ row
@@ -55,7 +56,7 @@ unfolding kindOfRow
 number-kind k row b e = ap (λ (x : ℕ). kindWith (x % 4)) e ∙ ap kindWith (digits-mod row (number-few k)) ∙ kind-back k
 
 pub apart-none : (bytes first count : ℕ) (kinds : List ℕ) (sizes : List (List ℤ)) → OperandTable bytes kinds sizes → Apart bytes first count kinds sizes kinds sizes
-apart-none bytes first count kinds sizes t = record { table = t; kindsSame = refl; sizesSame = refl; below = λ j h. refl; above = λ j h. refl }
+apart-none bytes first count kinds sizes t = record { table = t; kindsSame = refl; sizesSame = refl; below = λ j h. refl; above = λ j h. refl; kindsBelow = λ formals j h. refl; kindsAbove = λ formals j h. refl }
 
 -- the rows in use are in use before a later place, too
 pub in-use-later : (rows more registers at to : ℕ) (kinds : List ℕ) → InUse rows registers at kinds → at ≤ to → 3 * more ≤ 3 * mostRegisters + to → InUse more registers to kinds
@@ -83,19 +84,21 @@ in-use-set rows more registers many at to kinds row b u h k q f m = record { few
 
 module _ (bytes row : ℕ) (kinds : List ℕ) (sizes : List (List ℤ)) (t : OperandTable bytes kinds sizes) (h : row < length kinds) (b : ℕ) where
   kinds-set : OperandTable bytes (set kinds row b) sizes
-  kinds-set = record { kindsLong = omega (arith, t .kindsLong, length-set kinds row b); sizesLong = t .sizesLong; sizeRows = t .sizeRows }
+  kinds-set = record { kindsLong = rw (length-set kinds row b) (t .kindsLong); sizesLong = t .sizesLong; sizeRows = t .sizeRows }
 
   pub apart-kind : Apart bytes row 1 kinds sizes (set kinds row b) sizes
   apart-kind = record {
     table = kinds-set;
     kindsSame = length-set kinds row b;
     sizesSame = refl;
-    below = λ j k. ap (λ (x : ℕ). kindBy x sizes) (getD-set-other kinds row j b 0 (λ e. omega arith));
-    above = λ j k. ap (λ (x : ℕ). kindBy x sizes) (getD-set-other kinds row j b 0 (λ e. omega arith));
+    below = λ j k. getD-set-other kinds row j b 0 (λ e. omega arith);
+    above = λ j k. getD-set-other kinds row j b 0 (λ e. omega arith);
+    kindsBelow = λ formals j k. ap (λ (x : ℕ). kindBy formals x sizes) (getD-set-other kinds row j b 0 (λ e. omega arith));
+    kindsAbove = λ formals j k. ap (λ (x : ℕ). kindBy formals x sizes) (getD-set-other kinds row j b 0 (λ e. omega arith));
   }
 
-  pub row-kind : kindAt row (set kinds row b) sizes ≡ kindBy b sizes
-  row-kind = ap (λ (x : ℕ). kindBy x sizes) (getD-set-same kinds row b 0 h)
+  pub row-kind : (formals : Formals) → kindAt formals row (set kinds row b) sizes ≡ kindBy formals b sizes
+  row-kind formals = ap (λ (x : ℕ). kindBy formals x sizes) (getD-set-same kinds row b 0 h)
 
   module _ (own : ℕ) (l : List ℤ) (k : Short l) (n : (j : ℕ) → sizeOfRow (getD kinds j 0) < own) (q : own < length sizes) where
     pub apart-both : Apart bytes row 1 kinds sizes (set kinds row b) (set sizes own l)
@@ -107,20 +110,22 @@ module _ (bytes row : ℕ) (kinds : List ℕ) (sizes : List (List ℤ)) (t : Ope
       };
       kindsSame = length-set kinds row b;
       sizesSame = length-set sizes own l;
-      below = λ j p. other j (λ e. omega arith);
-      above = λ j p. other j (λ e. omega arith);
+      below = λ j p. getD-set-other kinds row j b 0 (λ e. omega arith);
+      above = λ j p. getD-set-other kinds row j b 0 (λ e. omega arith);
+      kindsBelow = λ formals j p. other formals j (λ e. omega arith);
+      kindsAbove = λ formals j p. other formals j (λ e. omega arith);
     }
       where
-        other : (j : ℕ) → (j ≡ row → ⊥) → kindAt j (set kinds row b) (set sizes own l) ≡ kindAt j kinds sizes
-        other j d =
-            ap (λ (x : ℕ). kindBy x (set sizes own l)) (getD-set-other kinds row j b 0 d)
-            ∙ ap (λ (x : List ℤ). kindIn (kindOfRow (getD kinds j 0)) (asForm (widened x))) (getD-set-other sizes own (sizeOfRow (getD kinds j 0)) l [] (λ e. omega (arith, n j)))
+        other : (formals : Formals) (j : ℕ) → (j ≡ row → ⊥) → kindAt formals j (set kinds row b) (set sizes own l) ≡ kindAt formals j kinds sizes
+        other formals j d =
+            ap (λ (x : ℕ). kindBy formals x (set sizes own l)) (getD-set-other kinds row j b 0 d)
+            ∙ ap (λ (x : List ℤ). kindIn (kindOfRow (getD kinds j 0)) (asForm (widened x)) (formals (sizeOfRow (getD kinds j 0)))) (getD-set-other sizes own (sizeOfRow (getD kinds j 0)) l [] (λ e. omega (arith, n j)))
 
-    pub row-both : (kind : Kind) → b ≡ rowNumber kind own → kindAt row (set kinds row b) (set sizes own l) ≡ kindIn kind (asForm (widened l))
-    row-both kind e =
-        ap (λ (x : ℕ). kindBy x (set sizes own l)) (getD-set-same kinds row b 0 h)
-        ∙ (λ i. kindIn (number-kind kind own b e i) (asForm (widened (getD (set sizes own l) (number-size kind own b e i) []))))
-        ∙ ap (λ (x : List ℤ). kindIn kind (asForm (widened x))) (getD-set-same sizes own l [] q)
+    pub row-both : (kind : Kind) → b ≡ rowNumber kind own → (formals : Formals) → kindAt formals row (set kinds row b) (set sizes own l) ≡ kindIn kind (asForm (widened l)) (formals own)
+    row-both kind e formals =
+        ap (λ (x : ℕ). kindBy formals x (set sizes own l)) (getD-set-same kinds row b 0 h)
+        ∙ (λ i. kindIn (number-kind kind own b e i) (asForm (widened (getD (set sizes own l) (number-size kind own b e i) []))) (formals (number-size kind own b e i)))
+        ∙ ap (λ (x : List ℤ). kindIn kind (asForm (widened x)) (formals own)) (getD-set-same sizes own l [] q)
 
 -- one row more
 pub apart-more : (bytes first count j : ℕ) {k₀ : List ℕ} {s₀ : List (List ℤ)} {k₁ : List ℕ} {s₁ : List (List ℤ)} {k₂ : List ℕ} {s₂ : List (List ℤ)}
@@ -131,13 +136,15 @@ apart-more bytes first count j h a b = record {
   sizesSame = b .sizesSame ∙ a .sizesSame;
   below = λ i q. b .below i (omega arith) ∙ a .below i q;
   above = λ i q. b .above i (omega arith) ∙ a .above i q;
+  kindsBelow = λ formals i q. b .kindsBelow formals i (omega arith) ∙ a .kindsBelow formals i q;
+  kindsAbove = λ formals i q. b .kindsAbove formals i (omega arith) ∙ a .kindsAbove formals i q;
 }
 
 -- so many rows are the same where no row of theirs changes
 pub rows-below : (bytes first count n i : ℕ) {k₀ : List ℕ} {s₀ : List (List ℤ)} {k₁ : List ℕ} {s₁ : List (List ℤ)}
-    → Apart bytes first count k₀ s₀ k₁ s₁ → i + n ≤ first → kindsAt n i k₁ s₁ ≡ kindsAt n i k₀ s₀
-rows-below bytes first count n i {k₀} {s₀} {k₁} {s₁} a h = rows-same (λ j. kindAt j k₁ s₁) (λ j. kindAt j k₀ s₀) n i (λ j p q. a .below j (omega arith))
+    → Apart bytes first count k₀ s₀ k₁ s₁ → i + n ≤ first → (formals : Formals) → kindsAt formals n i k₁ s₁ ≡ kindsAt formals n i k₀ s₀
+rows-below bytes first count n i {k₀} {s₀} {k₁} {s₁} a h formals = rows-same (λ j. kindAt formals j k₁ s₁) (λ j. kindAt formals j k₀ s₀) n i (λ j p q. a .kindsBelow formals j (omega arith))
 
 pub rows-above : (bytes first count n i : ℕ) {k₀ : List ℕ} {s₀ : List (List ℤ)} {k₁ : List ℕ} {s₁ : List (List ℤ)}
-    → Apart bytes first count k₀ s₀ k₁ s₁ → first + count ≤ i → kindsAt n i k₁ s₁ ≡ kindsAt n i k₀ s₀
-rows-above bytes first count n i {k₀} {s₀} {k₁} {s₁} a h = rows-same (λ j. kindAt j k₁ s₁) (λ j. kindAt j k₀ s₀) n i (λ j p q. a .above j (omega arith))
+    → Apart bytes first count k₀ s₀ k₁ s₁ → first + count ≤ i → (formals : Formals) → kindsAt formals n i k₁ s₁ ≡ kindsAt formals n i k₀ s₀
+rows-above bytes first count n i {k₀} {s₀} {k₁} {s₁} a h formals = rows-same (λ j. kindAt formals j k₁ s₁) (λ j. kindAt formals j k₀ s₀) n i (λ j p q. a .kindsAbove formals j (omega arith))

@@ -1,4 +1,4 @@
--- A parameter's type, and the types of a family one after the other. Assumes nothing.
+-- A plain type, and types one after the other. Assumes nothing.
 use mathlib.Core.Path.{_≡_, refl, sym, ap, _∙_}
 use mathlib.Core.List.{List, [], _∷_, _++_, append-assoc}
 use Prim.Native.Nat.{ℕ, _+_, _≤_, _<_, suc}
@@ -12,9 +12,9 @@ use types.Run.{OneOf}
 use denote.Enum.Declared.{tagOf}
 use Rattle.language.specs.Tree.{badIndex, badType}
 use Rattle.language.specs.Form.{Form, built}
-use Rattle.language.specs.Read.{Field, field, Reader, choose, due, ending, fieldsAfter, qbitsOf, outerIndex, readIndex, indexBy, readLiteral, readVariable, operationOf, readType, readQbit, badHeader, typesOf}
+use Rattle.language.specs.Read.{Field, field, Reader, choose, due, ending, fieldsAfter, qbitsOf, outerIndex, readIndex, indexBy, readLiteral, readVariable, operationOf, readPlain, readQbit, badHeader, partsOf, readType}
 use Rattle.language.proofs.ReadLaws.{AllRows, choose-all}
-use Rattle.language.specs.Check.{Checked, good, refused, _>>=_, _>>_, Kind, qubit, quantum, Signature, formOf, mustShow, kindOf, noLeftover, kindsOf}
+use Rattle.language.specs.Check.{Checked, good, refused, _>>=_, _>>_, Kind, qubit, quantum, Signature, formOf, mustShow, plainKind, plainKinds, noLeftover, kindOf, kindsOf}
 use Rattle.fields.proofs.Headers.{Wholly, View, ends, cuts, goes, view, one-byte, slice-none}
 use Rattle.fields.specs.Header.{fieldsAt}
 use Rattle.forms.specs.Flat.{Kept, asForm, Short, widened}
@@ -24,14 +24,14 @@ use Rattle.check_index.specs.Answers.{PastField, FormEndsAt, checkedForm, check
 use Rattle.check_index.specs.Indexes.{scopeOf}
 use Rattle.kinds.specs.declared.Kind as K
 use Rattle.kinds.specs.declared.Kind.the-variants.{Qubit, Quantum}
-use Rattle.check_operand.specs.Tables.{scopeWith, kindIn, sizeOfRow, kindAt, kindsAt, tabulated}
-use Rattle.check_declaration.specs.Types.{rowNumber, checkedSizedType, checkedType, TypePasses, OperandTable, Apart, checkedRow, checkedRows}
+use Rattle.check_operand.specs.Tables.{Formals, scopeWith, kindIn, sizeOfRow, kindAt, kindsAt, tabulated}
+use Rattle.check_declaration.specs.Types.{rowNumber, checkedSizedType, checkedType, TypePasses, OperandTable, checkedRow, checkedRows}
 use Rattle.check_index.specs.declared.Read.{Read}
 use Rattle.check_index.specs.declared.Read.the-variants.{Upto, Refused}
 use Rattle.check_operand.proofs.Tables.{same-forms, row-more}
 use Rattle.check_declaration.specs.declared.TypeRead.{TypeRead}
 use Rattle.check_declaration.specs.declared.TypeRead.the-variants.{Single, Many, Bad}
-use Rattle.check_declaration.proofs.Tables.{number-kind, row-kind, row-both, rows-below}
+use Rattle.check_declaration.proofs.Tables.{number-kind, row-kind, row-both}
 use Rattle.language.specs.Tree as T
 use Rattle.language.specs.Check as C
 
@@ -47,13 +47,13 @@ shown-stops (Refused n p) next k h = refl
 
 module _ (fs : List Signature) (ks : List Kind) (m : ℕ) (program : List ℕ) (at next : ℕ) (r : Read) (l : List ℤ) (e : checkedForm r l ≡ formOf (scopeOf m) (due outerIndex (badIndex 4 at) (fieldsAt program (at + 3) next))) where
   abbrev pub typed : Checked Kind
-  typed = kindOf (scopeWith fs ks m []) (qbitsOf at (fieldsAt program (at + 3) next))
+  typed = plainKind (scopeWith fs ks m []) (qbitsOf at (fieldsAt program (at + 3) next))
 
   abbrev finish : List Field → Form → Checked Kind
   finish gs f = noLeftover at (ending gs) >> (mustShow at (scopeWith fs ks m []) (built f) >> good (quantum f))
 
   typed-is : typed ≡ (checkedForm r l >>= finish (drop 1 (fieldsAt program (at + 3) next)))
-  unfolding kindOf qbitsOf scopeOf
+  unfolding plainKind qbitsOf scopeOf
   typed-is = ap (λ (c : Checked Form). c >>= finish (drop 1 (fieldsAt program (at + 3) next))) (sym (e ∙ same-forms (scopeOf m) (scopeWith fs ks m []) (due outerIndex (badIndex 4 at) (fieldsAt program (at + 3) next)) refl))
 
   pub type-stops : (k : List ℤ) → OneOf (1 ∷ []) (tagOf the-type r) → checkedSizedType r k ≡ typed
@@ -109,8 +109,8 @@ index-long s program at to p f h e = by (view program at to h)
         go (yes k) = omega (arith, w .high)
         go (no k) = absurd (empty-refused s tag at f (sym (ap (λ (l : List ℕ). formOf s (outerIndex (field at tag l))) (slice-none (at + 3) next program (omega arith))) ∙ is))
 
-pub type-seven : (s : C.Scope) (program : List ℕ) (at next : ℕ) (k : Kind) → next ≤ length program → kindOf s (qbitsOf at (fieldsAt program (at + 3) next)) ≡ good k → at + 7 ≤ next
-unfolding kindOf qbitsOf _>>=_
+pub type-seven : (s : C.Scope) (program : List ℕ) (at next : ℕ) (k : Kind) → next ≤ length program → plainKind s (qbitsOf at (fieldsAt program (at + 3) next)) ≡ good k → at + 7 ≤ next
+unfolding plainKind qbitsOf _>>=_
 type-seven s program at next k h e = go (formOf s (due outerIndex (badIndex 4 at) (fieldsAt program (at + 3) next))) refl e
   where
     go : (c : Checked Form) → formOf s (due outerIndex (badIndex 4 at) (fieldsAt program (at + 3) next)) ≡ c → (c >>= λ f. (noLeftover at (ending (drop 1 (fieldsAt program (at + 3) next))) >> (mustShow at s (built f) >> good (quantum f)))) ≡ good k → at + 7 ≤ next
@@ -119,39 +119,39 @@ type-seven s program at next k h e = go (formOf s (due outerIndex (badIndex 4 at
 
 module _ (s : C.Scope) (program : List ℕ) (at to parent : ℕ) where
   abbrev pub typeMeant : Checked Kind
-  typeMeant = kindOf s (due readType (badType 4 parent) (fieldsAt program at to))
+  typeMeant = plainKind s (due readPlain (badType 4 parent) (fieldsAt program at to))
 
   pub type-none : fieldsAt program at to ≡ [] → refused 4 parent ≡ typeMeant
-  unfolding due kindOf
-  type-none e = sym (ap (λ (fs : List Field). kindOf s (due readType (badType 4 parent) fs)) e)
+  unfolding due plainKind
+  type-none e = sym (ap (λ (fs : List Field). plainKind s (due readPlain (badType 4 parent) fs)) e)
 
   pub type-cut : fieldsAt program at to ≡ (badHeader at ∷ []) → refused 2 at ≡ typeMeant
-  unfolding due kindOf readType
-  type-cut e = sym (ap (λ (fs : List Field). kindOf s (due readType (badType 4 parent) fs)) e)
+  unfolding due plainKind readPlain
+  type-cut e = sym (ap (λ (fs : List Field). plainKind s (due readPlain (badType 4 parent) fs)) e)
 
   module _ (tag next : ℕ) (w : Wholly program at to tag next) where
-    type-is : typeMeant ≡ kindOf s (readType (field at tag (slice (at + 3) next program)))
+    type-is : typeMeant ≡ plainKind s (readPlain (field at tag (slice (at + 3) next program)))
     unfolding due
-    type-is = ap (λ (fs : List Field). kindOf s (due readType (badType 4 parent) fs)) (w .first)
+    type-is = ap (λ (fs : List Field). plainKind s (due readPlain (badType 4 parent) fs)) (w .first)
 
     pub type-single : tag ≡ 16 → next ≤ at + 3 → good qubit ≡ typeMeant
-    unfolding readType choose readQbit kindOf noLeftover ending _>>_
+    unfolding readPlain choose readQbit plainKind noLeftover ending _>>_
     type-single e h =
-        sym (type-is ∙ ap (λ (t : ℕ). kindOf s (readType (field at t (slice (at + 3) next program)))) e
+        sym (type-is ∙ ap (λ (t : ℕ). plainKind s (readPlain (field at t (slice (at + 3) next program)))) e
         ∙ ap (λ (l : List ℕ). noLeftover at (ending l) >> good qubit) (slice-none (at + 3) next program h))
 
     pub type-more : tag ≡ 16 → at + 3 < next → next ≤ length program → refused 4 at ≡ typeMeant
-    unfolding readType choose readQbit kindOf noLeftover ending _>>_
+    unfolding readPlain choose readQbit plainKind noLeftover ending _>>_
     type-more e h k =
-        sym (type-is ∙ ap (λ (t : ℕ). kindOf s (readType (field at t (slice (at + 3) next program)))) e
+        sym (type-is ∙ ap (λ (t : ℕ). plainKind s (readPlain (field at t (slice (at + 3) next program)))) e
         ∙ ap (λ (l : List ℕ). noLeftover at (ending l) >> good qubit) (one-byte (at + 3) next program h k))
 
-    pub type-many : tag ≡ 17 → kindOf s (qbitsOf at (fieldsAt program (at + 3) next)) ≡ typeMeant
-    unfolding readType choose fieldsAt
-    type-many e = sym (type-is ∙ ap (λ (t : ℕ). kindOf s (readType (field at t (slice (at + 3) next program)))) e)
+    pub type-many : tag ≡ 17 → plainKind s (qbitsOf at (fieldsAt program (at + 3) next)) ≡ typeMeant
+    unfolding readPlain choose fieldsAt
+    type-many e = sym (type-is ∙ ap (λ (t : ℕ). plainKind s (readPlain (field at t (slice (at + 3) next program)))) e)
 
     pub type-other : (tag ≡ 16 → ⊥) → (tag ≡ 17 → ⊥) → refused 3 at ≡ typeMeant
-    unfolding readType choose kindOf
+    unfolding readPlain choose plainKind
     type-other x y = sym (type-is ∙ rw (ne-eqb tag 16 x, ne-eqb tag 17 y))
 
 pub ends-kept : (next : ℕ) (r : Read) (l : List ℤ) → OneOf (0 ∷ []) (tagOf the-type r) → FormEndsAt next r l → Kept l
@@ -167,77 +167,109 @@ pub size-refused : (n q : ℕ) (r : Read) (l : List ℤ) → r ≡ Refused n q �
 unfolding checkedSizedType
 size-refused n q r l e = sym (ap (λ (x : Read). checkedSizedType x l) e)
 
-pub row-stops : (r : Read) (count first row : ℕ) (kinds : List ℕ) (sizes : List (List ℤ)) (next : Kind → Checked (List Kind)) → OneOf (1 ∷ []) (tagOf the-type r) → checkedRows r count first kinds sizes ≡ (checkedRow r row kinds sizes >>= next)
+pub row-stops : (formals : Formals) (r : Read) (count first row : ℕ) (kinds : List ℕ) (sizes : List (List ℤ)) (next : Kind → Checked (List Kind)) → OneOf (1 ∷ []) (tagOf the-type r) → checkedRows formals r count first kinds sizes ≡ (checkedRow formals r row kinds sizes >>= next)
 unfolding checkedRows checkedRow _>>=_
-row-stops (Upto n) count first row kinds sizes next h = not-first h
-row-stops (Refused n p) count first row kinds sizes next h = refl
+row-stops formals (Upto n) count first row kinds sizes next h = not-first h
+row-stops formals (Refused n p) count first row kinds sizes next h = refl
 
-pub rows-stop : (r : Read) (count first : ℕ) (kinds : List ℕ) (sizes : List (List ℤ)) (next : List Kind → Checked (List Kind)) → OneOf (1 ∷ []) (tagOf the-type r) → checkedRows r count first kinds sizes ≡ (checkedRows r count first kinds sizes >>= next)
+pub rows-stop : (formals : Formals) (r : Read) (count first : ℕ) (kinds : List ℕ) (sizes : List (List ℤ)) (next : List Kind → Checked (List Kind)) → OneOf (1 ∷ []) (tagOf the-type r) → checkedRows formals r count first kinds sizes ≡ (checkedRows formals r count first kinds sizes >>= next)
 unfolding checkedRows _>>=_
-rows-stop (Upto n) count first kinds sizes next h = not-first h
-rows-stop (Refused n p) count first kinds sizes next h = refl
+rows-stop formals (Upto n) count first kinds sizes next h = not-first h
+rows-stop formals (Refused n p) count first kinds sizes next h = refl
 
-module _ (s : C.Scope) (parent n : ℕ) (program : List ℕ) (at to : ℕ) (r : Read) (row : ℕ) (kinds : List ℕ) (sizes : List (List ℤ)) (e : checkedRow r row kinds sizes ≡ kindOf s (due readType (badType 4 parent) (fieldsAt program at to))) where
+-- types of either level, one after the other: how one is read and what its kind is
+pub record Level : Type 1 where
+  pub Sort : Type 0
+  pub part : Field → Sort
+  pub absent : Sort
+  pub one : Sort → Checked Kind
+  pub all : List Sort → Checked (List Kind)
+  pub none : all [] ≡ good []
+  pub some : (x : Sort) (xs : List Sort) → all (x ∷ xs) ≡ (one x >>= λ k. (all xs >>= λ ks. good (k ∷ ks)))
+
+pub plain-none : (s : C.Scope) → plainKinds s [] ≡ good []
+unfolding plainKinds
+plain-none s = refl
+
+pub plain-some : (s : C.Scope) (x : T.PlainType) (xs : List T.PlainType) → plainKinds s (x ∷ xs) ≡ (plainKind s x >>= λ k. (plainKinds s xs >>= λ ks. good (k ∷ ks)))
+unfolding plainKinds
+plain-some s x xs = refl
+
+abbrev pub plainLevel : C.Scope → ℕ → Level
+plainLevel s parent = record { Sort = T.PlainType; part = readPlain; absent = badType 4 parent; one = plainKind s; all = plainKinds s; none = plain-none s; some = plain-some s }
+
+pub type-nil : (s : C.Scope) → kindsOf s [] ≡ good []
+unfolding kindsOf
+type-nil s = refl
+
+pub type-cons : (s : C.Scope) (x : T.ParameterType) (xs : List T.ParameterType) → kindsOf s (x ∷ xs) ≡ (kindOf s x >>= λ k. (kindsOf s xs >>= λ ks. good (k ∷ ks)))
+unfolding kindsOf
+type-cons s x xs = refl
+
+abbrev pub typeLevel : C.Scope → ℕ → Level
+typeLevel s parent = record { Sort = T.ParameterType; part = readType; absent = T.plain (badType 4 parent); one = kindOf s; all = kindsOf s; none = type-nil s; some = type-cons s }
+
+module _ (L : Level) (n : ℕ) (program : List ℕ) (at to : ℕ) (formals : Formals) (r : Read) (row : ℕ) (kinds : List ℕ) (sizes : List (List ℤ)) (e : checkedRow formals r row kinds sizes ≡ L .one (due (L .part) (L .absent) (fieldsAt program at to))) where
   abbrev typesHere : Checked (List Kind)
-  typesHere = kindsOf s (typesOf parent (suc n) (fieldsAt program at to))
+  typesHere = L .all (partsOf (L .part) (L .absent) (suc n) (fieldsAt program at to))
 
   abbrev typesAfter : Kind → Checked (List Kind)
-  typesAfter k = kindsOf s (typesOf parent n (drop 1 (fieldsAt program at to))) >>= λ ks. good (k ∷ ks)
+  typesAfter k = L .all (partsOf (L .part) (L .absent) n (drop 1 (fieldsAt program at to))) >>= λ ks. good (k ∷ ks)
 
-  types-are : typesHere ≡ (checkedRow r row kinds sizes >>= typesAfter)
-  unfolding kindsOf typesOf
-  types-are = ap (λ (c : Checked Kind). c >>= typesAfter) (sym e)
+  types-are : typesHere ≡ (checkedRow formals r row kinds sizes >>= typesAfter)
+  unfolding partsOf
+  types-are = L .some _ _ ∙ ap (λ (c : Checked Kind). c >>= typesAfter) (sym e)
 
-  pub types-stop : (count first : ℕ) → OneOf (1 ∷ []) (tagOf the-type r) → checkedRows r count first kinds sizes ≡ typesHere
-  types-stop count first h = row-stops r count first row kinds sizes typesAfter h ∙ sym types-are
+  pub types-stop : (count first : ℕ) → OneOf (1 ∷ []) (tagOf the-type r) → checkedRows formals r count first kinds sizes ≡ typesHere
+  types-stop count first h = row-stops formals r count first row kinds sizes typesAfter h ∙ sym types-are
 
-  pub types-go : (next : ℕ) → r ≡ Upto next → PastField program at to next → typesHere ≡ (kindsOf s (typesOf parent n (fieldsAt program next to)) >>= λ ks. good (kindAt row kinds sizes ∷ ks))
+  pub types-go : (next : ℕ) → r ≡ Upto next → PastField program at to next → typesHere ≡ (L .all (partsOf (L .part) (L .absent) n (fieldsAt program next to)) >>= λ ks. good (kindAt formals row kinds sizes ∷ ks))
   unfolding checkedRow _>>=_
   types-go next u v =
-      types-are ∙ ap (λ (x : Read). checkedRow x row kinds sizes >>= typesAfter) u
-      ∙ ap (λ (fs : List Field). kindsOf s (typesOf parent n fs) >>= λ ks. good (kindAt row kinds sizes ∷ ks)) (v .rest)
+      types-are ∙ ap (λ (x : Read). checkedRow formals x row kinds sizes >>= typesAfter) u
+      ∙ ap (λ (fs : List Field). L .all (partsOf (L .part) (L .absent) n fs) >>= λ ks. good (kindAt formals row kinds sizes ∷ ks)) (v .rest)
 
--- the kinds so far, and one more
-pub more-kinds : (c : Checked (List Kind)) (bytes first count j : ℕ) {k₀ : List ℕ} {s₀ : List (List ℤ)} {k₁ : List ℕ} {s₁ : List (List ℤ)} → Apart bytes (first + j) 1 k₀ s₀ k₁ s₁
-    → ((c >>= λ ks. good (kindAt (first + j) k₁ s₁ ∷ ks)) >>= λ rest. good (kindsAt j first k₀ s₀ ++ rest)) ≡ (c >>= λ rest. good (kindsAt (j + 1) first k₁ s₁ ++ rest))
+-- the kinds so far, and one more; those so far stay
+pub more-kinds : (c : Checked (List Kind)) (first j : ℕ) (g₀ g₁ : Formals) (k₀ : List ℕ) (s₀ : List (List ℤ)) (k₁ : List ℕ) (s₁ : List (List ℤ)) → kindsAt g₁ j first k₁ s₁ ≡ kindsAt g₀ j first k₀ s₀
+    → ((c >>= λ ks. good (kindAt g₁ (first + j) k₁ s₁ ∷ ks)) >>= λ rest. good (kindsAt g₀ j first k₀ s₀ ++ rest)) ≡ (c >>= λ rest. good (kindsAt g₁ (j + 1) first k₁ s₁ ++ rest))
 unfolding _>>=_
-more-kinds (refused n p) bytes first count j a = refl
-more-kinds (good ks) bytes first count j {k₀} {s₀} {k₁} {s₁} a =
+more-kinds (refused n p) first j g₀ g₁ k₀ s₀ k₁ s₁ a = refl
+more-kinds (good ks) first j g₀ g₁ k₀ s₀ k₁ s₁ a =
     ap good
-    (ap (λ (l : List Kind). l ++ (kindAt (first + j) k₁ s₁ ∷ ks)) (sym (rows-below bytes (first + j) 1 j first a (omega arith)))
-    ∙ sym (append-assoc (kindsAt j first k₁ s₁) (kindAt (first + j) k₁ s₁ ∷ []) ks)
-    ∙ ap (λ (l : List Kind). l ++ ks) (sym (row-more (λ i. kindAt i k₁ s₁) j first)))
+    (ap (λ (l : List Kind). l ++ (kindAt g₁ (first + j) k₁ s₁ ∷ ks)) (sym a)
+    ∙ sym (append-assoc (kindsAt g₁ j first k₁ s₁) (kindAt g₁ (first + j) k₁ s₁ ∷ []) ks)
+    ∙ ap (λ (l : List Kind). l ++ ks) (sym (row-more (λ i. kindAt g₁ i k₁ s₁) j first)))
 
-pub no-kinds : (c : Checked (List Kind)) (first : ℕ) (kinds : List ℕ) (sizes : List (List ℤ)) → c ≡ (c >>= λ rest. good (kindsAt 0 first kinds sizes ++ rest))
+pub no-kinds : (formals : Formals) (c : Checked (List Kind)) (first : ℕ) (kinds : List ℕ) (sizes : List (List ℤ)) → c ≡ (c >>= λ rest. good (kindsAt formals 0 first kinds sizes ++ rest))
 unfolding _>>=_ tabulated
-no-kinds (good ks) first kinds sizes = refl
-no-kinds (refused n p) first kinds sizes = refl
+no-kinds formals (good ks) first kinds sizes = refl
+no-kinds formals (refused n p) first kinds sizes = refl
 
-pub all-kinds : (s : C.Scope) (parent : ℕ) (fs : List Field) (ks : List Kind) → (kindsOf s (typesOf parent 0 fs) >>= λ rest. good (ks ++ rest)) ≡ good ks
-unfolding kindsOf typesOf _>>=_
-all-kinds s parent fs ks = ap good (append-nil ks)
+pub all-kinds : (L : Level) (fs : List Field) (ks : List Kind) → (L .all (partsOf (L .part) (L .absent) 0 fs) >>= λ rest. good (ks ++ rest)) ≡ good ks
+unfolding partsOf _>>=_
+all-kinds L fs ks = ap (λ (c : Checked (List Kind)). c >>= λ rest. good (ks ++ rest)) (L .none) ∙ ap good (append-nil ks)
   where
     append-nil : (xs : List Kind) → xs ++ [] ≡ xs
     append-nil [] = refl
     append-nil (x ∷ xs) = ap (λ (y : List Kind). x ∷ y) (append-nil xs)
 
 module _ (r : TypeRead) (n : ℕ) (l : List ℤ) (bytes row : ℕ) (kinds : List ℕ) (sizes : List (List ℤ)) (t : OperandTable bytes kinds sizes) (h : row < length kinds) where
-  pub typed-single : (b : ℕ) → b ≡ rowNumber Qubit 0 → r ≡ Single n → checkedRow (Upto n) row (set kinds row b) sizes ≡ checkedType r l
+  pub typed-single : (b : ℕ) → b ≡ rowNumber Qubit 0 → r ≡ Single n → (formals : Formals) → checkedRow formals (Upto n) row (set kinds row b) sizes ≡ checkedType r l
   unfolding checkedRow checkedType kindIn
-  typed-single b u e =
-      ap good (row-kind bytes row kinds sizes t h b ∙ ap (λ (k : K.Kind). kindIn k (asForm (widened (getD sizes (sizeOfRow b) [])))) (number-kind Qubit 0 b u))
+  typed-single b u e formals =
+      ap good (row-kind bytes row kinds sizes t h b formals ∙ ap (λ (k : K.Kind). kindIn k (asForm (widened (getD sizes (sizeOfRow b) []))) (formals (sizeOfRow b))) (number-kind Qubit 0 b u))
       ∙ sym (ap (λ (x : TypeRead). checkedType x l) e)
 
   pub typed-many : (b own : ℕ) → b ≡ rowNumber Quantum own → (short : List ℤ) → ((j : ℕ) → sizeOfRow (getD kinds j 0) < own) → own < length sizes → r ≡ Many n → Short short → widened short ≡ l
-      → checkedRow (Upto n) row (set kinds row b) (set sizes own short) ≡ checkedType r l
+      → (formals : Formals) → checkedRow formals (Upto n) row (set kinds row b) (set sizes own short) ≡ checkedType r l
   unfolding checkedRow checkedType kindIn
-  typed-many b own u short d f e k w =
-      ap good (row-both bytes row kinds sizes t h b own short k d f Quantum u ∙ ap (λ (x : List ℤ). quantum (asForm x)) w)
+  typed-many b own u short d f e k w formals =
+      ap good (row-both bytes row kinds sizes t h b own short k d f Quantum u formals ∙ ap (λ (x : List ℤ). quantum (asForm x)) w)
       ∙ sym (ap (λ (x : TypeRead). checkedType x l) e)
 
-pub typed-bad : (r : TypeRead) (n q : ℕ) (l : List ℤ) (row : ℕ) (kinds : List ℕ) (sizes : List (List ℤ)) → r ≡ Bad n q → checkedRow (Refused n q) row kinds sizes ≡ checkedType r l
+pub typed-bad : (r : TypeRead) (n q : ℕ) (l : List ℤ) (row : ℕ) (kinds : List ℕ) (sizes : List (List ℤ)) → r ≡ Bad n q → (formals : Formals) → checkedRow formals (Refused n q) row kinds sizes ≡ checkedType r l
 unfolding checkedRow checkedType
-typed-bad r n q l row kinds sizes e = sym (ap (λ (x : TypeRead). checkedType x l) e)
+typed-bad r n q l row kinds sizes e formals = sym (ap (λ (x : TypeRead). checkedType x l) e)
 
 module _ (program : List ℕ) (at to : ℕ) (r : TypeRead) (l : List ℤ) (n : ℕ) (h : TypePasses program at to r l) where
   pub past-single : r ≡ Single n → PastField program at to n

@@ -4,3 +4,4 @@ pub mod Tables
 pub mod Shown
 pub mod Operands
 pub mod Slices
+pub mod Passed

@@ -1,5 +1,5 @@
 -- Operands: taken whole, elements, the one that is due, and two in a row; slices stand apart. Assumes nothing.
-use mathlib.Core.Path.{_≡_, refl, sym, ap, _∙_}
+use mathlib.Core.Path.{_≡_, refl, sym, ap, _∙_, subst}
 use mathlib.Core.List.{List, [], _∷_}
 use mathlib.Core.Option.{Option, none, some}
 use Prim.Native.Nat.{ℕ, _+_, _≤_, _<_}
@@ -11,7 +11,7 @@ use borrow.Author.Tests.{ne-eqb}
 use types.Run.{OneOf}
 use denote.Enum.Declared.{tagOf}
 use Rattle.language.specs.Tree.{badIndex, badOperand}
-use Rattle.language.specs.Read.{Field, field, badHeader, choose, ending, due, outerIndex, readWhole, readElement, elementOf, readSlice, readOperand}
+use Rattle.language.specs.Read.{Field, field, badHeader, choose, ending, due, outerIndex, readWhole, readElement, elementOf, readSlice, readPassed, readOperand}
 use Rattle.language.specs.Form.{Form}
 use Rattle.language.specs.Check.{Checked, refused, _>>=_, _>>_, noLeftover, inScope, formOf, Kind, wholeFits, elementSize, checkWithin, checkOperand}
 use Rattle.fields.specs.Header.{fieldsAt}
@@ -19,7 +19,8 @@ use Rattle.fields.proofs.Headers.{Wholly}
 use Rattle.forms.specs.Flat.{asForm}
 use Rattle.check_index.proofs.Read.{the-type}
 use Rattle.check_index.specs.Answers.{checkedForm, PastField, checkedPart}
-use Rattle.check_operand.specs.Operands.{checkedSize}
+use Rattle.check_operand.specs.Operands.{checkedSize, Answerable}
+use Rattle.check_operand.specs.declared.Wanted.{Wanted}
 use Rattle.check_index.specs.declared.Read.{Read}
 use Rattle.check_index.specs.declared.Read.the-variants.{Upto, Refused}
 use Rattle.check_index.proofs.Answers.{not-first, not-second, more-left, none-left, form-stops, checked-then, drop-two}
@@ -158,9 +159,19 @@ module _ (s : C.Scope) (d : C.Due) (program : List ℕ) (at to parent : ℕ) whe
     unfolding readOperand choose
     operand-slice e = sym (operand-is ∙ ap (λ (t : ℕ). checkOperand s d (readOperand (field at t (slice (at + 3) next program)))) e)
 
-    pub operand-other : (tag ≡ 48 → ⊥) → (tag ≡ 49 → ⊥) → (tag ≡ 50 → ⊥) → refused 3 at ≡ operandMeant
+    pub operand-passed : tag ≡ 51 → checkOperand s d (readPassed at (slice (at + 3) next program)) ≡ operandMeant
+    unfolding readOperand choose
+    operand-passed e = sym (operand-is ∙ ap (λ (t : ℕ). checkOperand s d (readOperand (field at t (slice (at + 3) next program)))) e)
+
+    pub operand-other : (tag ≡ 48 → ⊥) → (tag ≡ 49 → ⊥) → (tag ≡ 50 → ⊥) → (tag ≡ 51 → ⊥) → refused 3 at ≡ operandMeant
     unfolding readOperand choose checkOperand
-    operand-other x y z = sym (operand-is ∙ rw (ne-eqb tag 48 x, ne-eqb tag 49 y, ne-eqb tag 50 z))
+    operand-other x y z u = sym (operand-is ∙ rw (ne-eqb tag 48 x, ne-eqb tag 49 y, ne-eqb tag 50 z, ne-eqb tag 51 u))
+
+-- what can be answered of the operand due can be answered of a passed family
+pub answers-passed : (w : Wanted) (program : List ℕ) (at to parent tag next : ℕ) → Wholly program at to tag next → tag ≡ 51 → Answerable w (due readOperand (badOperand 4 parent) (fieldsAt program at to)) → Answerable w (readPassed at (slice (at + 3) next program))
+unfolding due readOperand choose
+answers-passed w program at to parent tag next v e h =
+    subst (λ (t : ℕ). Answerable w (readOperand (field at t (slice (at + 3) next program)))) e (subst (λ (fs : List Field). Answerable w (due readOperand (badOperand 4 parent) fs)) (v .first) h)
 
 -- the second operand and the end, seen from where the first ends
 pub second-is : (s : C.Scope) (d : C.Due) (program : List ℕ) (at from to mid : ℕ) → PastField program from to mid →

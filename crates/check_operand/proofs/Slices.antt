@@ -13,8 +13,8 @@ use denote.Enum.Declared.{tagOf}
 use Rattle.language.specs.Tree.{badIndex}
 use Rattle.language.specs.Read.{Field, ending, due, outerIndex, readSlice, sliceOf}
 use Rattle.language.specs.Form.{Form, Loop, Built, built, outOfRange, Showing, shown, notShown, beyondRange, isShown, showing}
-use Rattle.language.specs.Check.{Checked, good, refused, _>>=_, _>>_, noLeftover, inForm, inScope, formOf, Kind, byShowing, mustShow, wholeFits, roomAfter, slicedSize, sliceSize, checkSlice, sliceFits, checkOperand}
-use Rattle.kinds.specs.declared.Kind.the-variants.{Qubit, Quantum, Classical}
+use Rattle.language.specs.Check.{Checked, good, refused, _>>=_, _>>_, noLeftover, inForm, inScope, formOf, Formal, Kind, byShowing, mustShow, wholeFits, roomAfter, slicedSize, sliceSize, checkSlice, sliceFits, checkOperand}
+use Rattle.kinds.specs.declared.Kind.the-variants.{Qubit, Quantum, Classical, Family}
 use Rattle.fields.specs.Header.{fieldsAt}
 use Rattle.forms.specs.Flat.{asForm}
 use Rattle.check_index.proofs.Read.{the-type}
@@ -23,10 +23,10 @@ use Rattle.check_index.specs.Bounds.{checkedBounds, boundsDue}
 use Rattle.check_index.specs.declared.Read.{Read}
 use Rattle.check_index.specs.declared.Read.the-variants.{Upto}
 use Rattle.check_index.proofs.TwoBounds.{bounds-are, bounds-end, bounds-then}
-use Rattle.check_operand.specs.Tables.{kindIn}
+use Rattle.check_operand.specs.Tables.{Known, kindIn}
 use Rattle.check_operand.specs.Operands.{wantedOf}
 use Rattle.check_operand.specs.declared.Wanted.{Wanted}
-use Rattle.check_operand.specs.declared.Wanted.the-variants.{Wire, Bit, Register}
+use Rattle.check_operand.specs.declared.Wanted.the-variants.{Wire, Bit, Register, Family as Passed}
 use Rattle.check_operand.proofs.Wanted.{the-type as wanted-type}
 use Rattle.check_operand.proofs.Shown.{stops, goes}
 use Rattle.check_operand.proofs.Operands.{left-long, left-good}
@@ -75,28 +75,30 @@ module _ (at : ℕ) (s : C.Scope) (size first last : Form) where
         size-shown l q v = ap (λ (z : Showing). withForm at z l) v ∙ sym (ap sizeShown q) ∙ size-is
 
 -- whether a slice fits: not where no register is due or none stands there, else by the answer on where it lies
-module _ (at : ℕ) (s : C.Scope) (m : List ℤ) (size first last : Form) where
-  pub slice-unwanted : (w : Wanted) (k : Kind) → OneOf (0 ∷ 1 ∷ []) (tagOf wanted-type w) → refused 9 at ≡ sliceFits at s (wantedOf w m) k first last
+module _ (at : ℕ) (s : C.Scope) (m : List ℤ) (size first last : Form) (known : Known) (g : Formal) where
+  pub slice-unwanted : (w : Wanted) (k : Kind) → OneOf (0 ∷ 1 ∷ 3 ∷ []) (tagOf wanted-type w) → refused 9 at ≡ sliceFits at s (wantedOf known w m) k first last
   unfolding sliceFits slicedSize wantedOf _>>=_
   slice-unwanted Wire k h = refl
   slice-unwanted Bit k h = refl
-  slice-unwanted (Register b) k h = absurd (miss (0 ∷ 1 ∷ []) 2 tt h)
+  slice-unwanted (Register b) k h = absurd (miss (0 ∷ 1 ∷ 3 ∷ []) 2 tt h)
+  slice-unwanted (Passed x) k h = refl
 
-  pub slice-no-register : (b : Bool) (k : D.Kind) → OneOf (0 ∷ 2 ∷ []) (tagOf K.the-type k) → refused 9 at ≡ sliceFits at s (wantedOf (Register b) m) (kindIn k size) first last
+  pub slice-no-register : (b : Bool) (k : D.Kind) → OneOf (0 ∷ 2 ∷ 3 ∷ []) (tagOf K.the-type k) → refused 9 at ≡ sliceFits at s (wantedOf known (Register b) m) (kindIn k size g) first last
   unfolding sliceFits slicedSize wantedOf kindIn _>>=_
   slice-no-register b Qubit h = refl
-  slice-no-register b Quantum h = absurd (miss (0 ∷ 2 ∷ []) 1 tt h)
+  slice-no-register b Quantum h = absurd (miss (0 ∷ 2 ∷ 3 ∷ []) 1 tt h)
   slice-no-register b Classical h = refl
+  slice-no-register b Family h = refl
 
   module _ (b : Bool) (x : Showing) (l : List ℤ) (v : withForm at x l ≡ checkSlice at s size first last) where
     abbrev enough : Form → Checked (Unit {0})
-    enough n = wholeFits at s (wantedOf (Register b) m) (C.quantum n)
+    enough n = wholeFits at s (wantedOf known (Register b) m) (C.quantum n)
 
-    fits-is : (withForm at x l >>= enough) ≡ sliceFits at s (wantedOf (Register b) m) (kindIn Quantum size) first last
+    fits-is : (withForm at x l >>= enough) ≡ sliceFits at s (wantedOf known (Register b) m) (kindIn Quantum size g) first last
     unfolding sliceFits slicedSize wantedOf kindIn _>>=_
     fits-is = ap (λ (c : Checked Form). c >>= enough) v
 
-    pub lies-stops : false ≡ isShown x → byShowing at x ≡ sliceFits at s (wantedOf (Register b) m) (kindIn Quantum size) first last
+    pub lies-stops : false ≡ isShown x → byShowing at x ≡ sliceFits at s (wantedOf known (Register b) m) (kindIn Quantum size g) first last
     unfolding isShown byShowing _>>_ _>>=_
     lies-stops q = stopped x q ∙ fits-is
       where
@@ -105,7 +107,7 @@ module _ (at : ℕ) (s : C.Scope) (m : List ℤ) (size first last : Form) where
         stopped notShown q = refl
         stopped beyondRange q = refl
 
-    pub lies-goes : x ≡ shown → wholeFits at s (wantedOf (Register b) m) (kindIn Quantum (asForm l)) ≡ sliceFits at s (wantedOf (Register b) m) (kindIn Quantum size) first last
+    pub lies-goes : x ≡ shown → wholeFits at s (wantedOf known (Register b) m) (kindIn Quantum (asForm l) g) ≡ sliceFits at s (wantedOf known (Register b) m) (kindIn Quantum size g) first last
     unfolding kindIn _>>=_
     lies-goes q = ap (λ (c : Checked Form). c >>= enough) (goes at q (good (asForm l))) ∙ fits-is
 

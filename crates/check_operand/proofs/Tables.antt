@@ -20,7 +20,7 @@ use Rattle.forms.specs.Flat.{Kept}
 use Rattle.forms.specs.Rows.{Rows, loopsOf}
 use Rattle.check_index.specs.Indexes.{scopeOf}
 use Rattle.check_index.specs.Bounds.{boundsDue}
-use Rattle.check_operand.specs.Tables.{kindAt, kindsAt, tabulated, scopeWith}
+use Rattle.check_operand.specs.Tables.{Formals, kindAt, kindsAt, tabulated, scopeWith}
 use Rattle.language.specs.Check as C
 
 module _ {A : Type 0} (row : ℕ → A) where
@@ -66,11 +66,11 @@ unfolding tabulated
 rows-same f g zero i h = refl
 rows-same f g (suc n) i h = λ j. h i (omega arith) (omega arith) j ∷ rows-same f g n (suc i) (λ k a b. h k (omega arith) (omega arith)) j
 
-pub kinds-get : (n i j : ℕ) (ks : List ℕ) (ss : List (List ℤ)) → j < n → getElem? (kindsAt n i ks ss) j ≡ some (kindAt (i + j) ks ss)
-kinds-get n i j ks ss h = row-get (λ k. kindAt k ks ss) n i j h
+pub kinds-get : (formals : Formals) (n i j : ℕ) (ks : List ℕ) (ss : List (List ℤ)) → j < n → getElem? (kindsAt formals n i ks ss) j ≡ some (kindAt formals (i + j) ks ss)
+kinds-get formals n i j ks ss h = row-get (λ k. kindAt formals k ks ss) n i j h
 
-pub kinds-none : (n i j : ℕ) (ks : List ℕ) (ss : List (List ℤ)) → n ≤ j → getElem? (kindsAt n i ks ss) j ≡ none
-kinds-none n i j ks ss h = row-none (λ k. kindAt k ks ss) n i j h
+pub kinds-none : (formals : Formals) (n i j : ℕ) (ks : List ℕ) (ss : List (List ℤ)) → n ≤ j → getElem? (kindsAt formals n i ks ss) j ≡ none
+kinds-none formals n i j ks ss h = row-none (λ k. kindAt formals k ks ss) n i j h
 
 pub length-loops : (n : ℕ) (l h : List (List ℤ)) → length (loopsOf n l h) ≡ n
 unfolding loopsOf

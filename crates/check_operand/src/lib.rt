@@ -2,20 +2,20 @@
 ghost use mathlib.Core.Path.{_≡_};
 ghost use mathlib.Core.Bool.{true};
 ghost use mathlib.Core.List.{List};
-ghost use Prim.Native.Nat.{_+_, _≤_};
+ghost use Prim.Native.Nat.{ℕ, _+_, _≤_};
 ghost use lib.ListN.{length, replicate};
 ghost use lib.Seq.{slice};
 ghost use lib.IntN.{ℤ, pos};
-ghost use Rattle.language.specs.Tree.{Place, badOperand};
-ghost use Rattle.language.specs.Read.{due, readOperand, readWhole, readElement, readSlice};
+ghost use Rattle.language.specs.Tree.{Place, Operand, badOperand};
+ghost use Rattle.language.specs.Read.{due, readOperand, readWhole, readElement, readSlice, readPassed};
 ghost use Rattle.language.specs.Form.{Form, built, differenceOf, _thenBuild_, shown, showing};
-ghost use Rattle.language.specs.Check.{Kind, Signature, elementSize, roomAfter, byShowing, mustShow, wire, wholeFits, checkWithin, sliceSize, checkSlice, sliceFits, checkOperand};
-ghost use Rattle.language.specs.Limits.{allVariables};
+ghost use Rattle.language.specs.Check.{Formal, Kind, Signature, sizeScope, elementSize, roomAfter, byShowing, mustShow, wire, wholeFits, checkWithin, sliceSize, checkSlice, sliceFits, checkOperand};
+ghost use Rattle.language.specs.Limits.{mostVariables, allVariables};
 ghost use Rattle.fields.specs.Header.{fieldsAt};
 ghost use Rattle.forms.specs.Flat.{formNumbers, Kept, Short, widened, asForm, builtOf, shownOf};
 ghost use Rattle.forms.specs.Rows.{Rows, loopsOf};
-ghost use Rattle.check_operand.specs.Tables.{kindIn, kindOfRow, sizeOfRow, TablesRight, scopeWith, scopeAt};
-ghost use Rattle.check_operand.specs.Operands.{checkedSize, shownForm, wantedOf, SizeRight, oneWire, twoOperands};
+ghost use Rattle.check_operand.specs.Tables.{Known, kindIn, kindOfRow, sizeOfRow, TablesRight, scopeWith, scopeAt};
+ghost use Rattle.check_operand.specs.Operands.{checkedSize, shownForm, wantedOf, SizeRight, Answerable, oneWire, twoOperands};
 ghost use Rattle.check_index.specs.Answers.{checkedPart, EndsAt, Passes};
 use check_index::Read;
 use fields::Header;
@@ -37,11 +37,13 @@ pub struct Visible {
     pub loops: usize,
 }
 
-// What an operand is due to be: a wire, a bit, or a register of at least a size, which lies beside, if it was built.
+// What an operand is due to be: a wire, a bit, a register of at least a size, which lies beside, if it was built, or a family for the
+// family parameter whose number this is.
 pub enum Wanted {
     Wire,
     Bit,
     Register(bool),
+    Family(usize),
 }
 
 // The kind that a number in the table of operands stands for.
@@ -243,7 +245,7 @@ fn whole_fits(
     requires { ⌜ variables + loops ≤ allVariables ⌝ }
     requires { ⌜ Rows (now lows) loops ⌝ }
     requires { ⌜ Rows (now highs) loops ⌝ }
-    ensures { λ r. ⌜ ((fs : List Signature) (ks : List Kind) → checkedPart r ≡ wholeFits at (scopeWith fs ks variables (loopsOf loops (now (lows .entry)) (now (highs .entry)))) (wantedOf wanted (now (size .entry))) (kindIn kind (asForm (widened (now (own .entry)))))) ⌝ }
+    ensures { λ r. ⌜ ((fs : List Signature) (ks : List Kind) (k : Known) (g : Formal) → checkedPart r ≡ wholeFits at (scopeWith fs ks variables (loopsOf loops (now (lows .entry)) (now (highs .entry)))) (wantedOf k wanted (now (size .entry))) (kindIn kind (asForm (widened (now (own .entry)))) g)) ⌝ }
     ensures { λ r. ⌜ EndsAt next r ⌝ }
 {
     match wanted {
@@ -261,12 +263,13 @@ fn whole_fits(
             }
             _ => Read::Refused(9, at),
         },
+        Wanted::Family(_) => Read::Refused(9, at),
     }
 }
 
 // Whether an element of an operand of a kind is what is due, for the field from `at` to `next`.
 fn element_kind(wanted: Wanted, kind: kinds::Kind, at: usize, next: usize) -> Read
-    ensures { λ r. ⌜ ((f : Form) (l : List ℤ) → checkedSize r f ≡ elementSize at (wantedOf wanted l) (kindIn kind f)) ⌝ }
+    ensures { λ r. ⌜ ((f : Form) (l : List ℤ) (k : Known) (g : Formal) → checkedSize r f ≡ elementSize at (wantedOf k wanted l) (kindIn kind f g)) ⌝ }
     ensures { λ r. ⌜ EndsAt next r ⌝ }
 {
     match wanted {
@@ -279,6 +282,7 @@ fn element_kind(wanted: Wanted, kind: kinds::Kind, at: usize, next: usize) -> Re
             _ => Read::Refused(9, at),
         },
         Wanted::Register(_) => Read::Refused(9, at),
+        Wanted::Family(_) => Read::Refused(9, at),
     }
 }
 
@@ -298,7 +302,7 @@ fn whole(
     requires { ⌜ (at + 3 ≤ next) × (next ≤ length (now program)) ⌝ }
     requires { ⌜ SizeRight wanted (now size) ⌝ }
     requires { ⌜ TablesRight s (now kinds) (now sizes) (now lows) (now highs) ⌝ }
-    ensures { λ r. ⌜ ((fs : List Signature) → checkedPart r ≡ checkOperand (scopeAt fs s (now (kinds .entry)) (now (sizes .entry)) (now (lows .entry)) (now (highs .entry))) (wantedOf wanted (now (size .entry))) (readWhole at (slice (at + 3) next (now (program .entry))))) ⌝ }
+    ensures { λ r. ⌜ ((k : Known) → checkedPart r ≡ checkOperand (scopeAt k s (now (kinds .entry)) (now (sizes .entry)) (now (lows .entry)) (now (highs .entry))) (wantedOf k wanted (now (size .entry))) (readWhole at (slice (at + 3) next (now (program .entry))))) ⌝ }
     ensures { λ r. ⌜ EndsAt next r ⌝ }
 {
     let from = at + 3;
@@ -345,7 +349,7 @@ fn element(
 ) -> Read
     requires { ⌜ (at + 3 ≤ next) × (next ≤ length (now program)) ⌝ }
     requires { ⌜ TablesRight s (now kinds) (now sizes) (now lows) (now highs) ⌝ }
-    ensures { λ r. ⌜ ((fs : List Signature) → checkedPart r ≡ checkOperand (scopeAt fs s (now (kinds .entry)) (now (sizes .entry)) (now (lows .entry)) (now (highs .entry))) (wantedOf wanted (now (size .entry))) (readElement at (slice (at + 3) next (now (program .entry))))) ⌝ }
+    ensures { λ r. ⌜ ((k : Known) → checkedPart r ≡ checkOperand (scopeAt k s (now (kinds .entry)) (now (sizes .entry)) (now (lows .entry)) (now (highs .entry))) (wantedOf k wanted (now (size .entry))) (readElement at (slice (at + 3) next (now (program .entry))))) ⌝ }
     ensures { λ r. ⌜ EndsAt next r ⌝ }
 {
     let from = at + 3;
@@ -400,7 +404,7 @@ fn slice_fits(
     requires { ⌜ variables + loops ≤ allVariables ⌝ }
     requires { ⌜ Rows (now lows) loops ⌝ }
     requires { ⌜ Rows (now highs) loops ⌝ }
-    ensures { λ r. ⌜ ((fs : List Signature) (ks : List Kind) → checkedPart r ≡ sliceFits at (scopeWith fs ks variables (loopsOf loops (now (lows .entry)) (now (highs .entry)))) (wantedOf wanted (now (size .entry))) (kindIn kind (asForm (widened (now (own .entry))))) (asForm (now (first .entry))) (asForm (now (last .entry)))) ⌝ }
+    ensures { λ r. ⌜ ((fs : List Signature) (ks : List Kind) (k : Known) (g : Formal) → checkedPart r ≡ sliceFits at (scopeWith fs ks variables (loopsOf loops (now (lows .entry)) (now (highs .entry)))) (wantedOf k wanted (now (size .entry))) (kindIn kind (asForm (widened (now (own .entry)))) g) (asForm (now (first .entry))) (asForm (now (last .entry)))) ⌝ }
     ensures { λ r. ⌜ EndsAt next r ⌝ }
 {
     let Wanted::Register(known) = wanted else {
@@ -433,7 +437,7 @@ fn part(
     requires { ⌜ (at + 3 ≤ next) × (next ≤ length (now program)) ⌝ }
     requires { ⌜ SizeRight wanted (now size) ⌝ }
     requires { ⌜ TablesRight s (now kinds) (now sizes) (now lows) (now highs) ⌝ }
-    ensures { λ r. ⌜ ((fs : List Signature) → checkedPart r ≡ checkOperand (scopeAt fs s (now (kinds .entry)) (now (sizes .entry)) (now (lows .entry)) (now (highs .entry))) (wantedOf wanted (now (size .entry))) (readSlice at (slice (at + 3) next (now (program .entry))))) ⌝ }
+    ensures { λ r. ⌜ ((k : Known) → checkedPart r ≡ checkOperand (scopeAt k s (now (kinds .entry)) (now (sizes .entry)) (now (lows .entry)) (now (highs .entry))) (wantedOf k wanted (now (size .entry))) (readSlice at (slice (at + 3) next (now (program .entry))))) ⌝ }
     ensures { λ r. ⌜ EndsAt next r ⌝ }
 {
     let from = at + 3;
@@ -475,7 +479,29 @@ fn part(
     )
 }
 
-// The operand that is due at `at` in the field at `parent` whose content ends at `to`.
+// The passed family at `at`, whose field ends at `next`, where no family is due.
+fn misplaced(program: &[u8], at: usize, next: usize, wanted: Wanted, s: Visible) -> Read
+    requires { ⌜ (at + 3 ≤ next) × (next ≤ length (now program)) ⌝ }
+    requires { ⌜ Answerable wanted (readPassed at (slice (at + 3) next (now program))) ⌝ }
+    ensures { λ r. ⌜ ((k : Known) (l : List ℤ) (kinds : List ℕ) (sizes lows highs : List (List ℤ)) → checkedPart r ≡ checkOperand (scopeAt k s kinds sizes lows highs) (wantedOf k wanted l) (readPassed at (slice (at + 3) next (now (program .entry))))) ⌝ }
+    ensures { λ r. ⌜ EndsAt next r ⌝ }
+{
+    let from = at + 3;
+    if next - from < 2 {
+        return Read::Refused(4, at);
+    }
+    let n = fields::two_bytes(program, from);
+    if s.families <= n {
+        return Read::Refused(8, at);
+    }
+    if next - from != 2 {
+        return Read::Refused(4, at);
+    }
+    Read::Refused(9, at)
+}
+
+// The operand that is due at `at` in the field at `parent` whose content ends at `to`. A family that is passed where one is due is
+// not its matter.
 pub fn operand(
     program: &[u8],
     at: usize,
@@ -491,8 +517,9 @@ pub fn operand(
 ) -> Read
     requires { ⌜ to ≤ length (now program) ⌝ }
     requires { ⌜ SizeRight wanted (now size) ⌝ }
+    requires { ⌜ Answerable wanted (due readOperand (badOperand 4 parent) (fieldsAt (now program) at to)) ⌝ }
     requires { ⌜ TablesRight s (now kinds) (now sizes) (now lows) (now highs) ⌝ }
-    ensures { λ r. ⌜ ((fs : List Signature) → checkedPart r ≡ checkOperand (scopeAt fs s (now (kinds .entry)) (now (sizes .entry)) (now (lows .entry)) (now (highs .entry))) (wantedOf wanted (now (size .entry))) (due readOperand (badOperand 4 parent) (fieldsAt (now (program .entry)) at to))) ⌝ }
+    ensures { λ r. ⌜ ((k : Known) → checkedPart r ≡ checkOperand (scopeAt k s (now (kinds .entry)) (now (sizes .entry)) (now (lows .entry)) (now (highs .entry))) (wantedOf k wanted (now (size .entry))) (due readOperand (badOperand 4 parent) (fieldsAt (now (program .entry)) at to))) ⌝ }
     ensures { λ r. ⌜ Passes (now (program .entry)) at to r ⌝ }
 {
     match fields::header_at(program, at, to) {
@@ -535,9 +562,27 @@ pub fn operand(
                 lows,
                 highs,
             ),
+            51 => misplaced(program, at, next, wanted, s),
             _ => Read::Refused(3, at),
         },
     }
+}
+
+// Shows that a size is at least another, over m index variables and without loops, for the field from `at` to `next`.
+pub fn at_least(size: &Size, other: &Size, m: usize, at: usize, next: usize) -> Read
+    requires { ⌜ Short (now size) ⌝ }
+    requires { ⌜ Short (now other) ⌝ }
+    requires { ⌜ m ≤ mostVariables ⌝ }
+    ensures { λ r. ⌜ checkedPart r ≡ mustShow at (sizeScope m) (differenceOf (asForm (widened (now (size .entry)))) (asForm (widened (now (other .entry))))) ⌝ }
+    ensures { λ r. ⌜ EndsAt next r ⌝ }
+{
+    let mut room = [0i64; FORM_NUMBERS];
+    forms::load(&mut room, size);
+    let mut less = [0i64; FORM_NUMBERS];
+    forms::load(&mut less, other);
+    let none = [[0i64; FORM_NUMBERS]; 1];
+    let v = large_enough(true, &less, &mut room, m, 0, &none, &none);
+    answered(v, at, next)
 }
 
 // One wire, and no more, from `from` to `next` in the field at `at`.
@@ -554,7 +599,7 @@ pub fn one_wire(
 ) -> Read
     requires { ⌜ next ≤ length (now program) ⌝ }
     requires { ⌜ TablesRight s (now kinds) (now sizes) (now lows) (now highs) ⌝ }
-    ensures { λ r. ⌜ ((fs : List Signature) → checkedPart r ≡ oneWire (scopeAt fs s (now (kinds .entry)) (now (sizes .entry)) (now (lows .entry)) (now (highs .entry))) at (fieldsAt (now (program .entry)) from next)) ⌝ }
+    ensures { λ r. ⌜ ((k : Known) → checkedPart r ≡ oneWire (scopeAt k s (now (kinds .entry)) (now (sizes .entry)) (now (lows .entry)) (now (highs .entry))) at (fieldsAt (now (program .entry)) from next)) ⌝ }
     ensures { λ r. ⌜ EndsAt next r ⌝ }
 {
     let none = [0i64; FORM_NUMBERS];
@@ -594,9 +639,9 @@ pub fn two_operands(
     highs: &[Form],
 ) -> Read
     requires { ⌜ next ≤ length (now program) ⌝ }
-    requires { ⌜ ((l : List ℤ) → SizeRight second l) ⌝ }
+    requires { ⌜ ((l : List ℤ) → SizeRight second l) × ((o : Operand) → Answerable second o) ⌝ }
     requires { ⌜ TablesRight s (now kinds) (now sizes) (now lows) (now highs) ⌝ }
-    ensures { λ r. ⌜ ((fs : List Signature) → checkedPart r ≡ twoOperands (scopeAt fs s (now (kinds .entry)) (now (sizes .entry)) (now (lows .entry)) (now (highs .entry))) (wantedOf second (replicate formNumbers (pos 0))) at (fieldsAt (now (program .entry)) from next)) ⌝ }
+    ensures { λ r. ⌜ ((k : Known) → checkedPart r ≡ twoOperands (scopeAt k s (now (kinds .entry)) (now (sizes .entry)) (now (lows .entry)) (now (highs .entry))) (wantedOf k second (replicate formNumbers (pos 0))) at (fieldsAt (now (program .entry)) from next)) ⌝ }
     ensures { λ r. ⌜ EndsAt next r ⌝ }
 {
     let none = [0i64; FORM_NUMBERS];
@@ -652,7 +697,7 @@ pub fn two_wires(
 ) -> Read
     requires { ⌜ next ≤ length (now program) ⌝ }
     requires { ⌜ TablesRight s (now kinds) (now sizes) (now lows) (now highs) ⌝ }
-    ensures { λ r. ⌜ ((fs : List Signature) → checkedPart r ≡ twoOperands (scopeAt fs s (now (kinds .entry)) (now (sizes .entry)) (now (lows .entry)) (now (highs .entry))) wire at (fieldsAt (now (program .entry)) from next)) ⌝ }
+    ensures { λ r. ⌜ ((k : Known) → checkedPart r ≡ twoOperands (scopeAt k s (now (kinds .entry)) (now (sizes .entry)) (now (lows .entry)) (now (highs .entry))) wire at (fieldsAt (now (program .entry)) from next)) ⌝ }
 {
     two_operands(
         program,

@@ -8,8 +8,8 @@ ghost use Rattle.language.specs.Read.{due, outerIndex};
 ghost use Rattle.language.specs.Check.{Kind, Signature, checkNatural};
 ghost use Rattle.fields.specs.Header.{fieldsAt};
 ghost use Rattle.forms.specs.Rows.{loopsOf};
-ghost use Rattle.check_operand.specs.Tables.{TablesRight, scopeWith, scopeAt};
-ghost use Rattle.check_index.specs.Answers.{checkedPart, EndsAt, Passes};
+ghost use Rattle.check_operand.specs.Tables.{Known, TablesRight, scopeWith, scopeAt};
+ghost use Rattle.check_index.specs.Answers.{checkedPart, Passes};
 ghost use Rattle.check_call.specs.Calls.{LoopsRight};
 ghost use Rattle.check_phase.specs.Phases.{phaseDue, cphaseDue};
 use check_index::Read;
@@ -57,7 +57,7 @@ pub fn phase(
 ) -> Read
     requires { ⌜ next ≤ length (now program) ⌝ }
     requires { ⌜ TablesRight s (now kinds) (now sizes) (now lows) (now highs) ⌝ }
-    ensures { λ r. ⌜ ((fs : List Signature) → checkedPart r ≡ phaseDue (scopeAt fs s (now (kinds .entry)) (now (sizes .entry)) (now (lows .entry)) (now (highs .entry))) at (fieldsAt (now (program .entry)) from next)) ⌝ }
+    ensures { λ r. ⌜ ((k : Known) → checkedPart r ≡ phaseDue (scopeAt k s (now (kinds .entry)) (now (sizes .entry)) (now (lows .entry)) (now (highs .entry))) at (fieldsAt (now (program .entry)) from next)) ⌝ }
 {
     let r = natural(program, from, next, at, s, lows, highs);
     let Read::Upto(mid) = r else {
@@ -80,7 +80,7 @@ pub fn cphase(
 ) -> Read
     requires { ⌜ next ≤ length (now program) ⌝ }
     requires { ⌜ TablesRight s (now kinds) (now sizes) (now lows) (now highs) ⌝ }
-    ensures { λ r. ⌜ ((fs : List Signature) → checkedPart r ≡ cphaseDue (scopeAt fs s (now (kinds .entry)) (now (sizes .entry)) (now (lows .entry)) (now (highs .entry))) at (fieldsAt (now (program .entry)) from next)) ⌝ }
+    ensures { λ r. ⌜ ((k : Known) → checkedPart r ≡ cphaseDue (scopeAt k s (now (kinds .entry)) (now (sizes .entry)) (now (lows .entry)) (now (highs .entry))) at (fieldsAt (now (program .entry)) from next)) ⌝ }
 {
     let r = natural(program, from, next, at, s, lows, highs);
     let Read::Upto(mid) = r else {

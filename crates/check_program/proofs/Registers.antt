@@ -5,16 +5,16 @@ use Prim.Native.Nat.{ℕ, _+_, _≤_}
 use native.Mathlib.Omega.{arith}
 use native.Mathlib.Nat.{zero-add}
 use lib.IntN.{ℤ, pos}
-use lib.ListN.{length}
+use lib.ListN.{length, getD}
 use Rattle.language.specs.Limits.{mostWires, mostBits}
 use Rattle.language.specs.Tree.{qreg, creg}
 use Rattle.language.specs.Read.{readRegister}
 use Rattle.language.specs.Form.{constantForm}
-use Rattle.language.specs.Check.{Checked, good, refused, _>>=_, Declared, withQubits, withBits, checkTop}
+use Rattle.language.specs.Check.{Checked, good, refused, _>>=_, Formal, Declared, withQubits, withBits, checkTop}
 use Rattle.kinds.specs.declared.Kind.{Kind}
 use Rattle.kinds.specs.declared.Kind.the-variants.{Quantum, Classical}
-use Rattle.check_operand.specs.Tables.{kindIn, kindAt, kindsAt, tabulated}
-use Rattle.check_call.specs.Calls.{signatureAt}
+use Rattle.check_operand.specs.Tables.{Formals, kindIn, sizeOfRow, kindAt, kindsAt, tabulated}
+use Rattle.check_call.specs.Calls.{formalAt, signatureAt}
 use Rattle.check_declaration.specs.Registers.{checkedRegister, registerIn, RegisterRow, RegisterSet}
 use Rattle.check_index.specs.declared.Read.{Read}
 use Rattle.check_index.specs.declared.Read.the-variants.{Upto, Refused}
@@ -23,7 +23,8 @@ use Rattle.check_program.specs.Declarations.{declaredIn, DeclaredRight, 
 use Rattle.check_program.specs.declared.SoFar.{SoFar}
 use Rattle.check_program.specs.declared.Step.the-variants.{Going, Stopped}
 use Rattle.check_declaration.proofs.Tables.{rows-below}
-use Rattle.check_program.proofs.Scopes.{families-above}
+use Rattle.check_declaration.proofs.Formals.{formals-lower}
+use Rattle.check_program.proofs.Scopes.{taken-same, families-above}
 
 pub number-stops : (r : Read) (n q : ℕ) (x : Checked ℕ) (w : ℕ → Declared) → r ≡ Refused n q → checkedRegister r ≡ x → refused n q ≡ (x >>= λ m. good (w m))
 unfolding checkedRegister _>>=_
@@ -38,7 +39,7 @@ module _ (t : SoFar) (families : List (List ℕ)) (kinds : List ℕ) (sizes : Li
   now = declaredIn t families kinds sizes
 
   registers-now : length (now .registers) ≡ t .registers
-  registers-now = length-rows (λ j. kindAt j kinds sizes) (t .registers) 0
+  registers-now = length-rows (λ j. kindAt (formalAt families kinds sizes) j kinds sizes) (t .registers) 0
 
   qreg-meant : checkTop (readRegister qreg at content) now ≡ (registerIn at (t .registers) (t .qubits) mostWires content >>= λ n. good (withQubits now n))
   unfolding readRegister checkTop
@@ -60,29 +61,55 @@ module _ (t : SoFar) (families : List (List ℕ)) (kinds : List ℕ) (sizes : Li
 -- one register more
 module _ (bytes at next : ℕ) (t : SoFar) (families : List (List ℕ)) (n : ℕ) (kind : Kind) (total most : ℕ) {k₀ : List ℕ} {s₀ : List (List ℤ)} {k₁ : List ℕ} {s₁ : List (List ℤ)} (h : DeclaredRight bytes at t families k₀ s₀) (r : RegisterRow bytes next n kind (t .registers) total most k₀ s₀ k₁ s₁) where
   families-same : tabulated (signatureAt families k₁ s₁) (t .families) 0 ≡ tabulated (signatureAt families k₀ s₀) (t .families) 0
-  families-same = families-above bytes at t families h (t .registers) (r .room) (r .apart)
+  families-same = families-above bytes at t h (t .registers) (r .room) (r .apart)
 
-  registers-more : kindsAt (t .registers + 1) 0 k₁ s₁ ≡ (kindsAt (t .registers) 0 k₀ s₀ ++ (kindIn kind (constantForm (pos n)) ∷ []))
+  abbrev before : Formals
+  before = formalAt families k₀ s₀
+
+  abbrev later : Formals
+  later = formalAt families k₁ s₁
+
+  -- what the new register's number would name as a family parameter's
+  abbrev spare : Formal
+  spare = later (sizeOfRow (getD k₁ (t .registers) 0))
+
+  registers-more : kindsAt later (t .registers + 1) 0 k₁ s₁ ≡ (kindsAt before (t .registers) 0 k₀ s₀ ++ (kindIn kind (constantForm (pos n)) spare ∷ []))
   registers-more =
-      row-more (λ j. kindAt j k₁ s₁) (t .registers) 0
-      ∙ ap (λ (k : ℕ). kindsAt (t .registers) 0 k₁ s₁ ++ (kindAt k k₁ s₁ ∷ [])) (zero-add (t .registers))
-      ∙ (λ i. rows-below bytes (t .registers) 1 (t .registers) 0 (r .apart) (omega arith) i ++ (r .row i ∷ []))
+      row-more (λ j. kindAt later j k₁ s₁) (t .registers) 0
+      ∙ ap (λ (k : ℕ). kindsAt later (t .registers) 0 k₁ s₁ ++ (kindAt later k k₁ s₁ ∷ [])) (zero-add (t .registers))
+      ∙ (λ i. (rows-below bytes (t .registers) 1 (t .registers) 0 (r .apart) (omega arith) later ∙ ap (λ (g : Formals). kindsAt g (t .registers) 0 k₀ s₀) (taken-same bytes at t h (t .registers) (r .room) (r .apart))) i ++ (r .row later i ∷ []))
 
   pub with-qubits : kind ≡ Quantum → declaredIn (record { families = t .families; rows = t .rows; registers = t .registers + 1; qubits = t .qubits + n; bits = t .bits }) families k₁ s₁ ≡ withQubits (declaredIn t families k₀ s₀) n
   unfolding withQubits kindIn
   with-qubits e =
       (λ i. record { families = families-same i; registers = registers-more i; qubits = t .qubits + n; bits = t .bits })
-      ∙ ap (λ (k : Kind). record { families = tabulated (signatureAt families k₀ s₀) (t .families) 0; registers = kindsAt (t .registers) 0 k₀ s₀ ++ (kindIn k (constantForm (pos n)) ∷ []); qubits = t .qubits + n; bits = t .bits }) e
+      ∙ ap (λ (k : Kind). record { families = tabulated (signatureAt families k₀ s₀) (t .families) 0; registers = kindsAt before (t .registers) 0 k₀ s₀ ++ (kindIn k (constantForm (pos n)) spare ∷ []); qubits = t .qubits + n; bits = t .bits }) e
 
   pub with-bits : kind ≡ Classical → declaredIn (record { families = t .families; rows = t .rows; registers = t .registers + 1; qubits = t .qubits; bits = t .bits + n }) families k₁ s₁ ≡ withBits (declaredIn t families k₀ s₀) n
   unfolding withBits kindIn
   with-bits e =
       (λ i. record { families = families-same i; registers = registers-more i; qubits = t .qubits; bits = t .bits + n })
-      ∙ ap (λ (k : Kind). record { families = tabulated (signatureAt families k₀ s₀) (t .families) 0; registers = kindsAt (t .registers) 0 k₀ s₀ ++ (kindIn k (constantForm (pos n)) ∷ []); qubits = t .qubits; bits = t .bits + n }) e
+      ∙ ap (λ (k : Kind). record { families = tabulated (signatureAt families k₀ s₀) (t .families) 0; registers = kindsAt before (t .registers) 0 k₀ s₀ ++ (kindIn k (constantForm (pos n)) spare ∷ []); qubits = t .qubits; bits = t .bits + n }) e
 
   pub holds-register : (q b : ℕ) → at ≤ next → q ≤ mostWires → b ≤ mostBits → DeclaredRight bytes next (record { families = t .families; rows = t .rows; registers = t .registers + 1; qubits = q; bits = b }) families k₁ s₁
   holds-register q b j x y =
-      record { short = h .short; table = r .apart .table; used = r .used (t .rows) (omega (arith, h .used .few)); long = h .long; familiesFit = h .familiesFit; qubitsFit = x; bitsFit = y; leastRows = h .leastRows; each = h .each; behind = h .behind }
+      let room = r .room in
+      let same = r .apart .kindsSame in
+      record {
+        short = h .short;
+        table = r .apart .table;
+        used = r .used (t .rows) (omega (arith, h .used .few));
+        wide = omega (arith, h .wide);
+        long = omega (arith, h .long, r .apart .sizesSame);
+        familiesFit = h .familiesFit;
+        qubitsFit = x;
+        bitsFit = y;
+        leastRows = h .leastRows;
+        each = h .each;
+        behind = h .behind;
+        rowsRight = λ k p. rw same (h .rowsRight k p);
+        taken = formals-lower bytes (t .registers) 1 at families (h .taken) (r .apart) (omega (arith, h .table .kindsLong)) next j;
+      }
 
 module _ (t : SoFar) (families : List (List ℕ)) (k₀ : List ℕ) (s₀ : List (List ℤ)) (bytes next at : ℕ) (content : List ℕ) (r : Read) (n : ℕ) (u : r ≡ Upto n) (h : DeclaredRight bytes at t families k₀ s₀) where
   pub register-row : (kind : Kind) (count total most : ℕ) (k₁ : List ℕ) (s₁ : List (List ℤ)) → RegisterSet bytes next r kind count total most k₀ s₀ k₁ s₁ → RegisterRow bytes next n kind count total most k₀ s₀ k₁ s₁

@@ -1,7 +1,7 @@
 -- The fields at the top, one after the other. Assumes nothing.
 use mathlib.Core.Path.{_≡_, refl, sym, ap, _∙_}
 use mathlib.Core.List.{List, [], _∷_, map}
-use Prim.Native.Nat.{ℕ, zero, suc, _+_, _*_, _≤_, _<_}
+use Prim.Native.Nat.{ℕ, zero, suc, _+_, _*_, _/_, _≤_, _<_}
 use native.Mathlib.Omega.{arith}
 use lib.IntN.{ℤ, pos}
 use lib.ListN.{length, getD, replicate, length-replicate, getD-replicate}
@@ -10,8 +10,10 @@ use borrow.Author.Tests.{le-leb, lt-leb}
 use types.Run.{OneOf}
 use denote.Enum.Declared.{tagOf}
 use Rattle.language.specs.Limits.{mostFamilies, mostRegisters, longestProgram}
-use Rattle.check_declaration.specs.Types.{sizeRow}
+use Rattle.check_call.specs.Calls.{FamilyRight}
+use Rattle.check_declaration.specs.Types.{sizeRow, mostRows, FormalsIn}
 use Rattle.check_declaration.proofs.Tables.{in-use-later}
+use Rattle.check_declaration.proofs.Formals.{formals-later}
 use Rattle.language.specs.Read.{Field, field, badHeader, fields, choose, readFamily, readRegister, readTop, read}
 use Rattle.language.specs.Check.{Checked, _>>=_, _>>_, require, Declared, checkTop, checkTops, check}
 use Rattle.language.specs.Tree.{qreg, creg}
@@ -95,6 +97,7 @@ declared-later bytes at to t families kinds sizes k h = record {
   short = h .short;
   table = h .table;
   used = in-use-later (t .rows) (t .rows) (t .registers) at to kinds (h .used) k (omega (arith, h .used .few));
+  wide = h .wide;
   long = h .long;
   familiesFit = h .familiesFit;
   qubitsFit = h .qubitsFit;
@@ -102,6 +105,8 @@ declared-later bytes at to t families kinds sizes k h = record {
   leastRows = h .leastRows;
   each = h .each;
   behind = h .behind;
+  rowsRight = h .rowsRight;
+  taken = formals-later at to families kinds k (h .taken);
 }
 
 -- every number of a table of zeros is 0
@@ -110,25 +115,48 @@ getD-zeros zero j = refl
 getD-zeros (suc n) zero = refl
 getD-zeros (suc n) (suc j) = getD-zeros n j
 
+-- and so is every number of a row of zeros
+zero-row : (n k i : ℕ) → _≡_ {A = ℕ} (getD (getD (replicate n (replicate 3 0)) k []) i 0) 0
+zero-row zero k i = refl
+zero-row (suc n) zero i = getD-zeros 3 i
+zero-row (suc n) (suc k) i = zero-row n k i
+
+zero-right : (n k rows : ℕ) → FamilyRight (getD (replicate n (replicate 3 0)) k []) rows
+zero-right n k rows = record { few = omega (arith, zero-row n k 0); inside = omega (arith, zero-row n k 1, zero-row n k 2) }
+
+zero-taken : (n at : ℕ) (kinds : List ℕ) → FormalsIn at (replicate n (replicate 3 0)) kinds
+zero-taken n at kinds x =
+    let k = mostFamilies + x in
+    record {
+      few = omega (arith, zero-row n k 0);
+      inside = omega (arith, zero-row n k 1, zero-row n k 2);
+      low = λ i h. absurd (omega (arith, zero-row n k 1));
+      high = λ i h. absurd (omega (arith, zero-row n k 1));
+      plain = λ i h. absurd (omega (arith, zero-row n k 1));
+    }
+
 -- nothing is declared in tables of zeros that are long enough
-pub zeros-hold : (bytes rows named : ℕ) → bytes ≤ longestProgram → 3 * mostRegisters + bytes ≤ 3 * rows → sizeRow bytes mostRegisters < named
-    → DeclaredRight bytes 0 noneSoFar (replicate mostFamilies (replicate 3 0)) (replicate rows 0) (replicate named (replicate 5 (pos 0)))
+pub zeros-hold : (bytes rows named : ℕ) → bytes ≤ longestProgram → 3 * mostRegisters + bytes < 3 * (rows / 2) → rows ≤ mostRows → sizeRow bytes mostRegisters < named
+    → DeclaredRight bytes 0 noneSoFar (replicate (mostFamilies + named) (replicate 3 0)) (replicate rows 0) (replicate named (replicate 5 (pos 0)))
 unfolding inRange allInRange sizeOfRow
-zeros-hold bytes rows named s k n = record {
+zeros-hold bytes rows named s k w n = record {
   short = s;
   table = record {
-    kindsLong = omega (arith, length-replicate {A = ℕ} rows 0);
+    kindsLong = rw (length-replicate {A = ℕ} rows 0) k;
     sizesLong = omega (arith, length-replicate named (replicate 5 (pos 0)));
     sizeRows = record { enough = omega arith; each = λ i h. rw (getD-replicate named i (replicate 5 (pos 0)) [] (omega (arith, length-replicate named (replicate 5 (pos 0))))) (record { long = refl; inside = refl }) };
   };
   used = record { few = omega arith; fewRegisters = omega arith; named = λ j. rw (getD-zeros rows j) (omega arith) };
-  long = length-replicate {A = List ℕ} mostFamilies (replicate 3 0);
+  wide = omega (arith, length-replicate {A = ℕ} rows 0);
+  long = omega (arith, length-replicate {A = List ℕ} (mostFamilies + named) (replicate 3 0), length-replicate named (replicate 5 (pos 0)));
   familiesFit = omega arith;
   qubitsFit = omega arith;
   bitsFit = omega arith;
   leastRows = omega arith;
   each = λ k h. absurd (omega arith);
   behind = λ k h. absurd (omega arith);
+  rowsRight = λ k h. zero-right (mostFamilies + named) k (length {A = ℕ} (replicate rows 0));
+  taken = zero-taken (mostFamilies + named) 0 (replicate rows 0);
 }
 
 pub program-long : (program : List ℕ) → longestProgram < length program → resultTold (Turned 1 0) ≡ checkResult program

@@ -9,7 +9,8 @@ ghost use Rattle.language.specs.Tree.{qreg, creg};
 ghost use Rattle.language.specs.Result.{verdict, checkResult};
 ghost use Rattle.language.specs.Limits.{longestProgram, mostFamilies, mostVariables, mostParameters};
 ghost use Rattle.fields.specs.Header.{fieldsAt};
-ghost use Rattle.check_declaration.specs.Types.{InUseBefore, Apart, checkedRows};
+ghost use Rattle.check_call.specs.Calls.{formalAt};
+ghost use Rattle.check_declaration.specs.Types.{InUseBefore, checkedRows, FormalsBefore, Stays};
 ghost use Rattle.check_program.specs.Declarations.{shortProgram, familyIn, declaredIn, DeclaredRight, checkedStep, StepRight, noneSoFar};
 ghost use Rattle.check_program.specs.Answers.{resultTold};
 use check_call::FamilyRow;
@@ -32,14 +33,20 @@ use limits::MOST_WIRES;
 const SHORT_PROGRAM: usize = 4_096;
 
 // The rows of the tables of operands and of sizes, by what so many bytes can declare: a row for each register and one for each type, which
-// takes 3 bytes at least; and a size for each register and for each type that has one, which takes 7 bytes at least.
-const SHORT_ROWS: usize = MOST_REGISTERS + SHORT_PROGRAM / 3 + 1;
+// takes 3 bytes at least, and as many for the types in family types; and a size for each register and for each type that has one, which
+// takes 7 bytes at least.
+const SHORT_ROWS: usize = 2 * (MOST_REGISTERS + SHORT_PROGRAM / 3 + 1);
 
 const SHORT_SIZES: usize = (SHORT_PROGRAM + 2 * MOST_REGISTERS) / 7 + 2;
 
-const MOST_ROWS: usize = MOST_REGISTERS + LONGEST_PROGRAM / 3;
+const MOST_ROWS: usize = 2 * (MOST_REGISTERS + LONGEST_PROGRAM / 3 + 1);
 
 const MOST_SIZES: usize = (LONGEST_PROGRAM + 2 * MOST_REGISTERS) / 7 + 2;
+
+// The rows of the table of families: one for each, and one for each family type, which has the number of a size's row.
+const SHORT_FAMILIES: usize = MOST_FAMILIES + SHORT_SIZES;
+
+const FAMILY_ROWS: usize = MOST_FAMILIES + MOST_SIZES;
 
 // How much is declared so far: families, registers, qubits and bits; and how many rows of the table of operands are in use.
 pub struct SoFar {
@@ -70,7 +77,7 @@ fn family_body(
     m: usize,
     parameters: usize,
     t: SoFar,
-    families: &[FamilyRow],
+    families: &mut [FamilyRow],
     kinds: &mut [u16],
     sizes: &mut [Size],
 ) -> Read
@@ -79,9 +86,10 @@ fn family_body(
     requires { ⌜ parameters ≤ mostParameters ⌝ }
     requires { ⌜ t .families < mostFamilies ⌝ }
     requires { ⌜ DeclaredRight (length (now program)) at t (now families) (now kinds) (now sizes) ⌝ }
-    ensures { λ r. ⌜ checkedRows r parameters (t .rows) (now (kinds .exit)) (now (sizes .exit)) ≡ familyIn (declaredIn t (now (families .entry)) (now (kinds .entry)) (now (sizes .entry))) at m parameters (fieldsAt (now (program .entry)) (at + 5) next) ⌝ }
+    ensures { λ r. ⌜ checkedRows (formalAt (now (families .exit)) (now (kinds .exit)) (now (sizes .exit))) r parameters (t .rows) (now (kinds .exit)) (now (sizes .exit)) ≡ familyIn (declaredIn t (now (families .entry)) (now (kinds .entry)) (now (sizes .entry))) at m parameters (fieldsAt (now (program .entry)) (at + 5) next) ⌝ }
     ensures { λ r. ⌜ InUseBefore (t .rows + parameters) (t .registers) next r (now (kinds .exit)) ⌝ }
-    ensures { λ _. ⌜ Apart (length (now (program .entry))) (t .rows) parameters (now (kinds .entry)) (now (sizes .entry)) (now (kinds .exit)) (now (sizes .exit)) ⌝ }
+    ensures { λ r. ⌜ FormalsBefore next r (now (families .exit)) (now (kinds .exit)) ⌝ }
+    ensures { λ _. ⌜ Stays (length (now (program .entry))) (t .rows) (at + 5) (t .registers) (now (families .entry)) (now (kinds .entry)) (now (sizes .entry)) (now (families .exit)) (now (kinds .exit)) (now (sizes .exit)) ⌝ }
 {
     let from = at + 5;
     let first = t.rows;
@@ -94,6 +102,7 @@ fn family_body(
         parameters,
         first,
         t.registers,
+        families,
         kinds,
         sizes,
     );
@@ -138,7 +147,10 @@ fn family(
     ensures { λ r. ⌜ StepRight (length (now (program .entry))) next r (now (families .exit)) (now (kinds .exit)) (now (sizes .exit)) ⌝ }
 {
     let n = t.families;
-    match check_declaration::family_counts(program, at, next, n) {
+    if MOST_FAMILIES <= n {
+        return Step::Stopped(6, at);
+    }
+    match check_declaration::two_counts(program, at, next) {
         Counts::Bad(k, q) => Step::Stopped(k, q),
         Counts::Both(m, parameters) => {
             let first = t.rows;
@@ -356,7 +368,7 @@ fn check_short(program: &[u8]) -> Outcome
     requires { ⌜ length (now program) ≤ shortProgram ⌝ }
     ensures { λ r. ⌜ resultTold r ≡ verdict (check (read (now (program .entry)))) ⌝ }
 {
-    let mut families = [[0u16; 3]; MOST_FAMILIES];
+    let mut families = [[0u16; 3]; SHORT_FAMILIES];
     let mut kinds = [0u16; SHORT_ROWS];
     let mut sizes = [[0i32; SIZE_NUMBERS]; SHORT_SIZES];
     top_fields(program, &mut families, &mut kinds, &mut sizes)
@@ -367,7 +379,7 @@ fn check_long(program: &[u8]) -> Outcome
     requires { ⌜ length (now program) ≤ longestProgram ⌝ }
     ensures { λ r. ⌜ resultTold r ≡ verdict (check (read (now (program .entry)))) ⌝ }
 {
-    let mut families = [[0u16; 3]; MOST_FAMILIES];
+    let mut families = [[0u16; 3]; FAMILY_ROWS];
     let mut kinds = [0u16; MOST_ROWS];
     let mut sizes = [[0i32; SIZE_NUMBERS]; MOST_SIZES];
     top_fields(program, &mut families, &mut kinds, &mut sizes)

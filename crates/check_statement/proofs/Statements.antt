@@ -24,11 +24,11 @@ module _ (p tag : ℕ) (content : List ℕ) where
   pub deep-below : tag < 32 → badStatement 3 p ≡ deepStatement (field p tag content)
   deep-below h = deep-by false (rw (lt-leb 32 tag h))
 
-  pub deep-above : 41 < tag → badStatement 3 p ≡ deepStatement (field p tag content)
-  deep-above h = deep-by false (rw (le-leb 32 tag (omega arith), lt-leb tag 41 h))
+  pub deep-above : 42 < tag → badStatement 3 p ≡ deepStatement (field p tag content)
+  deep-above h = deep-by false (rw (le-leb 32 tag (omega arith), lt-leb tag 42 h))
 
-  pub deep-statement : 32 ≤ tag → tag ≤ 41 → badStatement 5 p ≡ deepStatement (field p tag content)
-  deep-statement h k = deep-by true (rw (le-leb 32 tag h, le-leb tag 41 k))
+  pub deep-statement : 32 ≤ tag → tag ≤ 42 → badStatement 5 p ≡ deepStatement (field p tag content)
+  deep-statement h k = deep-by true (rw (le-leb 32 tag h, le-leb tag 42 k))
 
 module _ (levels at tag next : ℕ) (program : List ℕ) (s : C.Scope) where
   abbrev pub stated : Checked (Unit {0})

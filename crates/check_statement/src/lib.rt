@@ -55,6 +55,7 @@ fn statement_tag(tag: u8) -> StatementTag
         39 => StatementTag::Call,
         40 => StatementTag::Phase,
         41 => StatementTag::Cphase,
+        42 => StatementTag::Call,
         _ => StatementTag::Other,
     }
 }
@@ -66,7 +67,7 @@ fn too_deep(tag: u8) -> u32
     if tag < fields::H {
         return 3;
     }
-    if fields::CPHASE < tag {
+    if fields::PARAMETER_CALL < tag {
         return 3;
     }
     5

@@ -1,17 +1,17 @@
--- Whether a call names a family, wherever its content stands. Assumes nothing.
+-- Whether a call names a family or a parameter, wherever its content stands. Assumes nothing.
 use mathlib.Core.Path.{_≡_, refl, sym, _∙_}
 use mathlib.Core.List.{List}
 use mathlib.Core.Bool.{Bool, true, false, _&&_}
 use Prim.Native.Nat.{ℕ}
-use Rattle.language.specs.Read.{FamilyNumber, names, unnamed}
+use Rattle.language.specs.Read.{CallNumber, names, unnamed}
 use Rattle.language.proofs.Integers.{clash}
 use Rattle.fields.specs.declared.Named.{Named}
-use Rattle.fields.specs.declared.Named.the-variants.{Family, Bad}
+use Rattle.fields.specs.declared.Named.the-variants.{Number, Bad}
 use Rattle.fields.specs.CallNumber.{isCallTag, numberIn, namedAt, namedIn}
 use Rattle.gates.specs.Gates.{namesNone, namelessOf}
 
--- a number names a family or none, wherever it stands
-anywhere : (from : ℕ) (number : FamilyNumber) → namesNone (namedAt from number) ≡ namesNone (namedAt 0 number)
+-- a number names something or nothing, wherever it stands
+anywhere : (from : ℕ) (number : CallNumber) → namesNone (namedAt from number) ≡ namesNone (namedAt 0 number)
 unfolding namesNone namedAt
 anywhere from (names n width rest) = refl
 anywhere from (unnamed k) = refl
@@ -26,15 +26,15 @@ module _ (tag : ℕ) (l : List ℕ) where
     unfolding namelessOf
     nameless-is = rw h (sym (anywhere from (numberIn tag l)))
 
-    pub nameless-family : (n after : ℕ) → namedIn tag from l ≡ Family n after → namelessOf tag l ≡ false
+    pub nameless-number : (n after : ℕ) → namedIn tag from l ≡ Number n after → namelessOf tag l ≡ false
     unfolding namesNone
-    nameless-family n after e = nameless-is ∙ rw e
+    nameless-number n after e = nameless-is ∙ rw e
 
     pub nameless-bad : (k : ℕ) → namedIn tag from l ≡ Bad k → namelessOf tag l ≡ true
     unfolding namesNone
     nameless-bad k e = nameless-is ∙ rw e
 
-  -- a call that names none
+  -- a call that names nothing
   pub record Nameless : Type 0 where
     pub calls : isCallTag tag ≡ true
     pub number : ℕ
@@ -46,18 +46,18 @@ module _ (tag : ℕ) (l : List ℕ) where
     where
       go : (a : Bool) → isCallTag tag ≡ a → (r : Named) → namedIn tag 0 l ≡ r → (a && namesNone r) ≡ true → Nameless
       go true e (Bad k) g h = record { calls = e; number = k; bad = g }
-      go true e (Family n after) g h = absurd (clash (sym h))
+      go true e (Number n after) g h = absurd (clash (sym h))
       go false e r g h = absurd (clash (sym h))
 
-  -- a call that names a family
-  pub record NamesFamily : Type 0 where
+  -- a call that names a number, and stands at `from`
+  pub record NamesNumber (from : ℕ) : Type 0 where
     pub number : ℕ
     pub after : ℕ
-    pub is : namedIn tag 0 l ≡ Family number after
+    pub is : namedIn tag from l ≡ Number number after
 
-  pub names-family : isCallTag tag ≡ true → namelessOf tag l ≡ false → NamesFamily
-  names-family c h = go (namedIn tag 0 l) refl
+  pub names-number : (from : ℕ) → isCallTag tag ≡ true → namelessOf tag l ≡ false → NamesNumber from
+  names-number from c h = go (namedIn tag from l) refl
     where
-      go : (r : Named) → namedIn tag 0 l ≡ r → NamesFamily
-      go (Family n after) g = record { number = n; after = after; is = g }
-      go (Bad k) g = absurd (clash (sym (nameless-bad c 0 k g) ∙ h))
+      go : (r : Named) → namedIn tag from l ≡ r → NamesNumber from
+      go (Number n after) g = record { number = n; after = after; is = g }
+      go (Bad k) g = absurd (clash (sym (nameless-bad c from k g) ∙ h))

@@ -15,7 +15,7 @@ use Rattle.indexes.specs.Bounds.{Bounded}
 use Rattle.indexes.specs.declared.Bounds.the-variants.{Are, Over, Stuck}
 use Rattle.language.specs.Result.{op}
 use Rattle.fields.specs.declared.Named.{Named}
-use Rattle.fields.specs.declared.Named.the-variants.{Family, Bad}
+use Rattle.fields.specs.declared.Named.the-variants.{Number, Bad}
 use Rattle.fields.specs.CallNumber.{isCallTag, namedIn}
 use Rattle.operands.specs.Meanings.{theWire, operandsOf, frameOf}
 use Rattle.operands.specs.declared.Scope.{Scope}
@@ -120,20 +120,20 @@ innerOf mode tag = cond (eqb tag 37) (deeperOf mode (mode .variables) (not (mode
 abbrev pub enteredOf : Mode → (n many : ℕ) → Mode
 enteredOf mode n many = record { limit = mode .limit; «families_visible» = n; levels = deepest; variables = many; reversed = mode .reversed; condition = mode .condition }
 
--- whether a call's number names no family
+-- whether a call names nothing, neither a family nor a parameter
 unfoldable pub namesNone : Named → Bool
-namesNone (Family n after) = false
+namesNone (Number n after) = false
 namesNone (Bad k) = true
 
--- a call that names no family, with this content
+-- a call that names nothing, with this content
 unfoldable pub namelessOf : (tag : ℕ) → List ℕ → Bool
 namelessOf tag l = isCallTag tag && namesNone (namedIn tag 0 l)
 
--- a statement that may be entered: not too deep, of a tag that there is, and no call without a family
+-- a statement that may be entered: not too deep, of a tag that there is, and no call that names nothing
 pub record Enterable (mode : Mode) (tag : ℕ) (l : List ℕ) : Type 0 where
   pub deep : mode .levels ≡ 0 → ⊥
   pub low : 32 ≤ tag
-  pub high : tag ≤ 41
+  pub high : tag ≤ 42
   pub named : namelessOf tag l ≡ false
 
 pub record StepTaken (mode : Mode) (tag : ℕ) (l : List ℕ) (st s : State) : Type 0 where

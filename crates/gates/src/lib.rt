@@ -181,7 +181,7 @@ pub fn turn(reversed: bool, start: i64, i: usize) -> i32
     z as i32
 }
 
-// Whether the statement with this tag and the content from `from` to `to` is a call that names no family.
+// Whether the statement with this tag and the content from `from` to `to` is a call that names nothing.
 fn nameless(bytes: &[u8], from: usize, to: usize, tag: u8) -> bool
     requires { ⌜ (from ≤ to) × (to ≤ length (now bytes)) ⌝ }
     ensures { λ r. ⌜ r ≡ namelessOf tag (slice from to (now (bytes .entry))) ⌝ }
@@ -189,8 +189,8 @@ fn nameless(bytes: &[u8], from: usize, to: usize, tag: u8) -> bool
     if !fields::is_call(tag) {
         return false;
     }
-    match fields::family_named(bytes, from, to, tag) {
-        Named::Family(_, _) => false,
+    match fields::called_number(bytes, from, to, tag) {
+        Named::Number(_, _) => false,
         Named::Bad(_) => true,
     }
 }
@@ -215,7 +215,7 @@ pub fn enter(
     if tag < fields::H {
         return Answer::Stuck;
     }
-    if fields::CPHASE < tag {
+    if fields::PARAMETER_CALL < tag {
         return Answer::Stuck;
     }
     if nameless(bytes, from, to, tag) {

@@ -2,11 +2,12 @@
 ghost use mathlib.Core.Path.{_≡_};
 ghost use Rattle.kinds.specs.Numbers.{numberOf, kindWith};
 
-// A Qbit parameter, a quantum register or Qbit[I] parameter, or a classical register.
+// A Qbit parameter, a quantum register or Qbit[I] parameter, a classical register, or a family parameter.
 pub enum Kind {
     Qubit,
     Quantum,
     Classical,
+    Family,
 }
 
 // The number of a kind.
@@ -17,6 +18,7 @@ pub fn number(k: Kind) -> u8
         Kind::Qubit => 0,
         Kind::Quantum => 1,
         Kind::Classical => 2,
+        Kind::Family => 3,
     }
 }
 
@@ -30,5 +32,8 @@ pub fn with_number(n: u16) -> Kind
     if n == 1 {
         return Kind::Quantum;
     }
-    Kind::Classical
+    if n == 2 {
+        return Kind::Classical;
+    }
+    Kind::Family
 }

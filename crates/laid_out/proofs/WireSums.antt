@@ -10,7 +10,7 @@ use types.Run.{OneOf}
 use denote.Enum.Declared.{tagOf}
 use lib.ListN.{length, take, drop, getD, length-take, drop-of-length-le}
 use lib.Seq.{drop-cons, getD-take}
-use Rattle.language.specs.Machine.{Meaning, aWire, aBit, wires, bits, begin}
+use Rattle.language.specs.Machine.{Meaning, aWire, aBit, wires, bits, theFamily, begin}
 use Rattle.language.specs.Sound.{wiresIn, wiresLaid}
 use Rattle.operands.specs.declared.Parameter.{Parameter}
 use Rattle.operands.specs.Meanings.{locations, ofParameter}
@@ -27,6 +27,7 @@ wires-first (aWire w) ms = omega arith
 wires-first (wires first size) ms = omega arith
 wires-first (aBit b) ms = omega arith
 wires-first (bits first size) ms = omega arith
+wires-first (theFamily n) ms = omega arith
 
 -- ---- the parameters
 

@@ -79,6 +79,7 @@ fn wires_of(operand: Operand) -> usize
     match operand {
         Operand::Single(_) => 1,
         Operand::Register { first, size } => operands::room_of(first.0, size),
+        Operand::Family(_) => 0,
     }
 }
 

@@ -32,37 +32,20 @@ pub data TopGood (d : C.Declared) : Top → C.Declared → Type 0 where
 same-good : {d d′ : C.Declared} → good d ≡ good d′ → d ≡ d′
 same-good e = cc
 
--- what good counts of a family say
-record CountsGood (families m n : ℕ) (c : ℕ × ℕ) : Type 0 where
-  variables : c .0 ≡ m
-  room : families < mostFamilies
-  few : m ≤ mostVariables
-  count : (1 ≤ n) × (n ≤ mostParameters)
+-- the two numbers of a family, or of a family type, that are good
+pub data CountsGood : (variables parameters : Number) → ℕ × ℕ → Type 0 where
+  counts : {m n : ℕ} → m ≤ mostVariables → (1 ≤ n) × (n ≤ mostParameters) → CountsGood (number m) (number n) (m, n)
 
-pair-first : {x y : ℕ × ℕ} → good x ≡ good y → y .0 ≡ x .0
-pair-first e = cc
-
-counts-good : (p : Place) (families m n : ℕ) (c : ℕ × ℕ) → C.checkCounts p families (number m) (number n) ≡ good c → CountsGood families m n c
+pub counts-good : (p : Place) (variables parameters : Number) (c : ℕ × ℕ) → C.checkCounts p variables parameters ≡ good c → CountsGood variables parameters c
 unfolding C.checkCounts C.checkNumber C._>>=_
-counts-good p families m n c e =
-    let b = then-both (require 6 p (ltb families mostFamilies)) _ c e in
-    let b₂ = then-both (require 6 p (leb m mostVariables)) _ c (b .1) in
-    let b₃ = then-both (require 6 p (leb 1 n && leb n mostParameters)) _ c (b₂ .1) in
-    let k = and-both (leb 1 n) (leb n mostParameters) (required 6 p _ (b₃ .0)) in
-    record {
-      variables = pair-first (b₃ .1);
-      room = ltb-true families mostFamilies (required 6 p _ (b .0));
-      few = leb-true m mostVariables (required 6 p (leb m mostVariables) (b₂ .0));
-      count = (leb-true 1 n (k .0), leb-true n mostParameters (k .1));
-    }
-
-no-counts : (p : Place) (families m : ℕ) (c : ℕ × ℕ) → C.checkCounts p families (number m) missing ≡ good c → ⊥
-unfolding C.checkCounts C.checkNumber C._>>=_
-no-counts p families m c e = not-good (then-both (require 6 p (leb m mostVariables)) _ c (then-both (require 6 p (ltb families mostFamilies)) _ c e .1) .1)
-
-no-count : (p : Place) (families : ℕ) (n : Number) (c : ℕ × ℕ) → C.checkCounts p families missing n ≡ good c → ⊥
-unfolding C.checkCounts C.checkNumber C._>>=_
-no-count p families n c e = not-good (then-both (require 6 p (ltb families mostFamilies)) _ c e .1)
+counts-good p (number m) (number n) c e =
+    let a = then-both (require 6 p (leb m mostVariables)) _ c e in
+    let b = then-both (require 6 p (leb 1 n && leb n mostParameters)) _ c (a .1) in
+    let k = and-both (leb 1 n) (leb n mostParameters) (required 6 p _ (b .0)) in
+    let q : (m, n) ≡ c = cc (b .1) in
+    subst (λ (x : ℕ × ℕ). CountsGood (number m) (number n) x) q (counts (leb-true m mostVariables (required 6 p (leb m mostVariables) (a .0))) (leb-true 1 n (k .0), leb-true n mostParameters (k .1)))
+counts-good p (number m) missing c e = absurd (not-good (then-both (require 6 p (leb m mostVariables)) _ c e .1))
+counts-good p missing n c e = absurd (not-good e)
 
 family-good : (d : C.Declared) (m : ℕ) (types : List ParameterType) (body : Statements) (ks : List Kind) → C.checkFamily d m types body ≡ good ks
     → (C.kindsOf (C.familyScope d m []) types ≡ good ks) × (checkStatements body (C.familyScope d m ks) ≡ fine)
@@ -72,6 +55,11 @@ family-good d m types body ks e =
     let c = then-both (checkStatements body (C.familyScope d m (k .value))) (good (k .value)) ks (k .second) in
     let q : k .value ≡ ks = cc (c .1) in
     (subst (λ (x : List Kind). C.kindsOf (C.familyScope d m []) types ≡ good x) q (k .first), subst (λ (x : List Kind). checkStatements body (C.familyScope d m x) ≡ fine) q (c .0))
+
+family-declared : {v n : Number} {c : ℕ × ℕ} {p : Place} (d : C.Declared) (types : List ParameterType) (body : Statements) (ks : List Kind) → CountsGood v n c → length (d .families) < mostFamilies
+    → C.kindsOf (C.familyScope d (c .0) []) types ≡ good ks → checkStatements body (C.familyScope d (c .0) ks) ≡ fine
+    → TopGood d (family p v n types body) (C.withFamily d (record { variables = c .0; parameters = ks }))
+family-declared d types body ks (counts {m = m} {n = n} few count) room e b = aFamily m n ks room few count e b
 
 -- what the good size of a register says
 record RegisterGood (registers total most n answer : ℕ) : Type 0 where
@@ -97,16 +85,13 @@ no-register p registers total most en size e = not-good (then-both (require 6 p 
 
 pub top-good : (x : Top) (d after : C.Declared) → C.checkTop x d ≡ good after → TopGood d x after
 unfolding C.checkTop
-top-good (family p (number m) (number n) types body) d d′ e =
-    let x = both (C.checkCounts p (length (d .families)) (number m) (number n)) _ d′ e in
-    let h = counts-good p (length (d .families)) m n (x .value) (x .first) in
+top-good (family p v n types body) d d′ e =
+    let a = then-both (require 6 p (ltb (length (d .families)) mostFamilies)) _ d′ e in
+    let x = both (C.checkCounts p v n) _ d′ (a .1) in
     let y = both (C.checkFamily d (x .value .0) types body) _ d′ (x .second) in
     let z = family-good d (x .value .0) types body (y .value) (y .first) in
-    let q : x .value .0 ≡ m = h .variables in
-    subst (λ (y : C.Declared). TopGood d (family p (number m) (number n) types body) y) (ap (λ (v : ℕ). C.withFamily d (record { variables = v; parameters = y .value })) (sym q) ∙ same-good (y .second))
-    (aFamily m n (y .value) (h .room) (h .few) (h .count) (subst (λ (v : ℕ). C.kindsOf (C.familyScope d v []) types ≡ good (y .value)) q (z .0)) (subst (λ (v : ℕ). checkStatements body (C.familyScope d v (y .value)) ≡ fine) q (z .1)))
-top-good (family p (number m) missing types body) d d′ e = absurd (no-counts p (length (d .families)) m _ (both (C.checkCounts p (length (d .families)) (number m) missing) _ d′ e .first))
-top-good (family p missing n types body) d d′ e = absurd (no-count p (length (d .families)) n _ (both (C.checkCounts p (length (d .families)) missing n) _ d′ e .first))
+    subst (λ (y : C.Declared). TopGood d (family p v n types body) y) (same-good (y .second))
+    (family-declared d types body (y .value) (counts-good p v n (x .value) (x .first)) (ltb-true (length (d .families)) mostFamilies (required 6 p _ (a .0))) (z .0) (z .1))
 top-good (qreg p (number n) en) d d′ e =
     let x = both (C.checkRegister p (length (d .registers)) (d .qubits) mostWires (number n) en) _ d′ e in
     let h = register-good p _ _ _ n en (x .value) (x .first) in

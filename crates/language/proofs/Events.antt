@@ -9,10 +9,11 @@ use native.Mathlib.Omega.{arith}
 use lib.Dec.{ltb, eqb}
 use lib.ListN.{length, getElem?}
 use Rattle.language.specs.Form.{inRange}
-use Rattle.language.specs.Tree.{Place, number, missing, Index, literal, variable, operation, badIndex, Operand, whole, element, slice, badOperand, ParameterType, qbit, qbits, badType, Argument, index, operand, badArgument}
-use Rattle.language.specs.Tree.{Statement, Statements, gate, cx, phase, cphase, call, reverse, for, badStatement, nil, cons, Top, family, qreg, creg, measure, reset, if, statement, badTop}
+use Rattle.language.specs.Tree as T
+use Rattle.language.specs.Tree.{Place, number, missing, Index, literal, variable, operation, badIndex, Operand, whole, element, slice, passed, badOperand, qbit, qbits, badType, ParameterType, familyType, Argument, index, operand, badArgument}
+use Rattle.language.specs.Tree.{Statement, Statements, gate, cx, phase, cphase, call, callParameter, reverse, for, badStatement, nil, cons, Top, family, qreg, creg, measure, reset, if, statement, badTop}
 use Rattle.language.specs.Machine as M
-use Rattle.language.specs.Machine.{Wire, Meaning, aWire, aBit, wires, bits, Direction, forward, backward, Frame, State, Outcome, going, ended, stuck, Run, after, done, give, Family, Globals}
+use Rattle.language.specs.Machine.{Wire, Meaning, aWire, aBit, wires, bits, theFamily, Direction, forward, backward, Frame, State, Outcome, going, ended, stuck, Run, after, done, give, Family, Globals}
 use Rattle.language.specs.Ends.{Event, stepAt, valueAt, pairAt, halvingsAt, recordAt, layoutAt, noMeaning, meet, meetAll, plain, Meets, RunEvents, InstanceEvents}
 use Rattle.language.proofs.Runs.{after-after}
 use Rattle.language.proofs.Ends.{meet-append, first-law}
@@ -151,6 +152,7 @@ through-element (wires first n) (pos i) = through-cond (ltb i n) (through-give _
 through-element (wires first n) (negsuc i) = through-nothing
 through-element (bits first n) (pos i) = through-cond (ltb i n) (through-give _) through-nothing
 through-element (bits first n) (negsuc i) = through-nothing
+through-element (theFamily n) z = through-nothing
 
 through-slice : (m : Meaning) (x y : ℤ) → Passes (λ l r. M.sliceAt m x y)
 unfolding M.sliceAt
@@ -158,6 +160,7 @@ through-slice (aWire w) x y = through-nothing
 through-slice (aBit b) x y = through-nothing
 through-slice (wires first n) x y = through-bind (through-natural x) λ a. through-bind (through-natural _) λ b. through-bind (through-natural _) λ c. through-give _
 through-slice (bits first n) x y = through-nothing
+through-slice (theFamily n) x y = through-nothing
 
 through-operand : (p : Place) (f : Frame) (o : Operand) → Passes (λ l r. M.meaningOf p f o)
 unfolding M.meaningOf M.runBounds
@@ -165,6 +168,7 @@ through-operand p f (whole q n e) = through-found (getElem? (f .operands) n)
 through-operand p f (element q n i e) = through-bind (through-found (getElem? (f .operands) n)) λ m. through-bind (through-index p (f .variables) i) λ z. through-element m z
 through-operand p f (slice q n i j e) =
     through-bind (through-found (getElem? (f .operands) n)) λ m. through-bind (through-index p (f .variables) i) λ x. through-bind (through-index p (f .variables) j) λ y. through-slice m x y
+through-operand p f (passed q n e) = through-give (theFamily n)
 through-operand p f (badOperand n q) = through-nothing
 
 through-as-wire : (m : Meaning) → Passes (λ l r. M.asWire m)
@@ -173,6 +177,7 @@ through-as-wire (aWire w) = through-give w
 through-as-wire (aBit b) = through-nothing
 through-as-wire (wires first n) = through-nothing
 through-as-wire (bits first n) = through-nothing
+through-as-wire (theFamily n) = through-nothing
 
 through-as-bit : (m : Meaning) → Passes (λ l r. M.asBit m)
 unfolding M.asBit
@@ -180,6 +185,15 @@ through-as-bit (aWire w) = through-nothing
 through-as-bit (aBit b) = through-give b
 through-as-bit (wires first n) = through-nothing
 through-as-bit (bits first n) = through-nothing
+through-as-bit (theFamily n) = through-nothing
+
+through-as-family : (m : Meaning) → Passes (λ l r. M.asFamily m)
+unfolding M.asFamily
+through-as-family (aWire w) = through-nothing
+through-as-family (aBit b) = through-nothing
+through-as-family (wires first n) = through-nothing
+through-as-family (bits first n) = through-nothing
+through-as-family (theFamily n) = through-give _
 
 through-wire : (p : Place) (f : Frame) (o : Operand) → Passes (λ l r. M.wireOf p f o)
 unfolding M.wireOf
@@ -206,10 +220,11 @@ through-meanings p f (badArgument n q ∷ more) = through-nothing
 through-layout : (values : List ℤ) (next : ℕ) (types : List ParameterType) → Passes (λ l r. M.layout values next types)
 unfolding M.layout M.layWire M.layRegister M.laidThen
 through-layout values next [] = through-give []
-through-layout values next (qbit p e ∷ types) = through-then (through-laid p _) (through-bind (through-layout values _ types) λ ms. through-give _)
-through-layout values next (qbits p i e ∷ types) =
+through-layout values next (T.plain (qbit p e) ∷ types) = through-then (through-laid p _) (through-bind (through-layout values _ types) λ ms. through-give _)
+through-layout values next (T.plain (qbits p i e) ∷ types) =
     through-bind (through-index p values i) λ z. through-bind (through-natural z) λ n. through-then (through-laid p _) (through-bind (through-layout values _ types) λ ms. through-give _)
-through-layout values next (badType n p ∷ types) = through-nothing
+through-layout values next (T.plain (badType n p) ∷ types) = through-nothing
+through-layout values next (familyType p v n xs e ∷ types) = through-nothing
 
 -- ---- families
 
@@ -241,8 +256,17 @@ unfolding M.inOrder
 through-order forward h k = through-then h k
 through-order backward h k = through-then k h
 
+through-call : (p : Place) (n : ℕ) (more : List Argument) (xs : List Everywhere) (f : Frame) → Passes (λ l r. M.runCall l r p n more (map (familyAt l r) xs) f)
+unfolding M.runCall M.callFamily M.enter M.inCall
+through-call p n more xs f = through-read _ (found-family xs n) λ x.
+    through-bind (through-sizes p f more) λ zs. through-bind (through-meanings p f more) λ ms. through-cond (eqb (length zs) (x .variables) && M.allTake (x .types) ms) (x .passes (M.inCall f zs ms)) through-nothing
+
+through-parameter : (p : Place) (i : ℕ) (more : List Argument) (xs : List Everywhere) (f : Frame) → Passes (λ l r. M.runParameterCall l r p i more (map (familyAt l r) xs) f)
+unfolding M.runParameterCall
+through-parameter p i more xs f = through-bind (through-found (getElem? (f .operands) i)) λ m. through-bind (through-as-family m) λ n. through-call p n more xs f
+
 mutual
-  unfolding M.runStatement M.runGate M.runCx M.runPhase M.runCphase M.runCall M.callFamily M.runReverse M.runFor M.runBounds M.enter M.inCall
+  unfolding M.runStatement M.runGate M.runCx M.runPhase M.runCphase M.runReverse M.runFor M.runBounds
 
   through-statement : (x : Statement) (xs : List Everywhere) (f : Frame) → Passes (λ l r. M.runStatement l r x (map (familyAt l r) xs) f)
   through-statement (gate p g o e) xs f = through-then (through-step p) (through-bind (through-wire p f o) λ w. through-write p f _)
@@ -250,8 +274,8 @@ mutual
   through-statement (phase p i o e) xs f = through-then (through-step p) (through-bind (through-halvings p (f .variables) i) λ k. through-bind (through-wire p f o) λ w. through-then (through-few p k) (through-write p f _))
   through-statement (cphase p i c o e) xs f = through-then (through-step p) (through-bind (through-halvings p (f .variables) i) λ k. through-bind (through-wire p f c) λ x. through-bind (through-wire p f o) λ y.
       through-then (through-apart p x y) (through-then (through-few p k) (through-write p f _)))
-  through-statement (call p n more) xs f = through-then (through-step p) (through-read _ (found-family xs n) λ x.
-      through-bind (through-sizes p f more) λ zs. through-bind (through-meanings p f more) λ ms. through-cond (eqb (length zs) (x .variables) && M.allTake (x .types) ms) (x .passes (M.inCall f zs ms)) through-nothing)
+  through-statement (call p n more) xs f = through-then (through-step p) (through-call p n more xs f)
+  through-statement (callParameter p i more) xs f = through-then (through-step p) (through-parameter p i more xs f)
   through-statement (reverse p ss) xs f = through-then (through-step p) (through-statements ss xs _)
   through-statement (for p low high ss) xs f = through-then (through-step p) (through-bind (through-index p (f .variables) low) λ x. through-bind (through-index p (f .variables) high) λ y.
       through-rounds p (f .direction) _ _ (λ z l r. M.runStatements l r ss (map (familyAt l r) xs) (M.inRound f z)) (λ z. through-statements ss xs (M.inRound f z)))

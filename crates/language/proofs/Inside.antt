@@ -8,9 +8,9 @@ use native.Mathlib.Omega.{arith}
 use lib.IntN.{ℤ, pos, negsuc, _+ℤ_, _-ℤ_}
 use lib.Dec.{ltb}
 use lib.ListN.{getElem?}
-use Rattle.language.specs.Tree.{Place, Operand, whole, element, slice, badOperand, Argument, index, operand, badArgument}
+use Rattle.language.specs.Tree.{Place, Operand, whole, element, slice, passed, badOperand, Argument, index, operand, badArgument}
 use Rattle.language.specs.Machine as M
-use Rattle.language.specs.Machine.{Meaning, aWire, aBit, wires, bits, Frame, State, Outcome, going, ended, stuck, Run}
+use Rattle.language.specs.Machine.{Meaning, aWire, aBit, wires, bits, theFamily, Frame, State, Outcome, going, ended, stuck, Run}
 use Rattle.language.specs.Inside.{Inside, here, later, Lies, AllLie, Gives, SliceLaw, OperandLaw, CallLaw}
 use Rattle.language.proofs.Integers.{slice-within}
 
@@ -29,6 +29,7 @@ lies-trans qs rs (aWire w) l h = tt
 lies-trans qs rs (aBit b) l h = tt
 lies-trans qs rs (wires a n) l h = inside-trans qs rs l h
 lies-trans qs rs (bits a n) l h = tt
+lies-trans qs rs (theFamily n) l h = tt
 
 pub lie-parts : (rs ms ns : List Meaning) → AllLie rs (ms ++ ns) → AllLie rs ms × AllLie rs ns
 lie-parts rs [] ns i = (tt, i)
@@ -39,12 +40,14 @@ lies-later r rs (aWire w) i = tt
 lies-later r rs (aBit b) i = tt
 lies-later r rs (wires a n) i = later i
 lies-later r rs (bits a n) i = tt
+lies-later r rs (theFamily n) i = tt
 
 lies-first : (m : Meaning) (rs : List Meaning) → Lies (m ∷ rs) m
 lies-first (aWire w) rs = tt
 lies-first (aBit b) rs = tt
 lies-first (wires a n) rs = here {a = a} {n = n} {first = a .number} {size = n} (omega arith) (omega arith)
 lies-first (bits a n) rs = tt
+lies-first (theFamily n) rs = tt
 
 lie-later : (r : Meaning) (rs ms : List Meaning) → AllLie rs ms → AllLie (r ∷ rs) ms
 lie-later r rs [] i = tt
@@ -119,6 +122,7 @@ element-lies rs (bits a n) (pos i) = go (ltb i n)
     go true = yields-give tt
     go false = yields-nothing
 element-lies rs (bits a n) (negsuc i) = yields-nothing
+element-lies rs (theFamily n) z = yields-nothing
 
 slice-lies : (rs : List Meaning) (m : Meaning) (x y : ℤ) → Lies rs m → Yields (Lies rs) (M.sliceAt m x y)
 unfolding M.sliceAt
@@ -128,6 +132,7 @@ slice-lies rs (wires a n) x y l =
     yields-bind (natural-yields x) λ b e. yields-bind (natural-yields (pos n -ℤ pos 1 -ℤ y)) λ c g. yields-bind (natural-yields (y -ℤ x +ℤ pos 1)) λ k h.
     yields-give (inside-part (a .number + b) k l (omega arith) (omega (arith, slice-within n x y e g h)))
 slice-lies rs (bits a n) x y l = yields-nothing
+slice-lies rs (theFamily n) x y l = yields-nothing
 
 -- what an operand stands for lies inside what its number stands for
 operand-lies : (p : Place) (f : Frame) (o : Operand) → Yields (Lies (f .operands)) (M.meaningOf p f o)
@@ -136,6 +141,7 @@ operand-lies p f (whole q n e) = found-lies (f .operands) n
 operand-lies p f (element q n i e) = yields-bind (found-lies (f .operands) n) λ m h. yields-bind (yields-any (M.evaluate p (f .variables) i)) λ z u. element-lies (f .operands) m z
 operand-lies p f (slice q n i j e) =
     yields-bind (found-lies (f .operands) n) λ m h. yields-bind (yields-any (M.evaluate p (f .variables) i)) λ x u. yields-bind (yields-any (M.evaluate p (f .variables) j)) λ y v. slice-lies (f .operands) m x y h
+operand-lies p f (passed q n e) = yields-give tt
 operand-lies p f (badOperand n q) = yields-nothing
 
 -- so a body is entered with runs of wires inside the registers that the caller's lie in, through any number of calls

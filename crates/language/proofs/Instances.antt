@@ -1,13 +1,13 @@
 -- An instance before the machine starts: the family that is found, and what turns the instance down.
 use mathlib.Core.Path.{_≡_, refl, ap, _∙_}
 use mathlib.Core.List.{List, []}
-use mathlib.Core.Bool.{false}
+use mathlib.Core.Bool.{true, false}
 use mathlib.Core.Option.{none, some}
 use Prim.Native.Nat.{ℕ, _*_}
 use borrow.Author.Tests.{eq-eqb, ne-eqb}
 use lib.ListN.{length, take, getElem?}
 use Rattle.language.specs.Read.{read}
-use Rattle.language.specs.Machine.{Family, allDeclared}
+use Rattle.language.specs.Machine.{Family, hasFamilyType, allDeclared}
 use Rattle.language.specs.Result.{untouched, fourBytes, allSizesFit, instanceOf}
 use Rattle.language.specs.Lookup.{Declaration, familyIn, mapped, meaning}
 use Rattle.language.proofs.Families.{family-at}
@@ -30,12 +30,17 @@ module _ (program : List ℕ) (n limit : ℕ) (output : List ℕ) where
     unfolding instanceOf
     no-family i = rw (family-missing i) refl
 
-    pub miscounted : (D : Declaration) → familyIn (read program) n ≡ some D → (length sizes ≡ 4 * D .variables → ⊥)
+    pub takes-family : (D : Declaration) → familyIn (read program) n ≡ some D → hasFamilyType (D .types) ≡ true
+        → instanceOf (getElem? (allDeclared limit (length output) (read program) []) n) sizes output ≡ untouched output 34 0
+    unfolding instanceOf declared-family meaning
+    takes-family D i t = rw (family-found D i, t) refl
+
+    pub miscounted : (D : Declaration) → familyIn (read program) n ≡ some D → hasFamilyType (D .types) ≡ false → (length sizes ≡ 4 * D .variables → ⊥)
         → instanceOf (getElem? (allDeclared limit (length output) (read program) []) n) sizes output ≡ untouched output 21 0
     unfolding instanceOf declared-family meaning
-    miscounted D i h = rw (family-found D i, ne-eqb (length sizes) (4 * D .variables) h) refl
+    miscounted D i t h = rw (family-found D i, t, ne-eqb (length sizes) (4 * D .variables) h) refl
 
-    pub too-large : (D : Declaration) → familyIn (read program) n ≡ some D → length sizes ≡ 4 * D .variables → allSizesFit (fourBytes sizes) ≡ false
+    pub too-large : (D : Declaration) → familyIn (read program) n ≡ some D → hasFamilyType (D .types) ≡ false → length sizes ≡ 4 * D .variables → allSizesFit (fourBytes sizes) ≡ false
         → instanceOf (getElem? (allDeclared limit (length output) (read program) []) n) sizes output ≡ untouched output 22 0
     unfolding instanceOf declared-family meaning
-    too-large D i h k = rw (family-found D i, eq-eqb (length sizes) (4 * D .variables) h, k) refl
+    too-large D i t h k = rw (family-found D i, t, eq-eqb (length sizes) (4 * D .variables) h, k) refl

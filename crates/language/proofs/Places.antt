@@ -10,11 +10,11 @@ use lib.Dec.{leb, ltb, eqb}
 use lib.ListN.{length, getElem?}
 use Rattle.language.specs.Limits.{mostWires, recordSize, mostHalvings}
 use Rattle.language.specs.Form.{inRange}
-use Rattle.language.specs.Tree.{Place, number, missing, Index, literal, variable, operation, badIndex, Operand, whole, element, slice, badOperand, ParameterType, qbit, qbits, badType, Argument, index, operand, badArgument}
-use Rattle.language.specs.Tree.{Statement, Statements, gate, cx, phase, cphase, call, reverse, for, badStatement, nil, cons, Top, family, qreg, creg, measure, reset, if, statement, badTop}
+use Rattle.language.specs.Tree.{Place, number, missing, Index, literal, variable, operation, badIndex, Operand, whole, element, slice, passed, badOperand, qbit, qbits, badType, ParameterType, plain, familyType, Argument, index, operand, badArgument}
+use Rattle.language.specs.Tree.{Statement, Statements, gate, cx, phase, cphase, call, callParameter, reverse, for, badStatement, nil, cons, Top, family, qreg, creg, measure, reset, if, statement, badTop}
 use Rattle.language.specs.Read.{read}
 use Rattle.language.specs.Machine as M
-use Rattle.language.specs.Machine.{Meaning, aWire, aBit, wires, bits, Direction, forward, backward, Frame, Outcome, going, ended, stuck, Run, Family, Globals}
+use Rattle.language.specs.Machine.{Meaning, aWire, aBit, wires, bits, theFamily, Direction, forward, backward, Frame, Outcome, going, ended, stuck, Run, Family, Globals}
 use Rattle.language.proofs.Trees.{AllOf, FairType, FairStatement, FairStatements, FairTop, tops-fair}
 
 module _ (size : ℕ) where
@@ -96,6 +96,7 @@ module _ (size : ℕ) where
   ends-element (wires first n) (negsuc i) = ends-nothing
   ends-element (bits first n) (pos i) = ends-cond (ltb i n) (ends-give _) ends-nothing
   ends-element (bits first n) (negsuc i) = ends-nothing
+  ends-element (theFamily n) z = ends-nothing
 
   ends-slice : (m : Meaning) (x y : ℤ) → EndsWithin (M.sliceAt m x y)
   unfolding M.sliceAt
@@ -103,6 +104,7 @@ module _ (size : ℕ) where
   ends-slice (aBit b) x y = ends-nothing
   ends-slice (wires first n) x y = ends-bind (ends-natural x) λ a. ends-bind (ends-natural _) λ b. ends-bind (ends-natural _) λ c. ends-give _
   ends-slice (bits first n) x y = ends-nothing
+  ends-slice (theFamily n) x y = ends-nothing
 
   ends-operand : (p : Place) (f : Frame) (o : Operand) → p ≤ size → EndsWithin (M.meaningOf p f o)
   unfolding M.meaningOf M.runBounds
@@ -110,6 +112,7 @@ module _ (size : ℕ) where
   ends-operand p f (element q n i e) h = ends-bind (ends-found (getElem? (f .operands) n)) λ m. ends-bind (ends-index p (f .variables) i h) λ z. ends-element m z
   ends-operand p f (slice q n i j e) h =
       ends-bind (ends-found (getElem? (f .operands) n)) λ m. ends-bind (ends-index p (f .variables) i h) λ x. ends-bind (ends-index p (f .variables) j h) λ y. ends-slice m x y
+  ends-operand p f (passed q n e) h = ends-give (theFamily n)
   ends-operand p f (badOperand n q) h = ends-nothing
 
   ends-as-wire : (m : Meaning) → EndsWithin (M.asWire m)
@@ -118,6 +121,7 @@ module _ (size : ℕ) where
   ends-as-wire (aBit b) = ends-nothing
   ends-as-wire (wires first n) = ends-nothing
   ends-as-wire (bits first n) = ends-nothing
+  ends-as-wire (theFamily n) = ends-nothing
 
   ends-as-bit : (m : Meaning) → EndsWithin (M.asBit m)
   unfolding M.asBit
@@ -125,6 +129,15 @@ module _ (size : ℕ) where
   ends-as-bit (aBit b) = ends-give b
   ends-as-bit (wires first n) = ends-nothing
   ends-as-bit (bits first n) = ends-nothing
+  ends-as-bit (theFamily n) = ends-nothing
+
+  ends-as-family : (m : Meaning) → EndsWithin (M.asFamily m)
+  unfolding M.asFamily
+  ends-as-family (aWire w) = ends-nothing
+  ends-as-family (aBit b) = ends-nothing
+  ends-as-family (wires first n) = ends-nothing
+  ends-as-family (bits first n) = ends-nothing
+  ends-as-family (theFamily n) = ends-give _
 
   ends-wire : (p : Place) (f : Frame) (o : Operand) → p ≤ size → EndsWithin (M.wireOf p f o)
   unfolding M.wireOf
@@ -155,10 +168,11 @@ module _ (size : ℕ) where
   ends-layout : (values : List ℤ) (next : ℕ) (types : List ParameterType) → AllOf (FairType size) types → EndsWithin (M.layout values next types)
   unfolding M.layout M.layWire M.layRegister M.laidThen
   ends-layout values next [] h = ends-give []
-  ends-layout values next (qbit p e ∷ types) h = ends-then (ends-laid p _ (h .0)) (ends-bind (ends-layout values _ types (h .1)) λ ms. ends-give _)
-  ends-layout values next (qbits p i e ∷ types) h =
+  ends-layout values next (plain (qbit p e) ∷ types) h = ends-then (ends-laid p _ (h .0)) (ends-bind (ends-layout values _ types (h .1)) λ ms. ends-give _)
+  ends-layout values next (plain (qbits p i e) ∷ types) h =
       ends-bind (ends-index p values i (h .0 .0)) λ z. ends-bind (ends-natural z) λ n. ends-then (ends-laid p _ (h .0 .0)) (ends-bind (ends-layout values _ types (h .1)) λ ms. ends-give _)
-  ends-layout values next (badType n p ∷ types) h = ends-nothing
+  ends-layout values next (plain (badType n p) ∷ types) h = ends-nothing
+  ends-layout values next (familyType p v n xs e ∷ types) h = ends-nothing
 
   -- ---- statements
 
@@ -204,8 +218,17 @@ module _ (size : ℕ) where
     ends-enter none f k = ends-nothing
     ends-enter (some x) f k = record { ends = λ s. k x refl .ends s }
 
+    ends-call : (p : Place) (n : ℕ) (more : List Argument) (fs : List Family) (f : Frame) → p ≤ size → AllOf FamilyWithin fs → EndsWithin (M.runCall limit room p n more fs f)
+    unfolding M.runCall M.callFamily M.enter M.inCall
+    ends-call p n more fs f h k = ends-enter (getElem? fs n) _ λ x e.
+        ends-bind (ends-sizes p f more h) λ zs. ends-bind (ends-meanings p f more h) λ ms. ends-cond (eqb (length zs) (x .variables) && M.allTake (x .types) ms) (kept-found fs n k x e .body (M.inCall f zs ms)) ends-nothing
+
+    ends-parameter : (p : Place) (i : ℕ) (more : List Argument) (fs : List Family) (f : Frame) → p ≤ size → AllOf FamilyWithin fs → EndsWithin (M.runParameterCall limit room p i more fs f)
+    unfolding M.runParameterCall
+    ends-parameter p i more fs f h k = ends-bind (ends-found (getElem? (f .operands) i)) λ m. ends-bind (ends-as-family m) λ n. ends-call p n more fs f h k
+
     mutual
-      unfolding M.runStatement M.runGate M.runCx M.runPhase M.runCphase M.runCall M.callFamily M.runReverse M.runFor M.runBounds FairStatement M.enter M.inCall
+      unfolding M.runStatement M.runGate M.runCx M.runPhase M.runCphase M.runReverse M.runFor M.runBounds FairStatement
 
       pub ends-statement : (x : Statement) (fs : List Family) (f : Frame) → FairStatement size x → AllOf FamilyWithin fs → EndsWithin (M.runStatement limit room x fs f)
       ends-statement (gate p g o e) fs f h k = ends-then (ends-step p (h .0)) (ends-bind (ends-wire p f o (h .0)) λ w. ends-write p f _ (h .0))
@@ -213,8 +236,8 @@ module _ (size : ℕ) where
       ends-statement (phase p i o e) fs f h k = ends-then (ends-step p (h .0)) (ends-bind (ends-halvings p (f .variables) i (h .0)) λ n. ends-bind (ends-wire p f o (h .0)) λ w. ends-then (ends-few p n (h .0)) (ends-write p f _ (h .0)))
       ends-statement (cphase p i c o e) fs f h k = ends-then (ends-step p (h .0)) (ends-bind (ends-halvings p (f .variables) i (h .0)) λ n. ends-bind (ends-wire p f c (h .0)) λ x. ends-bind (ends-wire p f o (h .0)) λ y.
           ends-then (ends-apart p x y (h .0)) (ends-then (ends-few p n (h .0)) (ends-write p f _ (h .0))))
-      ends-statement (call p n more) fs f h k = ends-then (ends-step p (h .0)) (ends-enter (getElem? fs n) _ λ x e.
-          ends-bind (ends-sizes p f more (h .0)) λ zs. ends-bind (ends-meanings p f more (h .0)) λ ms. ends-cond (eqb (length zs) (x .variables) && M.allTake (x .types) ms) (kept-found fs n k x e .body (M.inCall f zs ms)) ends-nothing)
+      ends-statement (call p n more) fs f h k = ends-then (ends-step p (h .0)) (ends-call p n more fs f (h .0) k)
+      ends-statement (callParameter p i more) fs f h k = ends-then (ends-step p (h .0)) (ends-parameter p i more fs f (h .0) k)
       ends-statement (reverse p ss) fs f h k = ends-then (ends-step p (h .0)) (ends-statements ss fs _ (h .1) k)
       ends-statement (for p low high ss) fs f h k = ends-then (ends-step p (h .0)) (ends-bind (ends-index p (f .variables) low (h .0)) λ x. ends-bind (ends-index p (f .variables) high (h .0)) λ y.
           ends-rounds p (f .direction) _ _ _ (h .0) (λ z. ends-statements ss fs (M.inRound f z) (h .3) k))

@@ -1,4 +1,4 @@
--- THE THEOREM: an accepted program's runs and instances are never stuck, and their answers are Sound.
+-- THE THEOREM: runs and instances of an accepted program are never stuck, and their answers are Sound; an instance of a family with a family parameter gives 34.
 use mathlib.Core.Path.{_≡_, refl}
 use mathlib.Core.Logic.{_⊎_, inl, inr}
 use mathlib.Core.List.{List, [], _∷_, map}
@@ -18,7 +18,7 @@ use Rattle.language.specs.Machine as M
 use Rattle.language.specs.Machine.{State, Outcome, found, Family, begin, layout, allDeclared, runProgram, runInstance}
 use Rattle.language.specs.Result.{Answer, Conclusion, finished, gotStuck, outputBytes, writtenInto, resultOf, untouched, conclusionOf, checkProgram, verdict, checkResult, ifAccepted, runOutcome, fourBytes, allSizesFit, instanceOf, instanceOutcome}
 use Rattle.language.specs.Lookup.{Declaration, familyIn, meaning}
-use Rattle.language.specs.Sound.{qubitsDeclared, bitsDeclared, wiresLaid, wiresOf, wiresLaidOut, EndsWith, Sound, Finishes, Suits}
+use Rattle.language.specs.Sound.{qubitsDeclared, bitsDeclared, wiresLaid, wiresOf, wiresLaidOut, EndsWith, Sound, Finishes, hasFamilyParameter, takesFamily, Suits}
 use Rattle.language.specs.Inside.{registersIn, meaningsLaid}
 use Rattle.language.specs.Theorem.{Reports, RunTheorem, instanceAt}
 use Rattle.language.proofs.FormLaws.{Naturals}
@@ -27,7 +27,7 @@ use Rattle.language.proofs.Safe.{World, lastEnd, Held, Safe, goes, ends
 use Rattle.language.proofs.Accepted.{program-counts}
 use Rattle.language.proofs.Inside.{lie-all}
 use Rattle.language.proofs.Tops.{program-safe, instance-safe, layout-few}
-use Rattle.language.proofs.Instances.{declared-family, family-found, family-missing}
+use Rattle.language.proofs.Instances.{declared-family, family-found, family-missing, takes-family}
 use Rattle.language.proofs.Refusals.{accepted}
 use Rattle.language.proofs.Output.{written-size, drop-written, none-written, bytes-written}
 
@@ -194,13 +194,13 @@ module _ (program : List ℕ) (n : ℕ) (sizes : List ℕ) (limit : ℕ) (output
 
   -- an instance at sizes that were counted, of the family D
   machine-reports : (D : Declaration) (f : Family) → familyIn (read program) n ≡ some D → getElem? (allDeclared limit (length output) (read program) []) n ≡ some f → f .variables ≡ D .variables → f .types ≡ D .types
-      → length sizes ≡ 4 * f .variables
+      → M.hasFamilyType (f .types) ≡ false → length sizes ≡ 4 * f .variables
       → Reports 23 limit (wiresLaidOut program n sizes) 0 output (runInstance f (map pos (fourBytes sizes))) (conclusionOf output (runInstance f (map pos (fourBytes sizes))))
   unfolding wiresOf
-  machine-reports D f i g v t c =
+  machine-reports D f i g v t u c =
       let W : World = record { limit = limit; room = length output; wires = wiresLaidOut program n sizes; bits = 0; registers = meaningsLaid (layout (map pos (fourBytes sizes)) 0 (f .types) begin); least = 23; most = lastEnd; early = omega arith; late = omega arith } in
       let q : wiresLaid (layout (map pos (fourBytes sizes)) 0 (f .types) begin) ≤ wiresLaidOut program n sizes = rw (i, t) (omega arith) in
-      safe-reports W output (runInstance f (map pos (fourBytes sizes))) (omega arith) refl few-laid (instance-safe W (omega arith) (read program) d n f (map pos (fourBytes sizes)) e g (sizes-natural (f .variables) sizes c) q (lie-all (meaningsLaid (layout (map pos (fourBytes sizes)) 0 (f .types) begin))) (omega arith))
+      safe-reports W output (runInstance f (map pos (fourBytes sizes))) (omega arith) refl few-laid (instance-safe W (omega arith) (read program) d n f (map pos (fourBytes sizes)) e g u (sizes-natural (f .variables) sizes c) q (lie-all (meaningsLaid (layout (map pos (fourBytes sizes)) 0 (f .types) begin))) (omega arith))
 
   -- at sizes that suit, the machine runs
   suited-reports : Suits program n sizes
@@ -208,18 +208,24 @@ module _ (program : List ℕ) (n : ℕ) (sizes : List ℕ) (limit : ℕ) (output
   unfolding instanceOf declared-family meaning instanceAt found M._>>=_ M.after runInstance
   suited-reports s =
       let g = family-found program n limit output (s .called) (s .declared) in
-      rw (g, eq-eqb (length sizes) (4 * s .called .variables) (s .counted), s .small) (machine-reports (s .called) (declared-family program n limit output (s .called)) (s .declared) g refl refl (s .counted))
+      rw (g, s .plain, eq-eqb (length sizes) (4 * s .called .variables) (s .counted), s .small) (machine-reports (s .called) (declared-family program n limit output (s .called)) (s .declared) g refl refl (s .plain) (s .counted))
 
-  any-finishes : (o : Option Declaration) → familyIn (read program) n ≡ o → Finishes 20 limit (wiresLaidOut program n sizes) 0 output (instanceOf (getElem? (allDeclared limit (length output) (read program) []) n) sizes output)
-  unfolding instanceOf declared-family meaning
-  any-finishes none i = rw (family-missing program n limit output i) (untouched-finishes 20 limit (wiresLaidOut program n sizes) 0 output 20 (omega arith) (omega arith) (omega arith) few-laid)
-  any-finishes (some D) i = let g = family-found program n limit output D i in rw g (go (eqb (length sizes) (4 * D .variables)) (allSizesFit (fourBytes sizes)) refl)
+  any-finishes : (o : Option Declaration) → familyIn (read program) n ≡ o → hasFamilyParameter o ≡ false → Finishes 20 limit (wiresLaidOut program n sizes) 0 output (instanceOf (getElem? (allDeclared limit (length output) (read program) []) n) sizes output)
+  unfolding instanceOf declared-family meaning hasFamilyParameter
+  any-finishes none i u = rw (family-missing program n limit output i) (untouched-finishes 20 limit (wiresLaidOut program n sizes) 0 output 20 (omega arith) (omega arith) (omega arith) few-laid)
+  any-finishes (some D) i u = let g = family-found program n limit output D i in rw (g, u) (go (eqb (length sizes) (4 * D .variables)) (allSizesFit (fourBytes sizes)) refl)
     where
       go : (b c : Bool) → eqb (length sizes) (4 * D .variables) ≡ b
           → Finishes 20 limit (wiresLaidOut program n sizes) 0 output (cond b (cond c (conclusionOf output (runInstance (declared-family program n limit output D) (map pos (fourBytes sizes)))) (untouched output 22 0)) (untouched output 21 0))
-      go true true h = finishes-from (omega arith) (finishes-of (machine-reports D (declared-family program n limit output D) i (family-found program n limit output D i) refl refl (eqb-true (length sizes) (4 * D .variables) h)))
+      go true true h = finishes-from (omega arith) (finishes-of (machine-reports D (declared-family program n limit output D) i (family-found program n limit output D i) refl refl u (eqb-true (length sizes) (4 * D .variables) h)))
       go true false h = untouched-finishes 20 limit (wiresLaidOut program n sizes) 0 output 22 (omega arith) (omega arith) (omega arith) few-laid
       go false c h = untouched-finishes 20 limit (wiresLaidOut program n sizes) 0 output 21 (omega arith) (omega arith) (omega arith) few-laid
+
+  -- of a family with a family parameter there is no instance
+  family-parameter : (o : Option Declaration) → familyIn (read program) n ≡ o → hasFamilyParameter o ≡ true → instanceOf (getElem? (allDeclared limit (length output) (read program) []) n) sizes output ≡ untouched output 34 0
+  unfolding hasFamilyParameter
+  family-parameter none i u = absurd (let z : _≡_ {A = ℕ} 0 1 = cc in omega arith)
+  family-parameter (some D) i u = takes-family program n limit output sizes D i u
 
 -- ---- THE THEOREM
 
@@ -239,14 +245,22 @@ instance-reports program family sizes limit output e s =
     let a = accepted program e in
     rw (a .1) (suited-reports program family sizes limit output (a .0) (checked program (a .0) (a .1)) s)
 
--- every instance of an accepted program, at every family number, sizes, limit and output; at sizes that suit, the number is 0, 23 to 27 or 32
+-- every instance of an accepted program, at every number of a family without family parameters, sizes, limit and output; at sizes that suit, the number is 0, 23 to 27 or 32
 pub instance-sound : (program : List ℕ) (family : ℕ) (sizes : List ℕ) (limit : ℕ) (output : List ℕ) → checkResult program .number ≡ 0
-    → Finishes 20 limit (wiresLaidOut program family sizes) 0 output (instanceOutcome program family sizes limit output)
+    → (takesFamily program family ≡ false → Finishes 20 limit (wiresLaidOut program family sizes) 0 output (instanceOutcome program family sizes limit output))
     × (Suits program family sizes → Finishes 23 limit (wiresLaidOut program family sizes) 0 output (instanceOutcome program family sizes limit output))
 unfolding instanceOutcome ifAccepted
 instance-sound program family sizes limit output e =
     let a = accepted program e in
-    (rw (a .1) (any-finishes program family sizes limit output (a .0) (checked program (a .0) (a .1)) _ refl), λ s. finishes-of (instance-reports program family sizes limit output e s))
+    (λ u. rw (a .1) (any-finishes program family sizes limit output (a .0) (checked program (a .0) (a .1)) _ refl u), λ s. finishes-of (instance-reports program family sizes limit output e s))
+
+-- and an instance of a family with a family parameter gives 34
+pub instance-passed : (program : List ℕ) (family : ℕ) (sizes : List ℕ) (limit : ℕ) (output : List ℕ) → checkResult program .number ≡ 0 → takesFamily program family ≡ true
+    → instanceOutcome program family sizes limit output ≡ untouched output 34 0
+unfolding instanceOutcome ifAccepted
+instance-passed program family sizes limit output e u =
+    let a = accepted program e in
+    rw (a .1) (family-parameter program family sizes limit output (a .0) (checked program (a .0) (a .1)) _ refl u)
 
 -- ---- a program that is turned down
 
@@ -281,6 +295,10 @@ run-never-stuck program limit output g = go (checkResult program .number) refl
 pub instance-never-stuck : (program : List ℕ) (family : ℕ) (sizes : List ℕ) (limit : ℕ) (output : List ℕ) → instanceOutcome program family sizes limit output ≡ gotStuck → ⊥
 instance-never-stuck program family sizes limit output g = go (checkResult program .number) refl
   where
+    go-zero : (b : Bool) → checkResult program .number ≡ 0 → takesFamily program family ≡ b → ⊥
+    go-zero false e u = not-stuck (instance-sound program family sizes limit output e .0 u .is) g
+    go-zero true e u = not-stuck (instance-passed program family sizes limit output e u) g
+
     go : (n : ℕ) → checkResult program .number ≡ n → ⊥
-    go zero e = not-stuck (instance-sound program family sizes limit output e .0 .is) g
+    go zero e = go-zero (takesFamily program family) e refl
     go (suc n) e = not-stuck (instance-refused program family sizes limit output (omega arith)) g

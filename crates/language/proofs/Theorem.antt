@@ -12,7 +12,7 @@ use Rattle.language.specs.Sound.{wiresOf}
 use Rattle.language.specs.Sizes.{bytesOfSizes}
 use Rattle.language.specs.Theorem.{Reports, RunTheorem, instanceAt, InstanceTheorem, SizesTheorem}
 use Rattle.language.proofs.Refusals.{accepted}
-use Rattle.language.proofs.Instances.{no-family, miscounted, too-large}
+use Rattle.language.proofs.Instances.{no-family, takes-family, miscounted, too-large}
 use Rattle.language.proofs.Sizes.{every-size-said}
 use Rattle.language.proofs.Soundness.{run-reports, instance-reports}
 
@@ -24,13 +24,14 @@ unfolding instanceOutcome ifAccepted
 instance-theorem program family sizes limit output e = let a = accepted program e in
     record {
       noFamily = λ i. rw (a .1) (no-family program family limit output sizes i);
-      miscounted = λ d i h. rw (a .1) (miscounted program family limit output sizes d i h);
-      tooLarge = λ d i h k. rw (a .1) (too-large program family limit output sizes d i h k);
+      takesFamily = λ d i t. rw (a .1) (takes-family program family limit output sizes d i t);
+      miscounted = λ d i t h. rw (a .1) (miscounted program family limit output sizes d i t h);
+      tooLarge = λ d i t h k. rw (a .1) (too-large program family limit output sizes d i t h k);
       suited = instance-reports program family sizes limit output e;
     }
 
 pub sizes-theorem : SizesTheorem
-sizes-theorem program family d sizes limit output e i c h =
+sizes-theorem program family d sizes limit output e i t c h =
     let b = every-size-said sizes h in
-    let r = instance-reports program family (bytesOfSizes sizes) limit output e (record { called = d; declared = i; counted = omega (arith, b .count); small = b .small }) in
+    let r = instance-reports program family (bytesOfSizes sizes) limit output e (record { called = d; declared = i; plain = t; counted = omega (arith, b .count); small = b .small }) in
     subst₂ (λ (xs : List ℕ) (o : Option Declaration). Reports 23 limit (wiresOf o (map pos xs)) 0 output (instanceAt program family xs limit (length output)) (instanceOutcome program family (bytesOfSizes sizes) limit output)) (b .say) i r

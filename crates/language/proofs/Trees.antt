@@ -1,4 +1,4 @@
--- Trees as they are read: every place in one is within the program, and every fault in one has a number from 1 to 13, or 31.
+-- Trees as they are read: every place in one is within the program, and every fault in one has a number of the check: 1 to 13, 31 or 33.
 use mathlib.Core.List.{List, [], _∷_, map}
 use mathlib.Core.Path.{_≡_}
 use mathlib.Core.Bool.{Bool, true, false, cond}
@@ -7,17 +7,17 @@ use native.Mathlib.Omega.{arith}
 use lib.Dec.{leb}
 use lib.ListN.{length, take, drop, length-take}
 use Rattle.language.specs.Limits.{deepest}
-use Rattle.language.specs.Tree.{Place, Ending, Number, Operation, sum, difference, product, Index, literal, variable, operation, badIndex, Operand, whole, element, slice, badOperand}
-use Rattle.language.specs.Tree.{ParameterType, qbit, qbits, badType, Argument, index, operand, badArgument, Gate, gateH, gateT, gateTdg, Statement, Statements, gate, cx, phase, cphase, call, reverse, for, badStatement, nil, cons}
+use Rattle.language.specs.Tree.{Place, Ending, Number, Operation, sum, difference, product, Index, literal, variable, operation, badIndex, Operand, whole, element, slice, passed, badOperand}
+use Rattle.language.specs.Tree.{PlainType, qbit, qbits, badType, ParameterType, plain, familyType, Argument, index, operand, badArgument, Gate, gateH, gateT, gateTdg, Statement, Statements, gate, cx, phase, cphase, call, callParameter, reverse, for, badStatement, nil, cons}
 use Rattle.language.specs.Tree.{Top, family, qreg, creg, measure, reset, if, statement, badTop}
 use Rattle.language.specs.Read
-use Rattle.language.specs.Read.{Field, field, badHeader, Reader, ofFields, due, fields, fieldsAfter, firstField, fieldOf, extent, twoBytes, FamilyNumber, names, unnamed, oneByteNumber, twoByteNumber, readIndex, outerIndex, readOperand, readType, readArgument, readStatement, outerStatement, statementsBy, readTop, read, operandDue}
+use Rattle.language.specs.Read.{Field, field, badHeader, Reader, ofFields, due, fields, fieldsAfter, firstField, fieldOf, extent, twoBytes, CallNumber, names, unnamed, oneByteNumber, twoByteNumber, Calling, readIndex, outerIndex, readOperand, readPlain, readType, readArgument, readStatement, outerStatement, statementsBy, readTop, read, operandDue}
 use Rattle.language.proofs.ReadLaws.{AllRows, choose-all, Begins, one-byte-begins, two-bytes-begin}
 
 -- a refusal's number, and its place in a program of so many bytes
 pub record Listed (size n p : ℕ) : Type 0 where
   pub from : 1 ≤ n
-  pub known : 13 < n → n ≡ 31
+  pub known : 13 < n → (n ≡ 33 → ⊥) → n ≡ 31
   pub within : p ≤ size
 
 abbrev pub AllOf : {A : Type 0} → (A → Type 0) → List A → Type 0
@@ -68,12 +68,17 @@ module _ (size : ℕ) where
   FairOperand (whole p n e) = p ≤ size
   FairOperand (element p n i e) = (p ≤ size) × FairIndex i
   FairOperand (slice p n i j e) = (p ≤ size) × FairIndex i × FairIndex j
+  FairOperand (passed p n e) = p ≤ size
   FairOperand (badOperand n p) = Listed size n p
 
+  abbrev pub FairPlain : PlainType → Type 0
+  FairPlain (qbit p e) = p ≤ size
+  FairPlain (qbits p i e) = (p ≤ size) × FairIndex i
+  FairPlain (badType n p) = Listed size n p
+
   abbrev pub FairType : ParameterType → Type 0
-  FairType (qbit p e) = p ≤ size
-  FairType (qbits p i e) = (p ≤ size) × FairIndex i
-  FairType (badType n p) = Listed size n p
+  FairType (plain x) = FairPlain x
+  FairType (familyType p v n types e) = (p ≤ size) × AllOf FairPlain types
 
   abbrev pub FairArgument : Argument → Type 0
   FairArgument (index p i) = (p ≤ size) × FairIndex i
@@ -87,6 +92,7 @@ module _ (size : ℕ) where
     FairStatement (phase p k o e) = (p ≤ size) × FairIndex k × FairOperand o
     FairStatement (cphase p k c o e) = (p ≤ size) × FairIndex k × FairOperand c × FairOperand o
     FairStatement (call p n more) = (p ≤ size) × AllOf FairArgument more
+    FairStatement (callParameter p n more) = (p ≤ size) × AllOf FairArgument more
     FairStatement (reverse p ss) = (p ≤ size) × FairStatements ss
     FairStatement (for p low high ss) = (p ≤ size) × FairIndex low × FairIndex high × FairStatements ss
     FairStatement (badStatement n p) = Listed size n p
@@ -175,15 +181,37 @@ module _ (size : ℕ) where
   slice-fair p [] k = omega arith
   slice-fair p (n ∷ rest) k = (omega arith, index-due-fair outerIndex (index-fair deepest) p 0 (p + 4) rest (omega arith) (omega arith), index-due-fair outerIndex (index-fair deepest) p 1 (p + 4) rest (omega arith) (omega arith))
 
+  passed-fair : Fair FairOperand Read.readPassed
+  unfolding Fair Read.readPassed
+  passed-fair p [] k = omega arith
+  passed-fair p (low ∷ []) k = omega arith
+  passed-fair p (low ∷ high ∷ rest) k = omega arith
+
   operand-fair : FairPart FairOperand readOperand
   unfolding readOperand AllRows Fair FairPart
   operand-fair (badHeader p) k = omega arith
-  operand-fair (field p tag content) k = choose-all (Fair FairOperand) tag _ _ (whole-fair, (element-fair, (slice-fair, tt))) (λ q rest j. omega arith) p content k
+  operand-fair (field p tag content) k = choose-all (Fair FairOperand) tag _ _ (whole-fair, (element-fair, (slice-fair, (passed-fair, tt)))) (λ q rest j. omega arith) p content k
+
+  plain-fair : FairPart FairPlain readPlain
+  unfolding readPlain AllRows Fair Read.readQbit Read.qbitsOf FairPart
+  plain-fair (badHeader p) k = omega arith
+  plain-fair (field p tag content) k = choose-all (Fair FairPlain) tag _ _ ((λ q rest j. omega arith), ((λ q rest j. (omega arith, index-due-fair outerIndex (index-fair deepest) q 0 (q + 3) rest (omega arith) j)), tt)) (λ q rest j. omega arith) p content k
+
+  parts-fair : {A : Type 0} (P : A → Type 0) (part : Field → A) (absent : A) → FairPart P part → P absent → (n : ℕ) (fs : List Field) → AllOf Inside fs → AllOf P (Read.partsOf part absent n fs)
+  unfolding Read.partsOf
+  parts-fair P part absent h a zero fs k = tt
+  parts-fair P part absent h a (suc n) fs k = (due-fair P part absent h a fs k, parts-fair P part absent h a n (drop 1 fs) (drop-all Inside 1 fs k))
+
+  family-type-fair : Fair FairType Read.readFamilyType
+  unfolding Fair Read.readFamilyType Read.familyTypeOf
+  family-type-fair p [] k = (omega arith, tt)
+  family-type-fair p (v ∷ []) k = (omega arith, tt)
+  family-type-fair p (v ∷ n ∷ rest) k = (omega arith, parts-fair FairPlain readPlain (badType 4 p) plain-fair (omega arith) n (fields (p + 5) rest) (fields-inside (p + 5) rest (omega arith)))
 
   type-fair : FairPart FairType readType
-  unfolding readType AllRows Fair Read.readQbit Read.qbitsOf FairPart
+  unfolding readType AllRows Fair FairPart
   type-fair (badHeader p) k = omega arith
-  type-fair (field p tag content) k = choose-all (Fair FairType) tag _ _ ((λ q rest j. omega arith), ((λ q rest j. (omega arith, index-due-fair outerIndex (index-fair deepest) q 0 (q + 3) rest (omega arith) j)), tt)) (λ q rest j. omega arith) p content k
+  type-fair (field p tag content) k = choose-all (Fair FairType) tag _ _ (family-type-fair, tt) (λ q rest j. plain-fair (field q tag rest) j) p content k
 
   argument-fair : FairPart FairArgument readArgument
   unfolding readArgument FairPart
@@ -201,22 +229,35 @@ module _ (size : ℕ) where
   rest-fair : (part : Field → Statement) → FairPart FairStatement part → (n from : ℕ) (content : List ℕ) → from + length content ≤ size → FairStatements (statementsBy part (drop n (fields from content)))
   rest-fair part h n from content k = statements-fair part h (drop n (fields from content)) (drop-all Inside n (fields from content) (fields-inside from content k))
 
-  call-of-fair : (p n from : ℕ) (content : List ℕ) → p ≤ size → from + length content ≤ size → FairStatement (Read.callOf p n (fields from content))
-  unfolding Read.callOf FairStatement
-  call-of-fair p n from content j k = (j, map-fair FairArgument readArgument argument-fair (fields from content) (fields-inside from content k))
+  -- a call of whatever number is fair where its arguments are
+  FairCalling : Calling → Type 0
+  FairCalling calling = (p : Place) (n : ℕ) (more : List Argument) → p ≤ size → AllOf FairArgument more → FairStatement (calling p n more)
 
-  call-by-fair : (p : Place) (content : List ℕ) (number : FamilyNumber) → p + 3 + length content ≤ size → Begins content number → FairStatement (Read.callBy p number)
-  unfolding Read.callBy Begins FairStatement
-  call-by-fair p content (names n width rest) k w = call-of-fair p n (p + 3 + width) rest (omega arith) (omega (arith, w .long))
-  call-by-fair p content (unnamed number) k w = record { from = w .from; known = w .known; within = omega arith }
+  named-fair : FairCalling call
+  unfolding FairCalling FairStatement
+  named-fair p n more j k = (j, k)
+
+  parameter-fair : FairCalling callParameter
+  unfolding FairCalling FairStatement
+  parameter-fair p n more j k = (j, k)
+
+  call-by-fair : (calling : Calling) → FairCalling calling → (p : Place) (content : List ℕ) (number : CallNumber) → p + 3 + length content ≤ size → Begins content number → FairStatement (Read.callBy calling p number)
+  unfolding Read.callBy Read.callOf Begins FairCalling FairStatement
+  call-by-fair calling h p content (names n width rest) k w =
+      h p n _ (omega arith) (map-fair FairArgument readArgument argument-fair (fields (p + 3 + width) rest) (fields-inside (p + 3 + width) rest (omega (arith, w .long))))
+  call-by-fair calling h p content (unnamed number) k w = record { from = w .from; known = λ past other. w .known past; within = omega arith }
 
   call-fair : Fair FairStatement Read.readCall
   unfolding Fair
-  call-fair p content k = call-by-fair p content (oneByteNumber content) k (one-byte-begins content)
+  call-fair p content k = call-by-fair call named-fair p content (oneByteNumber content) k (one-byte-begins content)
 
   long-call-fair : Fair FairStatement Read.readLongCall
   unfolding Fair
-  long-call-fair p content k = call-by-fair p content (twoByteNumber content) k (two-bytes-begin content)
+  long-call-fair p content k = call-by-fair call named-fair p content (twoByteNumber content) k (two-bytes-begin content)
+
+  parameter-call-fair : Fair FairStatement Read.readParameterCall
+  unfolding Fair
+  parameter-call-fair p content k = call-by-fair callParameter parameter-fair p content (oneByteNumber content) k (one-byte-begins content)
 
   gate-fair : (g : Gate) → Fair FairStatement (ofFields (Read.gateOf g))
   unfolding Fair FairStatement Read.gateOf
@@ -243,7 +284,7 @@ module _ (size : ℕ) where
   unfolding Read.statementBy AllRows Fair FairStatement FairPart
   statement-by-fair part h (badHeader p) k = omega arith
   statement-by-fair part h (field p tag content) k = choose-all (Fair FairStatement) tag _ _
-      (gate-fair gateH, (gate-fair gateT, (gate-fair gateTdg, (cx-fair, (call-fair, ((λ q rest j. (omega arith, rest-fair part h 0 (q + 3) rest j)), (for-fair part h, (long-call-fair, (phase-fair, (cphase-fair, tt))))))))))
+      (gate-fair gateH, (gate-fair gateT, (gate-fair gateTdg, (cx-fair, (call-fair, ((λ q rest j. (omega arith, rest-fair part h 0 (q + 3) rest j)), (for-fair part h, (long-call-fair, (phase-fair, (cphase-fair, (parameter-call-fair, tt)))))))))))
       (λ q rest j. omega arith) p content k
 
   statement-fair : (levels : ℕ) → FairPart FairStatement (readStatement levels)
@@ -252,16 +293,11 @@ module _ (size : ℕ) where
   statement-fair zero (field p tag content) k = cond-fair FairStatement (Read.isStatementTag tag) (omega arith) (omega arith)
   statement-fair (suc levels) f k = statement-by-fair (readStatement levels) (statement-fair levels) f k
 
-  types-fair : (p : Place) (n : ℕ) (fs : List Field) → p ≤ size → AllOf Inside fs → AllOf FairType (Read.typesOf p n fs)
-  unfolding Read.typesOf
-  types-fair p zero fs j k = tt
-  types-fair p (suc n) fs j k = (due-fair FairType readType (badType 4 p) type-fair (omega arith) fs k, types-fair p n (drop 1 fs) j (drop-all Inside 1 fs k))
-
   family-fair : Fair FairTop Read.readFamily
   unfolding Fair Read.readFamily Read.familyOf FairTop FairStatement
   family-fair p [] k = (omega arith, tt, tt)
   family-fair p (m ∷ []) k = (omega arith, tt, tt)
-  family-fair p (m ∷ n ∷ rest) k = (omega arith, types-fair p n (fields (p + 5) rest) (omega arith) (fields-inside (p + 5) rest (omega arith)), rest-fair outerStatement (statement-fair deepest) n (p + 5) rest (omega arith))
+  family-fair p (m ∷ n ∷ rest) k = (omega arith, parts-fair FairType readType (plain (badType 4 p)) type-fair (omega arith) n (fields (p + 5) rest) (fields-inside (p + 5) rest (omega arith)), rest-fair outerStatement (statement-fair deepest) n (p + 5) rest (omega arith))
 
   register-fair : (make : Place → Number → Ending → Top) → ((p : Place) (n : Number) (e : Ending) → p ≤ size → FairTop (make p n e)) → Fair FairTop (Read.readRegister make)
   unfolding Fair Read.readRegister

@@ -2,15 +2,15 @@
 use mathlib.Core.Path.{_≡_, refl, sym, ap, _∙_, subst}
 use mathlib.Core.List.{List, [], _∷_}
 use mathlib.Core.Bool.{Bool, true, false, cond, _||_}
-use mathlib.Core.Option.{some}
+use mathlib.Core.Option.{Option, none, some}
 use Prim.Native.Nat.{ℕ, zero, suc, _≤_, _<_}
 use native.Mathlib.Omega.{arith}
 use lib.ListN.{length, drop, getElem?}
-use Rattle.language.specs.Tree.{Place, Ending, Index, Operand, whole, element, slice, badOperand, ParameterType, qbit, qbits, badType, Argument, index, operand, badArgument}
-use Rattle.language.specs.Tree.{Statement, Statements, gate, cx, phase, cphase, call, reverse, for, badStatement, nil, cons, Top, family, qreg, creg, measure, reset, if, statement, badTop}
+use Rattle.language.specs.Tree.{Place, Ending, Index, Operand, whole, element, slice, passed, badOperand, PlainType, qbit, qbits, badType, ParameterType, plain, familyType, Argument, index, operand, badArgument}
+use Rattle.language.specs.Tree.{Statement, Statements, gate, cx, phase, cphase, call, callParameter, reverse, for, badStatement, nil, cons, Top, family, qreg, creg, measure, reset, if, statement, badTop}
 use Rattle.language.specs.Form.{Form, Built, built, differenceOf, _thenBuild_, Loop, Showing, shown, notShown, beyondRange, plainly, trial, byTrial, orTried, showing}
 use Rattle.language.specs.Check as C
-use Rattle.language.specs.Check.{Checked, good, refused, Kind, qubit, quantum, classical, Scope, Due, wire, bit, register, Declared}
+use Rattle.language.specs.Check.{Checked, good, refused, Kind, qubit, quantum, classical, formal, Signature, Scope, Due, wire, bit, register, fitting, Declared}
 use Rattle.language.specs.Read.{read}
 use Rattle.language.specs.Result.{verdict, checkProgram, checkResult}
 use Rattle.language.specs.Settled.{Settling}
@@ -179,10 +179,13 @@ unfolding P.wholeFits C.wholeFits
 later-whole p s wire qubit = alike
 later-whole p s wire (quantum size) = alike
 later-whole p s wire (classical size) = alike
+later-whole p s wire (formal g) = alike
 later-whole p s bit k = alike
 later-whole p s (register i) qubit = alike
 later-whole p s (register i) (quantum size) = later-show p s (i thenBuild differenceOf size)
 later-whole p s (register i) (classical size) = alike
+later-whole p s (register i) (formal g) = alike
+later-whole p s (fitting g) k = alike
 
 later-within : (p : Place) (s : Scope) (size i : Form) → Later (P.checkWithin p s size i) (C.checkWithin p s size i)
 unfolding P.checkWithin C.checkWithin
@@ -197,11 +200,31 @@ later-slice-fits : (p : Place) (s : Scope) (d : Due) (k : Kind) (first last : Fo
 unfolding P.sliceFits C.sliceFits
 later-slice-fits p s d k first last = later-bind alike λ size. later-bind (later-slice p s size first last) λ n. later-whole p s d (quantum n)
 
+later-size : (p : Place) (v : ℕ) (i j : Option Form) → Later (P.sizeFits p v i j) (C.sizeFits p v i j)
+unfolding P.sizeFits C.sizeFits
+later-size p v none j = alike
+later-size p v (some i) none = alike
+later-size p v (some i) (some j) = later-show p (C.sizeScope v) (differenceOf i j)
+
+later-sizes : (p : Place) (v : ℕ) (is : List (Option Form)) (ks : List Kind) → Later (P.sizesFit p v is ks) (C.sizesFit p v is ks)
+unfolding P.sizesFit C.sizesFit
+later-sizes p v [] ks = alike
+later-sizes p v (i ∷ is) [] = alike
+later-sizes p v (i ∷ is) (k ∷ ks) = later-then (later-size p v i (C.plainSize k)) (later-sizes p v is ks)
+
+later-family-fits : (p : Place) (d : Due) (f : Signature) → Later (P.familyFits p d f) (C.familyFits p d f)
+unfolding P.familyFits C.familyFits
+later-family-fits p wire f = alike
+later-family-fits p bit f = alike
+later-family-fits p (register i) f = alike
+later-family-fits p (fitting g) f = later-then alike (later-sizes p (g .variables) (g .sizes) (f .parameters))
+
 later-operand : (s : Scope) (d : Due) (o : Operand) → Later (P.checkOperand s d o) (C.checkOperand s d o)
 unfolding P.checkOperand C.checkOperand
 later-operand s d (whole p n e) = later-bind alike λ k. later-then alike (later-whole p s d k)
 later-operand s d (element p n i e) = later-bind alike λ k. later-bind alike λ f. later-then alike (later-bind alike λ size. later-within p s size f)
 later-operand s d (slice p n i j e) = later-bind alike λ k. later-bind alike λ first. later-bind alike λ last. later-then alike (later-slice-fits p s d k first last)
+later-operand s d (passed p n e) = later-bind alike λ f. later-then alike (later-family-fits p d f)
 later-operand s d (badOperand n p) = alike
 
 later-forms : (s : Scope) (p : Place) (n : ℕ) (l : List Argument) → Later (P.callForms s p n l) (C.callForms s p n l)
@@ -212,14 +235,18 @@ later-forms s p (suc n) (index q i ∷ l) = later-bind alike λ f. later-then (l
 later-forms s p (suc n) (operand q o ∷ l) = alike
 later-forms s p (suc n) (badArgument r q ∷ l) = alike
 
-later-operands : (s : Scope) (p : Place) (fs : List Form) (ks : List Kind) (l : List Argument) → Later (P.callOperands s p fs ks l) (C.callOperands s p fs ks l)
+later-operands : (s : Scope) (p : Place) (before : ℕ) (fs : List Form) (ks : List Kind) (l : List Argument) → Later (P.callOperands s p before fs ks l) (C.callOperands s p before fs ks l)
 unfolding P.callOperands C.callOperands
-later-operands s p fs [] [] = alike
-later-operands s p fs [] (a ∷ l) = alike
-later-operands s p fs (k ∷ ks) [] = alike
-later-operands s p fs (k ∷ ks) (operand q o ∷ l) = later-then (later-operand s (C.taken fs k) o) (later-operands s p fs ks l)
-later-operands s p fs (k ∷ ks) (index q i ∷ l) = alike
-later-operands s p fs (k ∷ ks) (badArgument r q ∷ l) = alike
+later-operands s p before fs [] [] = alike
+later-operands s p before fs [] (a ∷ l) = alike
+later-operands s p before fs (k ∷ ks) [] = alike
+later-operands s p before fs (k ∷ ks) (operand q o ∷ l) = later-then alike (later-then (later-operand s (C.taken fs k) o) (later-operands s p before fs ks l))
+later-operands s p before fs (k ∷ ks) (index q i ∷ l) = alike
+later-operands s p before fs (k ∷ ks) (badArgument r q ∷ l) = alike
+
+later-call-fits : (p : Place) (s : Scope) (before : ℕ) (f : Signature) (l : List Argument) → Later (P.callFits p s before f l) (C.callFits p s before f l)
+unfolding P.callFits C.callFits
+later-call-fits p s before f l = later-bind (later-forms s p (f .variables) l) λ fs. later-operands s p before fs (f .parameters) (drop (f .variables) l)
 
 later-one : (p : Place) (s : Scope) (o : Operand) (e : Ending) → Later (P.checkOneWire p s o e) (C.checkOneWire p s o e)
 unfolding P.checkOneWire C.checkOneWire
@@ -231,7 +258,11 @@ later-two p s d w o e = later-then (later-operand s wire w) (later-then (later-o
 
 later-call : (p : Place) (s : Scope) (n : ℕ) (l : List Argument) → Later (P.checkCall p s n l) (C.checkCall p s n l)
 unfolding P.checkCall C.checkCall
-later-call p s n l = later-bind alike λ f. later-bind (later-forms s p (f .variables) l) λ fs. later-operands s p fs (f .parameters) (drop (f .variables) l)
+later-call p s n l = later-bind alike λ f. later-call-fits p s n f l
+
+later-parameter-call : (p : Place) (s : Scope) (n : ℕ) (l : List Argument) → Later (P.checkParameterCall p s n l) (C.checkParameterCall p s n l)
+unfolding P.checkParameterCall C.checkParameterCall
+later-parameter-call p s n l = later-bind alike λ k. later-bind alike λ g. later-call-fits p s (length (s .families)) (C.signatureOf g) l
 
 mutual
   unfolding P.checkStatement C.checkStatement
@@ -242,6 +273,7 @@ mutual
   later-statement (phase p k o e) s = later-then (later-natural s k) (later-one p s o e)
   later-statement (cphase p k c o e) s = later-then (later-natural s k) (later-two p s wire c o e)
   later-statement (call p n l) s = later-call p s n l
+  later-statement (callParameter p n l) s = later-parameter-call p s n l
   later-statement (reverse p ss) s = later-statements ss s
   later-statement (for p low high ss) s = later-then alike (later-bind alike λ l. later-statements ss (C.inLoop s l))
   later-statement (badStatement n p) s = alike
@@ -250,11 +282,25 @@ mutual
   later-statements nil s = alike
   later-statements (cons x xs) s = later-then (later-statement x s) (later-statements xs s)
 
+later-plain : (s : Scope) (x : PlainType) → Later (P.plainKind s x) (C.plainKind s x)
+unfolding P.plainKind C.plainKind
+later-plain s (qbit p e) = alike
+later-plain s (qbits p i e) = later-bind alike λ f. later-then alike (later-then (later-show p s (built f)) alike)
+later-plain s (badType n p) = alike
+
+later-plains : (s : Scope) (xs : List PlainType) → Later (P.plainKinds s xs) (C.plainKinds s xs)
+unfolding P.plainKinds C.plainKinds
+later-plains s [] = alike
+later-plains s (x ∷ xs) = later-bind (later-plain s x) λ k. later-bind (later-plains s xs) λ ks. alike
+
+later-formal : (p : Place) (v : ℕ) (types : List PlainType) (e : Ending) → Later (P.checkFormal p v types e) (C.checkFormal p v types e)
+unfolding P.checkFormal C.checkFormal
+later-formal p v types e = later-bind (later-plains (C.sizeScope v) types) λ ks. later-then alike alike
+
 later-kind : (s : Scope) (x : ParameterType) → Later (P.kindOf s x) (C.kindOf s x)
 unfolding P.kindOf C.kindOf
-later-kind s (qbit p e) = alike
-later-kind s (qbits p i e) = later-bind alike λ f. later-then alike (later-then (later-show p s (built f)) alike)
-later-kind s (badType n p) = alike
+later-kind s (plain x) = later-plain s x
+later-kind s (familyType p m n types e) = later-bind alike λ counts. later-bind (later-formal p (counts .0) types e) λ g. alike
 
 later-kinds : (s : Scope) (xs : List ParameterType) → Later (P.kindsOf s xs) (C.kindsOf s xs)
 unfolding P.kindsOf C.kindsOf
@@ -267,7 +313,7 @@ later-family d v types body = later-bind (later-kinds (C.familyScope d v []) typ
 
 later-top : (x : Top) (d : Declared) → Later (P.checkTop x d) (C.checkTop x d)
 unfolding P.checkTop C.checkTop
-later-top (family p v n types body) d = later-bind alike λ counts. later-bind (later-family d (counts .0) types body) λ ks. alike
+later-top (family p v n types body) d = later-then alike (later-bind alike λ counts. later-bind (later-family d (counts .0) types body) λ ks. alike)
 later-top (qreg p n e) d = alike
 later-top (creg p n e) d = alike
 later-top (measure p w b e) d = later-then (later-two p (C.topScope d) bit w b e) alike

@@ -3,7 +3,7 @@ use mathlib.Core.List.{List, [], _∷_, _++_}
 use Prim.Native.Nat.{ℕ, _+_, _≤_}
 use lib.IntN.{ℤ}
 use Rattle.language.specs.Tree.{Place, number, missing, Operand, Argument, Top, family, qreg, creg, measure, reset, if, statement, badTop}
-use Rattle.language.specs.Machine.{Wire, Meaning, aWire, aBit, wires, bits, Frame, State, Outcome, going, ended, stuck, sliceAt, meaningOf, meaningsOf}
+use Rattle.language.specs.Machine.{Wire, Meaning, aWire, aBit, wires, bits, theFamily, Frame, State, Outcome, going, ended, stuck, sliceAt, meaningOf, meaningsOf}
 use Rattle.language.specs.Sound.{qubitsOf}
 
 -- so many wires from `first` on lie inside one of these registers
@@ -17,6 +17,7 @@ Lies registers (aWire w) = Unit {0}
 Lies registers (aBit b) = Unit {0}
 Lies registers (wires a n) = Inside registers (a .number) n
 Lies registers (bits a n) = Unit {0}
+Lies registers (theFamily n) = Unit {0}
 
 abbrev pub AllLie : (registers : List Meaning) → List Meaning → Type 0
 AllLie registers [] = Unit {0}

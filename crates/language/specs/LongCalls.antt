@@ -5,22 +5,22 @@ use mathlib.Core.Bool.{true}
 use Prim.Native.Nat.{ℕ, zero, suc, _/_, _%_}
 use lib.ListN.{length, replicate}
 use Rattle.language.specs.Limits.{mostFamilies}
-use Rattle.language.specs.Tree.{number, family, qbit, ended, nil}
+use Rattle.language.specs.Tree.{number, family, plain, qbit, ended, nil}
 use Rattle.language.specs.Check.{Checked, good, refused, Declared, checkTop}
 use Rattle.language.specs.Computed.{checking}
 use Rattle.language.specs.Calls.{Example, run, instance, allHold, computed, field, reverse, qreg, one, lent, gives, turnedDown, nested}
 
 -- a gate: a family of one Qbit and no index variables
-abbrev gate : List ℕ → List ℕ
+abbrev pub gate : List ℕ → List ℕ
 gate body = field 1 (0 ∷ 1 ∷ field 16 [] ++ body)
 
 -- so many gates without statements
-abbrev gates : ℕ → List ℕ
+abbrev pub gates : ℕ → List ℕ
 gates zero = []
 gates (suc n) = gate [] ++ gates n
 
 -- h of the parameter 0
-abbrev hOfIt : List ℕ
+abbrev pub hOfIt : List ℕ
 hOfIt = field 32 (field 48 (0 ∷ []))
 
 -- 256 families that do nothing, and the family 256, which does h; 2,063 bytes
@@ -28,7 +28,7 @@ abbrev library : List ℕ
 library = gates 256 ++ gate hOfIt
 
 -- a call with a two-byte family number and these operands
-abbrev longCall : ℕ → List ℕ → List ℕ
+abbrev pub longCall : ℕ → List ℕ → List ℕ
 longCall n operands = field 39 (n % 256 ∷ n / 256 ∷ operands)
 
 -- q[0]
@@ -46,9 +46,9 @@ longCalls =
     ∷ turnedDown (gate [] ++ qreg 1 ++ longCall 0 (q ++ q)) 31 13
     -- one that does not, and is not in scope: 8
     ∷ turnedDown (longCall 256 []) 8 0
-    -- the tag is a statement's at every level: 5 past the deepest, where the next tag is 3
+    -- the tag is a statement's at every level: 5 past the deepest, where a tag that is no statement's is 3
     ∷ turnedDown (nested 16 reverse (longCall 0 [])) 5 48
-    ∷ turnedDown (nested 16 reverse (field 42 [])) 3 48
+    ∷ turnedDown (nested 16 reverse (field 43 [])) 3 48
     ∷ []
 
 -- the same over 257 families
@@ -82,7 +82,7 @@ abbrev after : ℕ → Declared
 after n = record { families = replicate n (record { variables = 0; parameters = [] }); registers = []; qubits = 0; bits = 0 }
 
 abbrev oneMore : Declared → Checked Declared
-oneMore d = checkTop (family 7 (number 0) (number 1) (qbit 12 ended ∷ []) nil) d
+oneMore d = checkTop (family 7 (number 0) (number 1) (plain (qbit 12 ended) ∷ []) nil) d
 
 unfoldable familiesOf : Checked Declared → ℕ
 familiesOf (good d) = length (d .families)

@@ -46,6 +46,8 @@ forInput =
     ∷ turnedDown (creg 1 ++ field 6 (2 ∷ at (lit 0))) 13 5
     -- 31: a two-byte family number that fits into one byte
     ∷ turnedDown (qreg 1 ++ field 39 (255 ∷ 0 ∷ [])) 31 5
+    -- 33: the family called is passed to itself
+    ∷ turnedDown (field 1 (0 ∷ 1 ∷ field 16 []) ++ field 36 (0 ∷ field 51 (0 ∷ 0 ∷ []))) 33 12
     ∷ []
 
 -- turned down for the state: before the machine starts, or by the machine
@@ -70,6 +72,8 @@ forState =
     ∷ gives (run (qreg 1 ++ h (lit 0) ++ h (lit 0)) 100 (lent 23)) 27 17 1 2 (one 1 0 ++ lent 11)
     -- 32: k = 64, after the largest, 63
     ∷ gives (run (qreg 1 ++ phase (lit 63) (at (lit 0)) ++ phase (lit 64) (at (lit 0))) 100 (lent 24)) 32 22 1 2 (row 7 0 0 63 ++ lent 12)
+    -- 34: a family whose parameter is a family
+    ∷ gives (instance (field 1 (0 ∷ 1 ∷ field 18 (0 ∷ 1 ∷ field 16 []))) 0 [] 100 (lent 8)) 34 0 0 0 (lent 8)
     ∷ []
 
 for-input-hold : allHold forInput ≡ true

@@ -1,17 +1,19 @@
 -- The check by the plain rule alone: what Trials compares the check with. Each definition is Check's own, but that `mustShow` is by the plain rule.
-use mathlib.Core.List.{List, [], _∷_}
+use mathlib.Core.List.{List, [], _∷_, map}
+use mathlib.Core.Bool.{_&&_}
+use mathlib.Core.Option.{Option, none, some}
 use Prim.Native.Nat.{ℕ, zero, suc}
-use lib.Dec.{leb, ltb}
+use lib.Dec.{leb, ltb, eqb}
 use lib.ListN.{length, drop, getElem?}
-use Rattle.language.specs.Limits.{longestProgram, mostWires, mostBits, mostLoops}
-use Rattle.language.specs.Tree.{Place, Ending, Index, placeOf, Operand, whole, element, slice, badOperand}
-use Rattle.language.specs.Tree.{ParameterType, qbit, qbits, badType, Argument, index, operand, badArgument}
-use Rattle.language.specs.Tree.{Statement, Statements, gate, cx, phase, cphase, call, reverse, for, badStatement, nil, cons}
+use Rattle.language.specs.Limits.{longestProgram, mostFamilies, mostWires, mostBits, mostLoops}
+use Rattle.language.specs.Tree.{Place, Ending, Index, placeOf, Operand, whole, element, slice, passed, badOperand}
+use Rattle.language.specs.Tree.{PlainType, qbit, qbits, badType, ParameterType, plain, familyType, Argument, index, operand, badArgument}
+use Rattle.language.specs.Tree.{Statement, Statements, gate, cx, phase, cphase, call, callParameter, reverse, for, badStatement, nil, cons}
 use Rattle.language.specs.Tree.{Top, family, qreg, creg, measure, reset, if, statement, badTop}
 use Rattle.language.specs.Read.{read}
 use Rattle.language.specs.Form.{Form, Built, built, differenceOf, _thenBuild_, plainly}
-use Rattle.language.specs.Check.{Checked, good, refused, _>>=_, _>>_, fine, require, noLeftover, inScope, Kind, qubit, quantum, classical, Scope, inForm, formOf, byShowing}
-use Rattle.language.specs.Check.{Due, wire, bit, register, elementSize, roomAfter, slicedSize, sliceSize, taken, checkBounds, inLoop}
+use Rattle.language.specs.Check.{Checked, good, refused, _>>=_, _>>_, fine, require, noLeftover, inScope, Formal, Kind, qubit, quantum, classical, formal, Signature, Scope, inForm, formOf, byShowing}
+use Rattle.language.specs.Check.{Due, wire, bit, register, fitting, elementSize, roomAfter, slicedSize, sliceSize, sizeScope, sameKinds, plainSize, taken, declaredBefore, signatureOf, formalOf, checkBounds, inLoop}
 use Rattle.language.specs.Check.{Declared, topScope, familyScope, withFamily, withQubits, withBits, checkCounts, checkRegister, nothingDeclared}
 use Rattle.language.specs.Result.{Result, verdict}
 
@@ -29,10 +31,13 @@ unfoldable pub wholeFits : Place → Scope → Due → Kind → Checked (Unit {0
 wholeFits p s wire qubit = fine
 wholeFits p s wire (quantum size) = refused 9 p
 wholeFits p s wire (classical size) = refused 9 p
+wholeFits p s wire (formal g) = refused 9 p
 wholeFits p s bit k = refused 9 p
 wholeFits p s (register i) qubit = refused 9 p
 wholeFits p s (register i) (quantum size) = mustShow p s (i thenBuild differenceOf size)
 wholeFits p s (register i) (classical size) = refused 9 p
+wholeFits p s (register i) (formal g) = refused 9 p
+wholeFits p s (fitting g) k = refused 9 p
 
 -- the element I of a register of this size: I ≥ 0 and size − 1 − I ≥ 0 must be shown
 unfoldable pub checkWithin : Place → Scope → (size i : Form) → Checked (Unit {0})
@@ -56,6 +61,28 @@ sliceFits p s due k first last = do
   n ← checkSlice p s size first last
   wholeFits p s due (quantum n)
 
+-- a formal size minus the actual one must be shown ≥ 0, over so many index variables and without loops
+unfoldable pub sizeFits : Place → (variables : ℕ) → (formal actual : Option Form) → Checked (Unit {0})
+sizeFits p v none j = fine
+sizeFits p v (some i) none = fine
+sizeFits p v (some i) (some j) = mustShow p (sizeScope v) (differenceOf i j)
+
+unfoldable pub sizesFit : Place → (variables : ℕ) → (formals : List (Option Form)) → (actuals : List Kind) → Checked (Unit {0})
+sizesFit p v [] ks = fine
+sizesFit p v (i ∷ is) [] = fine
+sizesFit p v (i ∷ is) (k ∷ ks) = do
+  sizeFits p v i (plainSize k)
+  sizesFit p v is ks
+
+-- a declared family stands for a family parameter only: counts and kinds agree, then sizes
+unfoldable pub familyFits : Place → Due → Signature → Checked (Unit {0})
+familyFits p wire f = refused 9 p
+familyFits p bit f = refused 9 p
+familyFits p (register i) f = refused 9 p
+familyFits p (fitting g) f = do
+  require 9 p (eqb (g .variables) (f .variables) && sameKinds (g .sizes) (f .parameters))
+  sizesFit p (g .variables) (g .sizes) (f .parameters)
+
 unfoldable pub checkOperand : Scope → Due → Operand → Checked (Unit {0})
 checkOperand s due (whole p n e) = do
   k ← inScope p (getElem? (s .operands) n)
@@ -73,6 +100,10 @@ checkOperand s due (slice p n i j e) = do
   last ← formOf s j
   noLeftover p e
   sliceFits p s due k first last
+checkOperand s due (passed p n e) = do
+  f ← inScope p (getElem? (s .families) n)
+  noLeftover p e
+  familyFits p due f
 checkOperand s due (badOperand n p) = refused n p
 
 -- the forms of a call's indexes, the call's place being p; so many are due
@@ -87,16 +118,23 @@ callForms s p (suc n) (index q i ∷ more) = do
 callForms s p (suc n) (operand q o ∷ more) = refused 3 q
 callForms s p (suc n) (badArgument r q ∷ more) = refused r q
 
--- a call's operands, and nothing after them
-unfoldable pub callOperands : Scope → Place → List Form → List Kind → List Argument → Checked (Unit {0})
-callOperands s p forms [] [] = fine
-callOperands s p forms [] (a ∷ more) = refused 4 p
-callOperands s p forms (k ∷ ks) [] = refused 4 p
-callOperands s p forms (k ∷ ks) (operand q o ∷ more) = do
+-- the operands of a call of a family with so many before it, and nothing after them
+unfoldable pub callOperands : Scope → Place → (before : ℕ) → List Form → List Kind → List Argument → Checked (Unit {0})
+callOperands s p before forms [] [] = fine
+callOperands s p before forms [] (a ∷ more) = refused 4 p
+callOperands s p before forms (k ∷ ks) [] = refused 4 p
+callOperands s p before forms (k ∷ ks) (operand q o ∷ more) = do
+  declaredBefore s before o
   checkOperand s (taken forms k) o
-  callOperands s p forms ks more
-callOperands s p forms (k ∷ ks) (index q i ∷ more) = refused 3 q
-callOperands s p forms (k ∷ ks) (badArgument r q ∷ more) = refused r q
+  callOperands s p before forms ks more
+callOperands s p before forms (k ∷ ks) (index q i ∷ more) = refused 3 q
+callOperands s p before forms (k ∷ ks) (badArgument r q ∷ more) = refused r q
+
+-- a call's indexes and operands, as the signature of the family called says; so many families are before it
+unfoldable pub callFits : Place → Scope → (before : ℕ) → Signature → List Argument → Checked (Unit {0})
+callFits p s before f more = do
+  forms ← callForms s p (f .variables) more
+  callOperands s p before forms (f .parameters) (drop (f .variables) more)
 
 -- a wire, and nothing after it
 unfoldable pub checkOneWire : Place → Scope → Operand → Ending → Checked (Unit {0})
@@ -114,8 +152,14 @@ checkTwo p s due w o e = do
 unfoldable pub checkCall : Place → Scope → ℕ → List Argument → Checked (Unit {0})
 checkCall p s n more = do
   f ← inScope p (getElem? (s .families) n)
-  forms ← callForms s p (f .variables) more
-  callOperands s p forms (f .parameters) (drop (f .variables) more)
+  callFits p s n f more
+
+-- every family in scope may be before the one that a parameter stands for, but its own parameters take none
+unfoldable pub checkParameterCall : Place → Scope → ℕ → List Argument → Checked (Unit {0})
+checkParameterCall p s n more = do
+  k ← inScope p (getElem? (s .operands) n)
+  g ← formalOf p k
+  callFits p s (length (s .families)) (signatureOf g) more
 
 unfoldable mutual
   pub checkStatement : Statement → Scope → Checked (Unit {0})
@@ -128,6 +172,7 @@ unfoldable mutual
     checkNatural s k
     checkTwo p s wire c o e
   checkStatement (call p n more) s = checkCall p s n more
+  checkStatement (callParameter p n more) s = checkParameterCall p s n more
   checkStatement (reverse p ss) s = checkStatements ss s
   checkStatement (for p low high ss) s = do
     require 6 p (ltb (length (s .loops)) mostLoops)
@@ -141,16 +186,37 @@ unfoldable mutual
     checkStatement x s
     checkStatements xs s
 
-unfoldable pub kindOf : Scope → ParameterType → Checked Kind
-kindOf s (qbit p e) = do
+unfoldable pub plainKind : Scope → PlainType → Checked Kind
+plainKind s (qbit p e) = do
   noLeftover p e
   good qubit
-kindOf s (qbits p i e) = do
+plainKind s (qbits p i e) = do
   f ← formOf s i
   noLeftover p e
   mustShow p s (built f)
   good (quantum f)
-kindOf s (badType n p) = refused n p
+plainKind s (badType n p) = refused n p
+
+unfoldable pub plainKinds : Scope → List PlainType → Checked (List Kind)
+plainKinds s [] = good []
+plainKinds s (x ∷ xs) = do
+  k ← plainKind s x
+  ks ← plainKinds s xs
+  good (k ∷ ks)
+
+-- what a family type with these plain types takes
+unfoldable pub checkFormal : Place → (variables : ℕ) → List PlainType → Ending → Checked Formal
+checkFormal p v types e = do
+  ks ← plainKinds (sizeScope v) types
+  noLeftover p e
+  good (record { variables = v; sizes = map plainSize ks })
+
+unfoldable pub kindOf : Scope → ParameterType → Checked Kind
+kindOf s (plain x) = plainKind s x
+kindOf s (familyType p variables parameters types e) = do
+  counts ← checkCounts p variables parameters
+  g ← checkFormal p (counts .0) types e
+  good (formal g)
 
 unfoldable pub kindsOf : Scope → List ParameterType → Checked (List Kind)
 kindsOf s [] = good []
@@ -168,7 +234,8 @@ checkFamily d v types body = do
 
 unfoldable pub checkTop : Top → Declared → Checked Declared
 checkTop (family p variables parameters types body) d = do
-  counts ← checkCounts p (length (d .families)) variables parameters
+  require 6 p (ltb (length (d .families)) mostFamilies)
+  counts ← checkCounts p variables parameters
   ks ← checkFamily d (counts .0) types body
   good (withFamily d (record { variables = counts .0; parameters = ks }))
 checkTop (qreg p size e) d = do

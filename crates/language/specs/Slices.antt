@@ -5,7 +5,7 @@ use mathlib.Core.Bool.{true}
 use Prim.Native.Nat.{ℕ, _+_, _*_}
 use lib.IntN.{ℤ, pos, negsuc}
 use Rattle.language.specs.Machine as M
-use Rattle.language.specs.Machine.{Meaning, aWire, aBit, wires, bits, Outcome, stuck, sliceAt, begin}
+use Rattle.language.specs.Machine.{Meaning, aWire, aBit, wires, bits, theFamily, Outcome, stuck, sliceAt, begin}
 use Rattle.language.specs.Computed.{machining}
 use Rattle.language.specs.Calls.{Example, run, instance, allHold, computed, field, lit, var, _plus_, _minus_, for, qreg, creg, family, n, i, L, size, one, lent, gives, accepted, turnedDown}
 
@@ -117,6 +117,7 @@ shown (aWire w) = 1
 shown (aBit b) = 1
 shown (wires w k) = 100 * w .number + k
 shown (bits b k) = 1
+shown (theFamily k) = 1
 
 unfoldable sliced : Outcome Meaning → ℕ
 sliced (M.going m s) = shown m
@@ -153,6 +154,10 @@ size-stuck = refl
 bits-stuck : sliced (sliceAt (bits (record { number = 0 }) 5) (pos 0) (pos 0) begin) ≡ 0
 unfolding machining sliced shown
 bits-stuck = refl
+
+family-stuck : sliced (sliceAt (theFamily 0) (pos 0) (pos 0) begin) ≡ 0
+unfolding machining sliced shown
+family-stuck = refl
 
 wire-stuck : sliced (sliceAt (aWire (record { number = 0 })) (pos 0) (pos 0) begin) ≡ 0
 unfolding machining sliced shown

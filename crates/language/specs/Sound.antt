@@ -2,7 +2,7 @@
 use mathlib.Core.Path.{_≡_}
 use mathlib.Core.Logic.{_⊎_}
 use mathlib.Core.List.{List, [], _∷_, map}
-use mathlib.Core.Bool.{true}
+use mathlib.Core.Bool.{Bool, true, false}
 use mathlib.Core.Option.{Option, none, some}
 use Prim.Native.Nat.{ℕ, suc, _+_, _*_, _≤_, _<_}
 use lib.IntN.{ℤ, pos}
@@ -10,8 +10,8 @@ use lib.ListN.{length, drop, getD}
 use Rattle.language.specs.Limits.{recordSize, mostWires, mostBits, mostHalvings}
 use Rattle.language.specs.Tree.{number, missing, Top, family, qreg, creg, measure, reset, if, statement, badTop}
 use Rattle.language.specs.Read.{twoBytes, read}
-use Rattle.language.specs.Machine.{Meaning, aWire, aBit, wires, bits, Condition, always, whenBit, Action, doH, doT, doTdg, doReset, doCx, doMeasure, doPhase, doCphase, Record}
-use Rattle.language.specs.Machine.{Outcome, going, ended, stuck, begin, layout}
+use Rattle.language.specs.Machine.{Meaning, aWire, aBit, wires, bits, theFamily, Condition, always, whenBit, Action, doH, doT, doTdg, doReset, doCx, doMeasure, doPhase, doCphase, Record}
+use Rattle.language.specs.Machine.{Outcome, going, ended, stuck, begin, hasFamilyType, layout}
 use Rattle.language.specs.Lookup.{Declaration, familyIn}
 use Rattle.language.specs.Result.{Answer, Conclusion, finished, writtenInto, fourBytes, allSizesFit}
 
@@ -61,6 +61,7 @@ wiresIn (aWire w ∷ ms) = 1 + wiresIn ms
 wiresIn (wires first size ∷ ms) = size + wiresIn ms
 wiresIn (aBit b ∷ ms) = wiresIn ms
 wiresIn (bits first size ∷ ms) = wiresIn ms
+wiresIn (theFamily n ∷ ms) = wiresIn ms
 
 unfoldable pub wiresLaid : Outcome (List Meaning) → ℕ
 wiresLaid (going ms s) = wiresIn ms
@@ -153,9 +154,18 @@ pub record Finishes (least limit wireCount bitCount : ℕ) (lent : List ℕ) (c 
   pub is : c ≡ finished answer
   pub sound : Sound least limit wireCount bitCount lent answer
 
--- the family is declared, the sizes are four bytes for each of its variables, and none is too large
+unfoldable pub hasFamilyParameter : Option Declaration → Bool
+hasFamilyParameter none = false
+hasFamilyParameter (some d) = hasFamilyType (d .types)
+
+-- the family with a number has a family parameter
+abbrev pub takesFamily : (program : List ℕ) (n : ℕ) → Bool
+takesFamily program n = hasFamilyParameter (familyIn (read program) n)
+
+-- the family is declared and has no family parameter, the sizes are four bytes for each of its variables, and none is too large
 pub record Suits (program : List ℕ) (n : ℕ) (sizes : List ℕ) : Type 0 where
   pub called : Declaration
   pub declared : familyIn (read program) n ≡ some called
+  pub plain : hasFamilyType (called .types) ≡ false
   pub counted : length sizes ≡ 4 * called .variables
   pub small : allSizesFit (fourBytes sizes) ≡ true

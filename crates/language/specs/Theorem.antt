@@ -1,14 +1,14 @@
 -- THE THEOREM: an accepted program is never stuck, and every answer for it is the machine's. Here it is stated; proofs/Theorem proves it.
 use mathlib.Core.Path.{_≡_}
 use mathlib.Core.List.{List, [], map}
-use mathlib.Core.Bool.{false}
+use mathlib.Core.Bool.{true, false}
 use mathlib.Core.Option.{none, some}
 use Prim.Native.Nat.{ℕ, _*_, _≤_}
 use lib.IntN.{pos}
 use lib.ListN.{length, getElem?}
 use Rattle.language.specs.Limits.{recordSize, largestSize}
 use Rattle.language.specs.Read.{read}
-use Rattle.language.specs.Machine.{State, Outcome, going, ended, _>>=_, found, begin, allDeclared, runProgram, instanceRun}
+use Rattle.language.specs.Machine.{State, Outcome, going, ended, _>>=_, found, begin, hasFamilyType, allDeclared, runProgram, instanceRun}
 use Rattle.language.specs.Result.{Answer, Conclusion, finished, writtenInto, untouched, checkResult, runOutcome, fourBytes, allSizesFit, instanceOutcome}
 use Rattle.language.specs.Lookup.{Declaration, familyIn}
 use Rattle.language.specs.Sound.{qubitsDeclared, bitsDeclared, wiresOf, wiresLaidOut, AllName, EndsWith, Sound, Suits}
@@ -58,11 +58,14 @@ instanceAt program family sizes limit room = (found (getElem? (allDeclared limit
 pub record InstanceAnswers (program : List ℕ) (family : ℕ) (sizes : List ℕ) (limit : ℕ) (output : List ℕ) : Type 0 where
   -- no such family
   pub noFamily : familyIn (read program) family ≡ none → instanceOutcome program family sizes limit output ≡ untouched output 20 0
+  -- it has a family parameter
+  pub takesFamily : (d : Declaration) → familyIn (read program) family ≡ some d → hasFamilyType (d .types) ≡ true
+      → instanceOutcome program family sizes limit output ≡ untouched output 34 0
   -- not four bytes for each of its index variables
-  pub miscounted : (d : Declaration) → familyIn (read program) family ≡ some d → (length sizes ≡ 4 * d .variables → ⊥)
+  pub miscounted : (d : Declaration) → familyIn (read program) family ≡ some d → hasFamilyType (d .types) ≡ false → (length sizes ≡ 4 * d .variables → ⊥)
       → instanceOutcome program family sizes limit output ≡ untouched output 21 0
   -- a size that is too large
-  pub tooLarge : (d : Declaration) → familyIn (read program) family ≡ some d → length sizes ≡ 4 * d .variables → allSizesFit (fourBytes sizes) ≡ false
+  pub tooLarge : (d : Declaration) → familyIn (read program) family ≡ some d → hasFamilyType (d .types) ≡ false → length sizes ≡ 4 * d .variables → allSizesFit (fourBytes sizes) ≡ false
       → instanceOutcome program family sizes limit output ≡ untouched output 22 0
   -- any other: the number is 0, 23 to 27 or 32
   pub suited : Suits program family sizes
@@ -75,11 +78,11 @@ InstanceTheorem =
     (program : List ℕ) (family : ℕ) (sizes : List ℕ) (limit : ℕ) (output : List ℕ) → checkResult program .number ≡ 0
     → InstanceAnswers program family sizes limit output
 
--- The same over sizes as numbers: every family that an accepted program declares, at every list of as many sizes as it has index variables, each from 0 to
+-- The same over sizes as numbers: every family without family parameters that an accepted program declares, at every list of as many sizes as it has index variables, each from 0 to
 -- 65,535. Each such list is what some bytes say (Sizes).
 abbrev pub SizesTheorem : Type 0
 SizesTheorem =
     (program : List ℕ) (family : ℕ) (d : Declaration) (sizes : List ℕ) (limit : ℕ) (output : List ℕ) → checkResult program .number ≡ 0
-    → familyIn (read program) family ≡ some d → length sizes ≡ d .variables → AllAtMost largestSize sizes
+    → familyIn (read program) family ≡ some d → hasFamilyType (d .types) ≡ false → length sizes ≡ d .variables → AllAtMost largestSize sizes
     → Reports 23 limit (wiresOf (some d) (map pos sizes)) 0 output (instanceAt program family sizes limit (length output))
     (instanceOutcome program family (bytesOfSizes sizes) limit output)

@@ -2,13 +2,14 @@
 use Prim.Native.Nat.{ℕ, suc, _+_, _-_, _≤_, _<_}
 use mathlib.Core.Path.{_≡_, refl, sym, ap, _∙_}
 use mathlib.Core.List.{List, [], _∷_, _++_, map, map-append, append-assoc, append-nil}
-use mathlib.Core.Bool.{true}
+use mathlib.Core.Bool.{Bool, true, false, cond}
 use native.Mathlib.Omega.{arith}
 use borrow.Author.Tests.{le-leb, lt-leb, ne-eqb}
 use types.Run.{OneOf}
 use denote.Enum.Declared.{tagOf}
 use native.Mathlib.Nat.{sub-zero}
 use native.Mathlib.Numerals.{add-one}
+use lib.Dec.{eqb}
 use lib.IntN.{ℤ, pos, negsuc, natAbs}
 use lib.ListN.{length, take, set, length-set}
 use lib.Seq.{slice, take-suc-set}
@@ -16,8 +17,8 @@ use lib.Signed.{ltZ}
 use Rattle.language.proofs.Integers.{integers, range-true}
 use Rattle.language.specs.Form.{inRange}
 use Rattle.language.specs.Limits.{mostParameters, mostWires, furthest}
-use Rattle.language.specs.Tree.{Place, ParameterType}
-use Rattle.language.specs.Read.{field, fields, readType, typesOf, due, choose, readQbit, qbitsOf}
+use Rattle.language.specs.Tree.{Place, badType, ParameterType, plain}
+use Rattle.language.specs.Read.{field, fields, Reader, readType, readPlain, readFamilyType, familyTypeOf, partsOf, typesOf, due, choose, readQbit, qbitsOf}
 use Rattle.language.specs.Machine.{Meaning, Run, Outcome, going, ended, stuck, give, endAt, noMeaning, laidOut, naturalOf, laidThen, layWire, layRegister, layout, after, _>>=_, _>>_}
 use Rattle.operands.specs.Meanings.{parameterOf, ofParameter, clipped}
 use Rattle.operands.specs.declared.Wire.{Wire}
@@ -77,18 +78,29 @@ module _ (next : ℕ) where
         let whole : clipped next n ≡ n = omega arith in
         record { same = λ p rest. rw (natural, e, whole) (laid-on p (next + n) _ h); within = h }
 
+-- a family parameter has no layout
+family-stuck : (values : List ℤ) (next : ℕ) (p : Place) (content : List ℕ) (types : List ParameterType) → layout values next (readFamilyType p content ∷ types) ≡ noMeaning
+unfolding readFamilyType familyTypeOf layout
+family-stuck values next p [] types = refl
+family-stuck values next p (v ∷ []) types = refl
+family-stuck values next p (v ∷ n ∷ rest) types = refl
+
 module _ (tag : ℕ) (l : List ℕ) (values : List ℤ) (next : ℕ) where
   pub type-wire : (r : Placed) → tag ≡ 16 → WireFrom next r → TypeFrom tag l values next r
-  unfolding readType choose readQbit layout
+  unfolding readType readPlain choose readQbit layout
   type-wire r t w = record { same = λ p types. w .same p (λ n. layout values n types) ∙ rw t; within = w .within }
 
   pub type-other : (tag ≡ 16 → ⊥) → (tag ≡ 17 → ⊥) → TypeFrom tag l values next Stuck
-  unfolding readType choose layout placed WithinWires
-  type-other a b = record { same = λ p types. rw (ne-eqb tag 16 a, ne-eqb tag 17 b); within = tt }
+  unfolding readType readPlain choose layout placed WithinWires
+  type-other a b = record { same = λ p types. rw (ne-eqb tag 16 a, ne-eqb tag 17 b) (go p types (eqb tag 18)); within = tt }
+    where
+      go : (p : Place) (types : List ParameterType) (c : Bool) → noMeaning ≡ layout values next (cond {A = Reader ParameterType} c readFamilyType (λ q rest. plain (badType 3 q)) p l ∷ types)
+      go p types true = sym (family-stuck values next p l types)
+      go p types false = refl
 
   module _ (t : tag ≡ 17) (x : Value) (u : IndexAt l 0 values x) where
     sized-is : (p : Place) (types : List ParameterType) → layout values next (readType (field p tag l) ∷ types) ≡ (valueTold p x >>= (λ z. layRegister p z next (λ n. layout values n types)))
-    unfolding readType choose qbitsOf layout
+    unfolding readType readPlain choose qbitsOf layout
     sized-is p types = rw t (ap (λ (r : Run ℤ). r >>= (λ z. layRegister p z next (λ n. layout values n types))) (sym (u .same p p (p + 3))))
 
     pub type-stuck : x ≡ v.Stuck → TypeFrom tag l values next Stuck
@@ -161,7 +173,7 @@ module _ (l : List ℕ) (from to count : ℕ) (values : List ℤ) where
     answers answer h = record { same = h; inside = refl; counted = refl }
 
     pub laying-done : count ≤ i → LaysOut (slice from to l) from count values (laidWith a.Done count params)
-    unfolding cameOut typesOf layout _>>=_ after
+    unfolding cameOut partsOf layout _>>=_ after
     laying-done h = answers a.Done λ place.
         let e : i ≡ count = (let k = so-far .low in omega arith) in
         let none : count - i ≡ 0 = omega arith in
@@ -172,7 +184,7 @@ module _ (l : List ℕ) (from to count : ℕ) (values : List ℤ) where
       one-more = omega arith
 
       pub laying-none : OneOf (1 ∷ 2 ∷ []) (tagOf the-type (lookIn l at to)) → LaysOut (slice from to l) from count values (laidWith a.Stuck count params)
-      unfolding cameOut typesOf due readType layout _>>=_ after
+      unfolding cameOut partsOf due readType layout _>>=_ after
       laying-none h = answers a.Stuck λ place. go place (lookIn l at to) refl h ∙ so-far .same place
         where
           go : (place : Place) (f : Header) → lookIn l at to ≡ f → OneOf (1 ∷ 2 ∷ []) (tagOf the-type f)
@@ -188,7 +200,7 @@ module _ (l : List ℕ) (from to count : ℕ) (values : List ℤ) where
         -- the type field here, and those after it
         here-is : (place : Place) → layout values next (typesLeft l to count at i place)
             ≡ placed at (λ n. layout values n (typesLeft l to count end (i + 1) place)) x
-        unfolding typesOf due
+        unfolding partsOf due
         here-is place =
             let e : at + (end - at) ≡ end = (let k = part .low in omega arith) in
             rw (one-more, part .first at, e) (sym (w .same at (typesLeft l to count end (i + 1) place)))

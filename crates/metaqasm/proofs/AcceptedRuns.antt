@@ -3,6 +3,7 @@ use Prim.Native.Nat.{ℕ, _*_, _≤_}
 use native.Mathlib.Omega.{arith}
 use mathlib.Core.Path.{_≡_, refl, sym, ap, _∙_, subst}
 use mathlib.Core.List.{List, []}
+use mathlib.Core.Bool.{Bool, true, false}
 use borrow.Author.Tests.{leb-true}
 use lib.Dec.{leb}
 use lib.ListN.{length, getElem?}
@@ -11,10 +12,10 @@ use Rattle.language.specs.Read.{read}
 use Rattle.language.specs.Check.{Checked, Declared, good, refused, require, check}
 use Rattle.language.specs.Machine.{allDeclared, runProgram}
 use Rattle.language.specs.Result.{Result, Answer as Reply, Conclusion, finished, gotStuck, conclusionOf, checkProgram, verdict, checkResult, ifAccepted, runOutcome, instanceOf, instanceOutcome}
-use Rattle.language.specs.Sound.{qubitsDeclared, bitsDeclared, wiresLaidOut, Sound, Finishes}
+use Rattle.language.specs.Sound.{qubitsDeclared, bitsDeclared, wiresLaidOut, Sound, Finishes, takesFamily}
 use Rattle.language.proofs.Safe.{then-both, required}
 use Rattle.language.proofs.Refusals.{accepted}
-use Rattle.language.proofs.Soundness.{run-sound, instance-sound, run-refused, instance-refused}
+use Rattle.language.proofs.Soundness.{run-sound, instance-sound, instance-passed, run-refused, instance-refused, run-never-stuck, instance-never-stuck}
 use Rattle.records.specs.declared.Answer.{Answer}
 use Rattle.records.specs.declared.Answer.the-variants.{Going, Ended, Stuck}
 use Rattle.runs.specs.Whole.{Acceptable}
@@ -43,22 +44,21 @@ check-counts l = go (checkProgram l)
 
 -- ---- the answer of the code
 
-abbrev isStuck : Conclusion → ℕ
-isStuck (finished a) = 0
-isStuck gotStuck = 1
-
--- an answer that concludes soundly can be told
-told-by : (least limit q b : ℕ) (lent out : List ℕ) (r : Answer) (c : Conclusion) → Finishes least limit q b lent c → concluded out r ≡ c → NotStuck r
+-- an answer that does not conclude with the machine stuck can be told
+told-by : (out : List ℕ) (r : Answer) (c : Conclusion) → (c ≡ gotStuck → ⊥) → concluded out r ≡ c → NotStuck r
 unfolding concluded
-told-by least limit q b lent out (Going s) c f e = tt
-told-by least limit q b lent out (Ended n p s) c f e = tt
-told-by least limit q b lent out Stuck c f e = absurd (let z = ap isStuck (e ∙ f .is) in omega arith)
+told-by out (Going s) c h e = tt
+told-by out (Ended n p s) c h e = tt
+told-by out Stuck c h e = absurd (h (sym e))
 
 -- a conclusion that is an answer is that answer, soundly
 sound-of : (least limit q b : ℕ) (lent : List ℕ) (a : Reply) (c : Conclusion) → c ≡ finished a → Finishes least limit q b lent c → Sound least limit q b lent a
 sound-of least limit q b lent a c g f =
     let i : f .answer ≡ a = cc in
     subst (λ (x : Reply). Sound least limit q b lent x) i (f .sound)
+
+same-reply : {x y : Reply} → finished x ≡ finished y → x ≡ y
+same-reply e = cc
 
 -- what it says of the records and the steps
 kept-within : (least limit q b : ℕ) (lent : List ℕ) (a : Reply) → Sound least limit q b lent a → (recordSize * a .result .records ≤ length (a .output)) × (a .result .steps ≤ limit)
@@ -72,7 +72,7 @@ module _ (l : List ℕ) (limit : ℕ) (lent : List ℕ) (e : checkResult l .numb
   run-is = rw (good-program l e) refl
 
   pub run-told : (out : List ℕ) (r : Answer) → concluded out r ≡ conclusionOf lent (runProgram limit (length lent) (read l)) → NotStuck r
-  run-told out r h = told-by 24 limit _ _ lent out r _ (run-sound l limit lent e) (h ∙ run-is)
+  run-told out r h = told-by out r _ (run-never-stuck l limit lent) (h ∙ run-is)
 
   pub run-answers : (out : List ℕ) (r : Answer) (x : Result) → concluded out r ≡ conclusionOf lent (runProgram limit (length lent) (read l)) → concluded out r ≡ finished (record { result = x; output = out })
       → (runOutcome l limit lent ≡ finished (record { result = x; output = out })) × SoundRun l limit lent (record { result = x; output = out }) × (recordSize * x .records ≤ length out)
@@ -95,7 +95,23 @@ module _ (l : List ℕ) (k : ℕ) (sizes : List ℕ) (limit : ℕ) (lent : List 
   instance-is = rw (good-program l e) refl
 
   pub instance-told : (out : List ℕ) (r : Answer) → concluded out r ≡ instanceOf (getElem? (allDeclared limit (length lent) (read l) []) k) sizes lent → NotStuck r
-  instance-told out r h = told-by 20 limit _ _ lent out r _ (instance-sound l k sizes limit lent e .0) (h ∙ instance-is)
+  instance-told out r h = told-by out r _ (instance-never-stuck l k sizes limit lent) (h ∙ instance-is)
+
+  -- what holds of its answer
+  module _ (a : Reply) (g : instanceOutcome l k sizes limit lent ≡ finished a) where
+    instance-promised : SoundInstance l k sizes limit lent a
+    instance-promised z = (
+      λ u. sound-of 20 limit (wiresLaidOut l k sizes) 0 lent a _ g (instance-sound l k sizes limit lent e .0 u),
+      λ suits. sound-of 23 limit (wiresLaidOut l k sizes) 0 lent a _ g (instance-sound l k sizes limit lent e .1 suits),
+      λ u. same-reply (sym g ∙ instance-passed l k sizes limit lent e u),
+    )
+
+    instance-within : (recordSize * a .result .records ≤ length (a .output)) × (a .result .steps ≤ limit)
+    instance-within = go (takesFamily l k) refl
+      where
+        go : (b : Bool) → takesFamily l k ≡ b → (recordSize * a .result .records ≤ length (a .output)) × (a .result .steps ≤ limit)
+        go false u = kept-within 20 limit (wiresLaidOut l k sizes) 0 lent a (instance-promised e .0 u)
+        go true u = let i = instance-promised e .2 u in (omega (arith, ap (λ (x : Reply). x .result .records) i), omega (arith, ap (λ (x : Reply). x .result .steps) i))
 
   pub instance-answers : (out : List ℕ) (r : Answer) (x : Result) → concluded out r ≡ instanceOf (getElem? (allDeclared limit (length lent) (read l) []) k) sizes lent
       → concluded out r ≡ finished (record { result = x; output = out })
@@ -103,11 +119,9 @@ module _ (l : List ℕ) (k : ℕ) (sizes : List ℕ) (limit : ℕ) (lent : List 
       × (recordSize * x .records ≤ length out) × (x .steps ≤ limit)
   instance-answers out r x h j =
       let g = sym instance-is ∙ sym h ∙ j in
-      let laid = wiresLaidOut l k sizes in
       let a : Reply = record { result = x; output = out } in
-      let s = sound-of 20 limit laid 0 lent a _ g (instance-sound l k sizes limit lent e .0) in
-      let w = kept-within 20 limit laid 0 lent a s in
-      (g, (λ z. (s, λ suits. sound-of 23 limit laid 0 lent a _ g (instance-sound l k sizes limit lent e .1 suits))), w .0, w .1)
+      let w = instance-within a g in
+      (g, instance-promised a g, w .0, w .1)
 
 -- ---- a program that is turned down
 

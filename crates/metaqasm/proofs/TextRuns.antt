@@ -16,7 +16,7 @@ use Rattle.language.specs.Lookup.{Declaration, familyIn}
 use Rattle.language.specs.Sound.{qubitsDeclared, bitsDeclared, wiresLaidOut, Suits}
 use Rattle.language.proofs.Soundness.{run-refused, instance-refused}
 use Rattle.language.proofs.Theorem.{instance-theorem}
-use Rattle.language.specs.Machine.{Record}
+use Rattle.language.specs.Machine.{Record, hasFamilyType}
 use Rattle.qasm_text.specs.Text.{textOf}
 use Rattle.qasm_text.specs.RecordsIn.{recordsIn}
 use Rattle.qasm_text.specs.TextResult.{TextResult, TextAnswer, TextConclusion, textFinished, withoutText, unprinted, fullyPrinted, printed, byNumber, runTextOutcome, instanceTextOutcome}
@@ -134,14 +134,19 @@ module _ (l : List ℕ) (k : ℕ) (sizes : List ℕ) (limit : ℕ) (lent : List 
       t : InstanceAnswers l k sizes limit lent
       t = instance-theorem l k sizes limit lent (instance-accepted z)
 
-      by-sizes : (d : Declaration) → familyIn (read l) k ≡ some d → (n : Bool) → eqb (length sizes) (4 * d .variables) ≡ n → (m : Bool) → allSizesFit (fourBytes sizes) ≡ m → Suits l k sizes
-      by-sizes d i false c m s = absurd (turned-down 20 (t .miscounted d i (eqb-false (length sizes) (4 * d .variables) c)) z)
-      by-sizes d i true c false s = absurd (turned-down 21 (t .tooLarge d i (eqb-true (length sizes) (4 * d .variables) c) s) z)
-      by-sizes d i true c true s = record { called = d; declared = i; counted = eqb-true (length sizes) (4 * d .variables) c; small = s }
+      by-sizes : (d : Declaration) → familyIn (read l) k ≡ some d → hasFamilyType (d .types) ≡ false → (n : Bool) → eqb (length sizes) (4 * d .variables) ≡ n
+          → (m : Bool) → allSizesFit (fourBytes sizes) ≡ m → Suits l k sizes
+      by-sizes d i u false c m s = absurd (turned-down 20 (t .miscounted d i u (eqb-false (length sizes) (4 * d .variables) c)) z)
+      by-sizes d i u true c false s = absurd (turned-down 21 (t .tooLarge d i u (eqb-true (length sizes) (4 * d .variables) c) s) z)
+      by-sizes d i u true c true s = record { called = d; declared = i; plain = u; counted = eqb-true (length sizes) (4 * d .variables) c; small = s }
+
+      by-types : (d : Declaration) → familyIn (read l) k ≡ some d → (b : Bool) → hasFamilyType (d .types) ≡ b → Suits l k sizes
+      by-types d i true u = absurd (turned-down 33 (t .takesFamily d i u) z)
+      by-types d i false u = by-sizes d i u (eqb (length sizes) (4 * d .variables)) refl (allSizesFit (fourBytes sizes)) refl
 
       by-family : (o : Option Declaration) → familyIn (read l) k ≡ o → Suits l k sizes
       by-family none i = absurd (turned-down 19 (t .noFamily i) z)
-      by-family (some d) i = by-sizes d i (eqb (length sizes) (4 * d .variables)) refl (allSizesFit (fourBytes sizes)) refl
+      by-family (some d) i = by-types d i (hasFamilyType (d .types)) refl
 
   pub instance-text-promised : (buffer : List ℕ) (b : TextAnswer)
       → textFinished b ≡ byNumber (a .result .number) buffer (some (textOf (wiresLaidOut l k sizes) 0 (recordsIn (a .result .records) (a .output)))) a
@@ -149,4 +154,4 @@ module _ (l : List ℕ) (k : ℕ) (sizes : List ℕ) (limit : ℕ) (lent : List 
       → (instanceTextOutcome l k sizes limit lent buffer ≡ textFinished b) × SoundInstanceText l k sizes limit lent buffer b × Within limit b
   instance-text-promised buffer b f r s =
       let g = instance-text-by l k sizes limit lent buffer a e ∙ sym f in
-      (g, (λ z. let i = instance-text-sound l k sizes limit lent buffer z in (sound-of g (i .0), λ suits. sound-of g (i .1 suits))), within limit a b (by-keeps (a .result .number) buffer _ a b f) r s)
+      (g, (λ z. let i = instance-text-sound l k sizes limit lent buffer z in (λ u. sound-of g (i .0 u), λ suits. sound-of g (i .1 suits), λ u. same-text (sym g ∙ i .2 u))), within limit a b (by-keeps (a .result .number) buffer _ a b f) r s)

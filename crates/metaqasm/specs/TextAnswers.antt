@@ -2,10 +2,11 @@
 use Prim.Native.Nat.{ℕ}
 use mathlib.Core.Path.{_≡_}
 use mathlib.Core.List.{List}
+use mathlib.Core.Bool.{true, false}
 use Rattle.language.specs.Result.{checkResult}
-use Rattle.language.specs.Sound.{qubitsDeclared, bitsDeclared, wiresLaidOut, Suits}
+use Rattle.language.specs.Sound.{qubitsDeclared, bitsDeclared, wiresLaidOut, takesFamily, Suits}
 use Rattle.qasm_text.specs.TextResult.{TextResult, TextAnswer, runRecords, instanceRecords}
-use Rattle.qasm_text.specs.TextSound.{TextSound}
+use Rattle.qasm_text.specs.TextSound.{TextSound, untouchedText}
 use Rattle.metaqasm.specs.declared.MetaqasmTextResult.{MetaqasmTextResult}
 
 -- the five numbers of a result
@@ -17,9 +18,12 @@ abbrev pub SoundRunText : (program : List ℕ) (limit : ℕ) (lent buffer : List
 SoundRunText program limit lent buffer a =
     checkResult program .number ≡ 0 → TextSound 24 limit (qubitsDeclared program) (bitsDeclared program) (runRecords program limit lent) lent buffer a
 
--- The same of an instance, with a number from 20 on; from 23 on where the family is declared and the sizes suit it.
+-- The same of an instance of a family without family parameters, with a number from 20 on; from 23 on where the family is declared and the sizes suit it. An instance
+-- of a family with a family parameter gives 34, at place 0, with counts 0, and output and buffer as lent.
 abbrev pub SoundInstanceText : (program : List ℕ) (family : ℕ) (sizes : List ℕ) (limit : ℕ) (lent buffer : List ℕ) → TextAnswer → Type 0
 SoundInstanceText program family sizes limit lent buffer a =
     checkResult program .number ≡ 0
-    → TextSound 20 limit (wiresLaidOut program family sizes) 0 (instanceRecords program family sizes limit lent) lent buffer a
+    → (takesFamily program family ≡ false
+    → TextSound 20 limit (wiresLaidOut program family sizes) 0 (instanceRecords program family sizes limit lent) lent buffer a)
     × (Suits program family sizes → TextSound 23 limit (wiresLaidOut program family sizes) 0 (instanceRecords program family sizes limit lent) lent buffer a)
+    × (takesFamily program family ≡ true → a ≡ untouchedText 34 0 lent buffer)

@@ -112,7 +112,7 @@ fn wide(n: u32) -> usize
     n as usize
 }
 
-// Writes the gate list of one family at given sizes, with the same promises.
+// Writes the gate list of one family at given sizes, with the same promises; a family with a family parameter has none.
 #[no_mangle]
 pub extern "C" fn metaqasm_instance(
     program: &[u8],

@@ -4,9 +4,8 @@ use mathlib.Core.Path.{_≡_, refl, ap, _∙_}
 use mathlib.Core.List.{List, [], _∷_, map}
 use mathlib.Core.Bool.{Bool, true, false, cond}
 use mathlib.Core.Option.{Option, none, some}
-use mathlib.Core.Logic.{⊎-elim}
 use native.Mathlib.Omega.{arith}
-use types.Run.{OneOf}
+use types.Run.{OneOf, miss}
 use denote.Enum.Declared.{tagOf}
 use borrow.Author.Tests.{lt-ltb, le-ltb}
 use lib.ListN.{length, getD, getElem?, take, length-take}
@@ -19,7 +18,7 @@ use mir.Val.{Fits}
 use Rattle.language.proofs.Integers.{integers, range-true, plus, minus, _≼_, ≼-pos}
 use Rattle.language.specs.Form.{inRange}
 use Rattle.kinds.specs.declared.Kind.{Kind}
-use Rattle.kinds.specs.declared.Kind.the-variants.{Qubit, Quantum, Classical}
+use Rattle.kinds.specs.declared.Kind.the-variants.{Qubit, Quantum, Classical, Family as familyKind}
 use Rattle.kinds.specs.Numbers.{kindWith}
 use Rattle.kinds.proofs.Kind.{the-type as kind-type}
 use Rattle.operands.specs.declared.Wire.{Wire}
@@ -27,10 +26,10 @@ use Rattle.operands.specs.declared.Bit.{Bit}
 use Rattle.language.specs.Tree.{Place}
 use Rattle.language.specs.Machine.{Meaning, aWire, aBit, wires, bits, Run, give, noMeaning, found, naturalOf, _>>=_, after, elementAt, sliceAt}
 use Rattle.operands.specs.declared.Operand.{Operand}
-use Rattle.operands.specs.declared.Operand.the-variants.{Single, Register}
+use Rattle.operands.specs.declared.Operand.the-variants.{Single, Register, Family}
 use Rattle.operands.specs.declared.Parameter.{Parameter}
 use Rattle.operands.specs.declared.OperandMeaning.{OperandMeaning}
-use Rattle.operands.specs.declared.OperandMeaning.the-variants.{AWire, ABit, Wires, Stuck}
+use Rattle.operands.specs.declared.OperandMeaning.the-variants.{AWire, ABit, Wires, AFamily, Stuck}
 use Rattle.operands.specs.declared.Location.the-variants.{At, Nowhere}
 use Rattle.operands.specs.Meanings.{ofParameter, parameterOf, registerOf, registersOf, meaningTold, locationIn, locations, clipped, locationOf, theWire, theBit}
 
@@ -55,11 +54,12 @@ register-past zero (a ∷ b ∷ c ∷ l) h = absurd (omega arith)
 register-past (suc n) (a ∷ b ∷ c ∷ l) h = register-past n l (omega arith)
 
 -- a kind that is not classical
-pub register-quantum : (k : Kind) (first size : ℕ) → OneOf (0 ∷ 1 ∷ []) (tagOf kind-type k) → registerOf k first size ≡ wires (theWire first) (clipped first size)
+pub register-quantum : (k : Kind) (first size : ℕ) → OneOf (0 ∷ 1 ∷ 3 ∷ []) (tagOf kind-type k) → registerOf k first size ≡ wires (theWire first) (clipped first size)
 unfolding registerOf
 register-quantum Qubit first size h = refl
 register-quantum Quantum first size h = refl
-register-quantum Classical first size h = absurd (⊎-elim (λ z. omega arith) (λ z. omega arith) h)
+register-quantum Classical first size h = absurd (miss (0 ∷ 1 ∷ 3 ∷ []) 2 tt h)
+register-quantum familyKind first size h = refl
 
 -- of the first `count` in a table
 pub table-at : (n count : ℕ) (l : List ℕ) → n < count → 3 * count ≤ length l
@@ -93,11 +93,13 @@ parameter-none (suc n) (suc k) (x ∷ l) h = parameter-none n k l (omega arith)
 abbrev parameterAnswer : Operand → OperandMeaning
 parameterAnswer (Single w) = AWire w
 parameterAnswer (Register f n) = Wires f n
+parameterAnswer (Family n) = AFamily n
 
 pub parameter-answer : (p : Place) (o : Operand) → meaningTold p (parameterAnswer o) ≡ give (parameterOf o)
 unfolding meaningTold parameterOf
 parameter-answer p (Single w) = refl
 parameter-answer p (Register f n) = refl
+parameter-answer p (Family n) = refl
 
 pub nothing : (p : Place) {A : Option Meaning} → A ≡ none → meaningTold p Stuck ≡ found A
 unfolding meaningTold found

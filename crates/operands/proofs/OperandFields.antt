@@ -1,5 +1,5 @@
 -- What an operand's field stands for. Assumes nothing.
-use Prim.Native.Nat.{ℕ, _+_, _-_}
+use Prim.Native.Nat.{ℕ, _+_, _-_, _<_, _≤_}
 use mathlib.Core.Path.{_≡_, refl, sym, ap, _∙_}
 use mathlib.Core.List.{List, [], _∷_}
 use mathlib.Core.Bool.{Bool, true, false, cond}
@@ -14,8 +14,8 @@ use types.Run.{OneOf, miss}
 use denote.Enum.Declared.{tagOf}
 use Rattle.language.specs.Limits.{deepest}
 use Rattle.language.specs.Tree.{Place, badIndex, badOperand, Operand}
-use Rattle.language.specs.Read.{field, fields, due, choose, readOperand, readWhole, readElement, elementOf, readSlice, sliceOf, outerIndex, readIndex, Reader}
-use Rattle.language.specs.Machine.{Meaning, Run, endAt, noMeaning, found, after, _>>=_, elementAt, sliceAt, runBounds, meaningOf, evaluate, Direction, Condition, wireOf, asWire, bitOf, asBit}
+use Rattle.language.specs.Read.{field, fields, twoBytes, due, choose, readOperand, readWhole, readElement, elementOf, readSlice, sliceOf, readPassed, outerIndex, readIndex, Reader}
+use Rattle.language.specs.Machine.{Meaning, theFamily, Run, ended, going, begin, give, endAt, noMeaning, found, after, _>>=_, elementAt, sliceAt, runBounds, meaningOf, evaluate, Direction, Condition, wireOf, asWire, bitOf, asBit, asFamily}
 use Rattle.indexes.specs.declared.Value.{Value}
 use Rattle.indexes.specs.declared.Value.the-variants.{Is, Over, Stuck}
 use Rattle.fields.specs.declared.Header.the-variants.{Whole, End, Cut}
@@ -26,6 +26,7 @@ use Rattle.indexes.proofs.TwoBounds.{bounds-run}
 use Rattle.fields.proofs.Header.{the-type}
 use Rattle.operands.proofs.OperandMeaning.{the-type as meaning-type}
 use Rattle.fields.proofs.Parts.{not-first}
+use Rattle.fields.proofs.Headers.{one-byte}
 use Rattle.fields.proofs.Between.{lookIn, in-whole, in-none, in-bad}
 use Rattle.fields.specs.declared.Header.{Header}
 use Rattle.operands.specs.declared.OperandMeaning.{OperandMeaning}
@@ -34,7 +35,8 @@ use Rattle.operands.specs.declared.WireMeaning.{WireMeaning}
 use Rattle.operands.specs.declared.BitMeaning.{BitMeaning}
 use Rattle.operands.specs.declared.BitMeaning.the-variants as b
 use Rattle.operands.specs.declared.WireMeaning.the-variants as w
-use Rattle.operands.specs.Meanings.{meaningTold, OperandIs, ElementIs, SliceIs, OverIn, SliceMeans, FieldMeans, frameOf, wireTold, AsWire, WireAt, bitTold, AsBit, BitAt}
+use Rattle.operands.specs.declared.FamilyMeaning.the-variants as f
+use Rattle.operands.specs.Meanings.{meaningTold, OperandIs, ElementIs, SliceIs, OverIn, SliceMeans, PassedMeans, FieldMeans, frameOf, wireTold, AsWire, WireAt, bitTold, AsBit, BitAt, familyTold, FamilyOf}
 
 -- a value, what it is for, and what follows
 elements : Run Meaning → Run ℤ → Run Meaning
@@ -46,28 +48,33 @@ found-stuck none = refl
 found-stuck (some m) = refl
 
 -- an index out of range, where something stands for the number
-pub over-told : (p : Place) (x : OperandMeaning) → OneOf (0 ∷ 1 ∷ 2 ∷ 3 ∷ 4 ∷ []) (tagOf meaning-type x) → meaningTold p s.Over ≡ (meaningTold p x >>= (λ m. endAt 24 p))
+pub over-told : (p : Place) (x : OperandMeaning) → OneOf (0 ∷ 1 ∷ 2 ∷ 3 ∷ 4 ∷ 5 ∷ []) (tagOf meaning-type x) → meaningTold p s.Over ≡ (meaningTold p x >>= (λ m. endAt 24 p))
 unfolding meaningTold _>>=_ after
 over-told p (s.AWire w) h = refl
 over-told p (s.ABit w) h = refl
 over-told p (s.Wires w n) h = refl
 over-told p (s.Bits w n) h = refl
+over-told p (s.AFamily n) h = refl
 over-told p s.Over h = refl
-over-told p s.Stuck h = absurd (miss (0 ∷ 1 ∷ 2 ∷ 3 ∷ 4 ∷ []) 5 tt h)
+over-told p s.Stuck h = absurd (miss (0 ∷ 1 ∷ 2 ∷ 3 ∷ 4 ∷ 5 ∷ []) 6 tt h)
 
 module _ (tag : ℕ) (l : List ℕ) (values : List ℤ) (ms : List Meaning) where
   pub empty-operand : length l ≡ 0 → FieldMeans tag l values ms s.Stuck
-  unfolding readOperand choose readWhole readElement readSlice meaningTold meaningOf
+  unfolding readOperand choose readWhole readElement readSlice readPassed meaningTold meaningOf
   empty-operand h p q d c = go l h
     where
-      pick : (a b c′ : Bool) → noMeaning ≡ meaningOf p (frameOf d c values ms) (cond {A = Reader Operand} a readWhole (cond {A = Reader Operand} b readElement (cond {A = Reader Operand} c′ readSlice (λ q rest. badOperand 3 q))) q [])
-      pick true b c′ = refl
-      pick false true c′ = refl
-      pick false false true = refl
-      pick false false false = refl
+      orElse : Bool → (first second : Reader Operand) → Reader Operand
+      orElse b first second = cond {A = Reader Operand} b first second
+
+      pick : (a b c′ e : Bool) → noMeaning ≡ meaningOf p (frameOf d c values ms) (orElse a readWhole (orElse b readElement (orElse c′ readSlice (orElse e readPassed (λ q rest. badOperand 3 q)))) q [])
+      pick true b c′ e = refl
+      pick false true c′ e = refl
+      pick false false true e = refl
+      pick false false false true = refl
+      pick false false false false = refl
 
       go : (l : List ℕ) → length l ≡ 0 → meaningTold p s.Stuck ≡ meaningOf p (frameOf d c values ms) (readOperand (field q tag l))
-      go [] h = pick (eqb tag 48) (eqb tag 49) (eqb tag 50)
+      go [] h = pick (eqb tag 48) (eqb tag 49) (eqb tag 50) (eqb tag 51)
       go (x ∷ l) h = absurd (omega arith)
 
   pub whole-operand : (n : ℕ) (r : OperandMeaning) → (length l ≡ 0 → ⊥) → tag ≡ 48 → n ≡ getD l 0 0 → OperandIs ms n r → FieldMeans tag l values ms r
@@ -78,9 +85,13 @@ module _ (tag : ℕ) (l : List ℕ) (values : List ℤ) (ms : List Meaning) wher
       go [] h e = absurd (h refl)
       go (x ∷ l) h e = ap (λ (i : ℕ). found (getElem? ms i)) e
 
-  pub other-operand : (tag ≡ 48 → ⊥) → (tag ≡ 49 → ⊥) → (tag ≡ 50 → ⊥) → FieldMeans tag l values ms s.Stuck
+  pub other-operand : (tag ≡ 48 → ⊥) → (tag ≡ 49 → ⊥) → (tag ≡ 50 → ⊥) → (tag ≡ 51 → ⊥) → FieldMeans tag l values ms s.Stuck
   unfolding readOperand choose meaningTold meaningOf
-  other-operand a b e p q d c = rw (ne-eqb tag 48 a, ne-eqb tag 49 b, ne-eqb tag 50 e)
+  other-operand a b e f p q d c = rw (ne-eqb tag 48 a, ne-eqb tag 49 b, ne-eqb tag 50 e, ne-eqb tag 51 f)
+
+  pub passed-operand : tag ≡ 51 → (r : OperandMeaning) → PassedMeans l r → FieldMeans tag l values ms r
+  unfolding readOperand choose
+  passed-operand t r h p q d c = rw t (h p q (frameOf d c values ms))
 
   pub slice-operand : tag ≡ 50 → (length l ≡ 0 → ⊥) → (n : ℕ) → n ≡ getD l 0 0 → (x r : OperandMeaning) → OperandIs ms n x → SliceMeans (drop 1 l) values x r → FieldMeans tag l values ms r
   unfolding readOperand choose readSlice sliceOf meaningOf
@@ -119,8 +130,8 @@ module _ (tag : ℕ) (l : List ℕ) (values : List ℤ) (ms : List Meaning) wher
       unfolding valueTold elements _>>=_ after
       element-at z r k y p q d c = y p ∙ sym (element-is p q d c ∙ (λ j. elements (sym (w p) j) ((index-is p q ∙ ap (valueTold p) k) j)))
 
-pub not-stuck : (x : OperandMeaning) → OneOf (0 ∷ 1 ∷ 2 ∷ 3 ∷ 4 ∷ []) (tagOf meaning-type x) → x ≡ s.Stuck → ⊥
-not-stuck x h e = miss (0 ∷ 1 ∷ 2 ∷ 3 ∷ 4 ∷ []) 5 tt (rw e at h)
+pub not-stuck : (x : OperandMeaning) → OneOf (0 ∷ 1 ∷ 2 ∷ 3 ∷ 4 ∷ 5 ∷ []) (tagOf meaning-type x) → x ≡ s.Stuck → ⊥
+not-stuck x h e = miss (0 ∷ 1 ∷ 2 ∷ 3 ∷ 4 ∷ 5 ∷ []) 6 tt (rw e at h)
 
 -- ---- the two indexes of a slice
 
@@ -140,6 +151,41 @@ module _ (l : List ℕ) (at to : ℕ) (values : List ℤ) (x : OperandMeaning) w
       none-found : (o : Option Meaning) → noMeaning {A = Meaning} ≡ (found o >>= (λ m. noMeaning {A = Meaning}))
       none-found none = refl
       none-found (some m) = refl
+
+-- ---- a passed family
+
+pub passed-short : (l : List ℕ) → length l < 2 → PassedMeans l s.Stuck
+unfolding readPassed meaningTold meaningOf
+passed-short [] h p q f = refl
+passed-short (x ∷ []) h p q f = refl
+passed-short (x ∷ y ∷ l) h p q f = absurd (omega arith)
+
+pub passed-number : (l : List ℕ) (from to n : ℕ) → from + 2 ≤ to → to ≤ length l → n ≡ twoBytes (getD l from 0) (getD l (from + 1) 0) → PassedMeans (slice from to l) (s.AFamily n)
+unfolding readPassed meaningTold meaningOf
+passed-number l from to n h k e p q f = rw (one-byte from to l (omega arith) k, one-byte (from + 1) to l (omega arith) k) (ap (λ (i : ℕ). give (theFamily i)) e)
+
+-- ---- the family that an operand stands for
+
+module _ (ms : List Meaning) (n : ℕ) where
+  pub family-named : (x : OperandMeaning) (i : ℕ) → OperandIs ms n x → x ≡ s.AFamily i → FamilyOf ms n (f.Is i)
+  unfolding meaningTold familyTold asFamily _>>=_ after
+  family-named x i w e = ap (λ (m : Run Meaning). m >>= asFamily) ((rw e at w) 0)
+
+  pub family-none : (x : OperandMeaning) → OperandIs ms n x → OneOf (0 ∷ 1 ∷ 2 ∷ 3 ∷ 5 ∷ 6 ∷ []) (tagOf meaning-type x) → FamilyOf ms n f.Stuck
+  unfolding meaningTold familyTold asFamily found _>>=_ after
+  family-none (s.AWire x) w h = ap (λ (m : Run Meaning). m >>= asFamily) (w 0)
+  family-none (s.ABit x) w h = ap (λ (m : Run Meaning). m >>= asFamily) (w 0)
+  family-none (s.Wires x i) w h = ap (λ (m : Run Meaning). m >>= asFamily) (w 0)
+  family-none (s.Bits x i) w h = ap (λ (m : Run Meaning). m >>= asFamily) (w 0)
+  family-none (s.AFamily i) w h = absurd (miss (0 ∷ 1 ∷ 2 ∷ 3 ∷ 5 ∷ 6 ∷ []) 4 tt h)
+  family-none s.Over w h = go (getElem? ms n) (w 0)
+    where
+      go : (o : Option Meaning) → endAt 24 0 ≡ found o → noMeaning ≡ (found o >>= asFamily)
+      go none e = refl
+      go (some m) e =
+          let k : ended 24 0 begin ≡ going m begin = ap (λ (run : Run Meaning). run begin) e in
+          absurd (let z : _≡_ {A = ℕ} 0 1 = cc in omega arith)
+  family-none s.Stuck w h = ap (λ (m : Run Meaning). m >>= asFamily) (w 0)
 
 -- ---- the operand due at a position
 

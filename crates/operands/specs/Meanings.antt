@@ -8,25 +8,27 @@ use lib.IntN.{ℤ, pos, negsuc}
 use lib.ListN.{getElem?, take, drop}
 use Rattle.language.specs.Limits.{mostRegisters}
 use Rattle.language.specs.Tree.{Place, badIndex, badOperand}
-use Rattle.language.specs.Read.{field, readOperand, due, outerIndex, fields}
-use Rattle.language.specs.Machine.{Meaning, aWire, aBit, wires, bits, Run, give, endAt, noMeaning, found, elementAt, sliceAt, runBounds, meaningOf, Frame, Direction, Condition, asWire, asBit, wireOf, bitOf, _>>=_}
+use Rattle.language.specs.Read.{field, readOperand, readPassed, due, outerIndex, fields}
+use Rattle.language.specs.Machine.{Meaning, aWire, aBit, wires, bits, theFamily, Run, give, endAt, noMeaning, found, elementAt, sliceAt, runBounds, meaningOf, Frame, Direction, Condition, asWire, asBit, asFamily, wireOf, bitOf, _>>=_}
 use Rattle.language.specs.Machine as machine
 use Rattle.kinds.specs.declared.Kind.{Kind}
-use Rattle.kinds.specs.declared.Kind.the-variants.{Qubit, Quantum, Classical}
+use Rattle.kinds.specs.declared.Kind.the-variants.{Qubit, Quantum, Classical, Family as familyKind}
 use Rattle.kinds.specs.Numbers.{kindWith}
 use Rattle.operands.specs.declared.Wire.{Wire}
 use Rattle.operands.specs.declared.Bit.{Bit}
 use Rattle.operands.specs.declared.Operand.{Operand}
-use Rattle.operands.specs.declared.Operand.the-variants.{Single, Register}
+use Rattle.operands.specs.declared.Operand.the-variants.{Single, Register, Family}
 use Rattle.operands.specs.declared.Parameter.{Parameter}
 use Rattle.operands.specs.declared.Scope.{Scope}
 use Rattle.operands.specs.declared.OperandMeaning.{OperandMeaning}
-use Rattle.operands.specs.declared.OperandMeaning.the-variants.{AWire, ABit, Wires, Bits, Over, Stuck}
+use Rattle.operands.specs.declared.OperandMeaning.the-variants.{AWire, ABit, Wires, Bits, AFamily, Over, Stuck}
 use Rattle.operands.specs.declared.Location.{Location}
 use Rattle.operands.specs.declared.BitMeaning.{BitMeaning}
 use Rattle.operands.specs.declared.BitMeaning.the-variants.{Is as bIs, Over as bOver, Stuck as bStuck}
 use Rattle.operands.specs.declared.WireMeaning.{WireMeaning}
 use Rattle.operands.specs.declared.WireMeaning.the-variants.{Is, Over as wOver, Stuck as wStuck}
+use Rattle.operands.specs.declared.FamilyMeaning.{FamilyMeaning}
+use Rattle.operands.specs.declared.FamilyMeaning.the-variants.{Is as fIs, Stuck as fStuck}
 use Rattle.operands.specs.declared.Location.the-variants.{At, Nowhere}
 
 -- a table of registers has three numbers for each
@@ -50,15 +52,17 @@ clipped first size = min size (locations - first)
 unfoldable pub parameterOf : Operand → Meaning
 parameterOf (Single w) = aWire (theWire (w .0))
 parameterOf (Register first size) = wires (theWire (first .0)) (clipped (first .0) size)
+parameterOf (Family n) = theFamily n
 
 abbrev pub ofParameter : Parameter → Meaning
 ofParameter q = parameterOf (q .operand)
 
--- the register of a kind, with its first location and its size; none that is declared is a single qubit
+-- the register of a kind, with its first location and its size; none that is declared is a single qubit or a family
 unfoldable pub registerOf : Kind → (first size : ℕ) → Meaning
 registerOf Qubit first size = wires (theWire first) (clipped first size)
 registerOf Quantum first size = wires (theWire first) (clipped first size)
 registerOf Classical first size = bits (theBit first) (clipped first size)
+registerOf familyKind first size = wires (theWire first) (clipped first size)
 
 -- the registers of a table, which has three numbers for each
 unfoldable pub registersOf : List ℕ → List Meaning
@@ -77,6 +81,7 @@ meaningTold p (AWire w) = give (aWire (theWire (w .0)))
 meaningTold p (ABit b) = give (aBit (theBit (b .0)))
 meaningTold p (Wires f n) = give (wires (theWire (f .0)) (clipped (f .0) n))
 meaningTold p (Bits f n) = give (bits (theBit (f .0)) (clipped (f .0) n))
+meaningTold p (AFamily n) = give (theFamily n)
 meaningTold p Over = endAt 24 p
 meaningTold p Stuck = noMeaning
 
@@ -115,6 +120,10 @@ SliceMeans content values s r = (ms : List Meaning) (n : ℕ) → OperandIs ms n
 abbrev pub frameOf : Direction → Condition → List ℤ → List Meaning → Frame
 frameOf d c values ms = record { direction = d; condition = c; variables = values; operands = ms }
 
+-- the passed family with this content stands for this, wherever it stands
+abbrev pub PassedMeans : List ℕ → OperandMeaning → Type 0
+PassedMeans content r = (p q : Place) (f : Frame) → meaningTold p r ≡ meaningOf p f (readPassed q content)
+
 -- the operand field with this tag and content stands for this, wherever it stands
 abbrev pub FieldMeans : ℕ → List ℕ → List ℤ → List Meaning → OperandMeaning → Type 0
 FieldMeans tag content values ms r = (p q : Place) (d : Direction) (c : Condition) → meaningTold p r ≡ meaningOf p (frameOf d c values ms) (readOperand (field q tag content))
@@ -143,3 +152,11 @@ AsBit s r = (p : Place) → bitTold p r ≡ (meaningTold p s >>= asBit)
 abbrev pub BitAt : List ℕ → ℕ → List ℤ → List Meaning → BitMeaning → Type 0
 BitAt l at values ms r =
     (p q t : Place) (d : Direction) (c : Condition) → bitTold p r ≡ bitOf p (frameOf d c values ms) (due readOperand (badOperand 4 q) (fields t (drop at l)))
+
+unfoldable pub familyTold : FamilyMeaning → Run ℕ
+familyTold (fIs n) = give n
+familyTold fStuck = noMeaning
+
+-- the family that the operand number n stands for
+abbrev pub FamilyOf : List Meaning → ℕ → FamilyMeaning → Type 0
+FamilyOf ms n r = familyTold r ≡ (found (getElem? ms n) >>= asFamily)

@@ -8,7 +8,7 @@ ghost use Rattle.language.specs.Form.{inRange};
 ghost use Rattle.language.specs.Limits.{mostRegisters, mostParameters};
 ghost use Rattle.indexes.specs.Values.{mostValues};
 ghost use mathlib.Core.List.{[], _∷_, _++_, map};
-ghost use Rattle.operands.specs.Meanings.{registerNumbers, ofParameter, registerOf, registersOf, clipped, operandsOf, OperandIs, locationIn, locationOf, ElementIs, RunIs, SliceIs, OverIn, SliceMeans, FieldMeans, AsWire, WireAt, AsBit, BitAt};
+ghost use Rattle.operands.specs.Meanings.{registerNumbers, ofParameter, registerOf, registersOf, clipped, operandsOf, OperandIs, locationIn, locationOf, ElementIs, RunIs, SliceIs, OverIn, SliceMeans, PassedMeans, FieldMeans, AsWire, WireAt, AsBit, BitAt, FamilyOf};
 use fields::Header;
 use indexes::Bounds;
 use indexes::VALUES;
@@ -29,10 +29,12 @@ pub struct Wire(pub u16);
 // A classical location.
 pub struct Bit(pub u16);
 
-// What a parameter stands for: one wire, or a register or a run of its wires, with the first wire and the size.
+// What a parameter stands for: one wire, a register or a run of its wires, with the first wire and the size, or the family with a
+// number.
 pub enum Operand {
     Single(Wire),
     Register { first: Wire, size: u16 },
+    Family(u16),
 }
 
 pub struct Parameter {
@@ -52,6 +54,7 @@ pub enum OperandMeaning {
     ABit(Bit),
     Wires(Wire, u16),
     Bits(Bit, u16),
+    AFamily(u16),
     Over,
     Stuck,
 }
@@ -127,6 +130,7 @@ fn parameter_meaning(scope: Scope, n: usize) -> OperandMeaning
     match o {
         Operand::Single(w) => OperandMeaning::AWire(w),
         Operand::Register { first, size } => OperandMeaning::Wires(first, size),
+        Operand::Family(number) => OperandMeaning::AFamily(number),
     }
 }
 
@@ -185,6 +189,7 @@ fn element(s: OperandMeaning, z: i64) -> OperandMeaning
         }
         OperandMeaning::AWire(w) => OperandMeaning::Stuck,
         OperandMeaning::ABit(b) => OperandMeaning::Stuck,
+        OperandMeaning::AFamily(f) => OperandMeaning::Stuck,
         OperandMeaning::Over => OperandMeaning::Over,
         OperandMeaning::Stuck => OperandMeaning::Stuck,
     }
@@ -234,6 +239,7 @@ fn sliced(s: OperandMeaning, x: i64, y: i64) -> OperandMeaning
         OperandMeaning::Bits(b, n) => OperandMeaning::Stuck,
         OperandMeaning::AWire(w) => OperandMeaning::Stuck,
         OperandMeaning::ABit(b) => OperandMeaning::Stuck,
+        OperandMeaning::AFamily(f) => OperandMeaning::Stuck,
         OperandMeaning::Over => OperandMeaning::Over,
         OperandMeaning::Stuck => OperandMeaning::Stuck,
     }
@@ -269,6 +275,18 @@ fn slice_of(
     }
 }
 
+// What the passed family with the content from `from` to `to` stands for.
+fn passed(bytes: &[u8], from: usize, to: usize) -> OperandMeaning
+    requires { ⌜ (from ≤ to) × (to ≤ length (now bytes)) ⌝ }
+    ensures { λ r. ⌜ PassedMeans (slice from to (now (bytes .entry))) r ⌝ }
+{
+    if to - from < 2 {
+        return OperandMeaning::Stuck;
+    }
+    let number = fields::two_bytes(bytes, from);
+    OperandMeaning::AFamily(number as u16)
+}
+
 // What the operand with this tag, whose content is from `from` to `to`, stands for.
 pub fn meaning(
     bytes: &[u8],
@@ -295,6 +313,9 @@ pub fn meaning(
     if tag == fields::SLICE {
         return slice_of(bytes, at, to, vars, many, s);
     }
+    if tag == fields::PASSED {
+        return passed(bytes, from, to);
+    }
     if tag != fields::ELEMENT {
         return OperandMeaning::Stuck;
     }
@@ -320,6 +341,7 @@ fn as_wire(s: OperandMeaning) -> WireMeaning
         OperandMeaning::ABit(b) => WireMeaning::Stuck,
         OperandMeaning::Wires(w, n) => WireMeaning::Stuck,
         OperandMeaning::Bits(b, n) => WireMeaning::Stuck,
+        OperandMeaning::AFamily(f) => WireMeaning::Stuck,
         OperandMeaning::Over => WireMeaning::Over,
         OperandMeaning::Stuck => WireMeaning::Stuck,
     }
@@ -365,6 +387,7 @@ fn as_bit(s: OperandMeaning) -> BitMeaning
         OperandMeaning::ABit(b) => BitMeaning::Is(b),
         OperandMeaning::Wires(w, n) => BitMeaning::Stuck,
         OperandMeaning::Bits(b, n) => BitMeaning::Stuck,
+        OperandMeaning::AFamily(f) => BitMeaning::Stuck,
         OperandMeaning::Over => BitMeaning::Over,
         OperandMeaning::Stuck => BitMeaning::Stuck,
     }
@@ -389,4 +412,20 @@ pub fn bit_at(
     };
     let from = at + 3;
     as_bit(meaning(bytes, from, end, tag, vars, many, scope, regs))
+}
+
+// The family that an operand stands for.
+pub enum FamilyMeaning {
+    Is(u16),
+    Stuck,
+}
+
+// The family that the operand number n stands for.
+pub fn family_of(scope: Scope, regs: &[u16; REGISTER_NUMBERS], n: usize) -> FamilyMeaning
+    ensures { λ r. ⌜ FamilyOf (operandsOf scope (now (regs .entry))) n r ⌝ }
+{
+    match operand_meaning(scope, regs, n) {
+        OperandMeaning::AFamily(number) => FamilyMeaning::Is(number),
+        _ => FamilyMeaning::Stuck,
+    }
 }

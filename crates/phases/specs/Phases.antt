@@ -2,8 +2,8 @@
 use Prim.Native.Nat.{ℕ, _+_, _-_}
 use mathlib.Core.Path.{_≡_}
 use mathlib.Core.List.{List}
-use mathlib.Core.Bool.{Bool, true, false, cond, _||_}
-use lib.Dec.{eqb, ltb}
+use mathlib.Core.Bool.{Bool, true, false, cond, _&&_, _||_}
+use lib.Dec.{eqb, leb, ltb}
 use lib.IntN.{ℤ}
 use lib.ListN.{drop}
 use lib.Seq.{slice}
@@ -61,7 +61,7 @@ phaseAt mode room tag p l f =
 
 -- whether a statement's tag is that of a gate or a phase
 abbrev pub isActionTag : (tag : ℕ) → Bool
-isActionTag tag = ltb tag 36 || ltb 39 tag
+isActionTag tag = ltb tag 36 || (leb 40 tag && leb tag 41)
 
 -- the gate or the phase of this tag
 unfoldable pub actionAt : Mode → (room : ℕ) → (tag : ℕ) → Place → List ℕ → Frame → Run (Unit {0})

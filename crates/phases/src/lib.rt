@@ -118,7 +118,10 @@ fn parts_of(
 pub fn is_action(tag: u8) -> bool
     ensures { λ r. ⌜ r ≡ isActionTag tag ⌝ }
 {
-    tag < fields::CALL || fields::LONG_CALL < tag
+    if tag < fields::CALL {
+        return true;
+    }
+    fields::PHASE <= tag && tag <= fields::CPHASE
 }
 
 // Writes the gate or the phase with this tag, whose content is from `from` to `to` and whose step is taken.

@@ -1,4 +1,4 @@
--- THE THEOREM for the calls with text: an accepted program's runs and instances are never stuck, and their answers are TextSound.
+-- THE THEOREM for the calls with text: an accepted program's runs and instances are never stuck, and their answers are TextSound; an instance of a family with a family parameter gives 34.
 use mathlib.Core.Path.{_≡_, refl, sym, ap, subst, _∙_}
 use mathlib.Core.Logic.{_⊎_, inl, inr}
 use mathlib.Core.List.{List, [], map}
@@ -13,16 +13,16 @@ use lib.ListN.{length, take, drop, getElem?, length-append, length-drop}
 use lib.Seq.{take-append-seam, drop-append-seam}
 use Rattle.language.specs.Read.{read}
 use Rattle.language.specs.Check.{Checked, good, refused}
-use Rattle.language.specs.Machine.{Record, Outcome, going, ended, stuck, Family, allDeclared, runProgram, runInstance}
+use Rattle.language.specs.Machine.{Record, Outcome, going, ended, stuck, Family, hasFamilyType, allDeclared, runProgram, runInstance}
 use Rattle.language.specs.Result.{Answer, Conclusion, finished, writtenInto, resultOf, untouched, conclusionOf, checkProgram, verdict, checkResult, ifAccepted, runOutcome, fourBytes, allSizesFit, instanceOf, instanceOutcome}
 use Rattle.language.specs.Lookup.{mapped}
-use Rattle.language.specs.Sound.{qubitsDeclared, bitsDeclared, wiresLaidOut, AllName, EndsWith, Sound, Finishes}
+use Rattle.language.specs.Sound.{qubitsDeclared, bitsDeclared, wiresLaidOut, AllName, EndsWith, Sound, Finishes, takesFamily}
 use Rattle.qasm_text.specs.Text.{textOf, textLength, enoughFor}
 use Rattle.qasm_text.specs.TextResult.{TextAnswer, TextConclusion, textFinished, textStuck, textInto, unprinted, fullyPrinted, printed, byNumber, textConclusion, recordsOf, runRecords, recordsAt, instanceRecords, runText, runTextOutcome, instanceText, instanceTextOutcome}
-use Rattle.qasm_text.specs.TextSound.{Listed, Complete, TextSound, TextFinishes, RunTextTheorem, InstanceTextTheorem}
+use Rattle.qasm_text.specs.TextSound.{Listed, Complete, TextSound, TextFinishes, untouchedText, RunTextTheorem, InstanceTextTheorem}
 use Rattle.qasm_text.specs.RecordsIn.{recordsIn}
 use Rattle.language.proofs.Refusals.{accepted}
-use Rattle.language.proofs.Soundness.{run-sound, instance-sound, run-refused, instance-refused}
+use Rattle.language.proofs.Soundness.{run-sound, instance-sound, instance-passed, run-refused, instance-refused}
 use Rattle.qasm_text.proofs.TextLength.{text-length, text-most, text-small}
 use Rattle.qasm_text.proofs.TextBack.{text-injective}
 use Rattle.qasm_text.proofs.RecordsBack.{records-written}
@@ -165,9 +165,10 @@ unfolding recordsAt instanceOf
 instance-holds none sizes output = refused-holds output none 20 0 (omega arith)
 instance-holds (some f) sizes output =
     let came = recordsOf (runInstance f (map pos (fourBytes sizes))) in
-    holds-if output came (eqb (length sizes) (4 * f .variables)) _ _
+    holds-if output came (hasFamilyType (f .types)) _ _ (refused-holds output came 34 0 (omega arith))
+    (holds-if output came (eqb (length sizes) (4 * f .variables)) _ _
     (holds-if output came (allSizesFit (fourBytes sizes)) _ _ (outcome-holds output (runInstance f (map pos (fourBytes sizes)))) (refused-holds output came 22 0 (omega arith)))
-    (refused-holds output came 21 0 (omega arith))
+    (refused-holds output came 21 0 (omega arith)))
 
 -- ---- the calls
 
@@ -220,14 +221,17 @@ run-text-sound program limit output buffer e =
 
 -- every instance of an accepted program
 pub instance-text-sound : InstanceTextTheorem
-unfolding instanceTextOutcome instanceText
+unfolding instanceTextOutcome instanceText textConclusion byNumber unprinted
 instance-text-sound program family sizes limit output buffer e =
     let h = family-holds program family sizes limit output e in
     let i = instance-sound program family sizes limit output e in
     let q = wiresLaidOut program family sizes in
     let came = instanceRecords program family sizes limit output in
-    let c = instanceOutcome program family sizes limit output in
-    (text-finishes 20 limit q 0 came output buffer c (i .0) h, λ s. text-finishes 23 limit q 0 came output buffer c (i .1 s) h)
+    let c = instanceOutcome program family sizes limit output in (
+      λ u. text-finishes 20 limit q 0 came output buffer c (i .0 u) h,
+      λ s. text-finishes 23 limit q 0 came output buffer c (i .1 s) h,
+      λ u. rw (instance-passed program family sizes limit output e u),
+    )
 
 -- ---- different lists print differently
 
@@ -267,11 +271,7 @@ printed-injective {q = q} {b = b} x y z w e =
 
 -- the check's number and place, nothing counted, output and buffer as lent
 abbrev pub turnedDownText : (program output buffer : List ℕ) → TextAnswer
-turnedDownText program output buffer = record {
-  result = record { number = checkResult program .number; place = checkResult program .place; records = 0; steps = 0; length = 0 };
-  output = output;
-  text = buffer;
-}
+turnedDownText program output buffer = untouchedText (checkResult program .number) (checkResult program .place) output buffer
 
 pub not-printed : (n : ℕ) (buffer : List ℕ) (text : Option (List ℕ)) (a : Answer) → 1 ≤ n → byNumber n buffer text a ≡ textFinished (unprinted n (a .result .place) buffer a)
 unfolding byNumber
@@ -316,8 +316,12 @@ run-text-never-stuck program limit output buffer e = go (checkResult program .nu
 pub instance-text-never-stuck : (program : List ℕ) (family : ℕ) (sizes : List ℕ) (limit : ℕ) (output buffer : List ℕ) → instanceTextOutcome program family sizes limit output buffer ≡ textStuck → ⊥
 instance-text-never-stuck program family sizes limit output buffer e = go (checkResult program .number) refl
   where
+    go-zero : (t : Bool) → checkResult program .number ≡ 0 → takesFamily program family ≡ t → ⊥
+    go-zero false c u = finished-not-stuck _ _ (instance-text-sound program family sizes limit output buffer c .0 u .is) e
+    go-zero true c u = finished-not-stuck _ _ (instance-text-sound program family sizes limit output buffer c .2 u) e
+
     go : (n : ℕ) → checkResult program .number ≡ n → ⊥
-    go zero c = finished-not-stuck _ _ (instance-text-sound program family sizes limit output buffer c .0 .is) e
+    go zero c = go-zero (takesFamily program family) c refl
     go (suc n) c = finished-not-stuck _ _ (instance-text-refused program family sizes limit output buffer (omega arith)) e
 
 -- ---- as code has it: the run's answer, and the list read from its output

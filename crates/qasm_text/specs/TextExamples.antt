@@ -98,6 +98,7 @@ textExamples =
     ∷ prints (runTextOutcome (qreg 1 ++ phase (lit 64) (at (lit 0))) 100 (lent 12) (lent 3)) 32 5 0 1 0 (lent 12) (lent 3)
     ∷ prints (runTextOutcome (creg 1 ++ h (lit 0)) 100 (lent 8) (lent 3)) 9 8 0 0 0 (lent 8) (lent 3)
     ∷ prints (instanceTextOutcome L 1 (size 3) 100 (lent 8) (lent 3)) 20 0 0 0 0 (lent 8) (lent 3)
+    ∷ prints (instanceTextOutcome (field 1 (0 ∷ 1 ∷ field 18 (0 ∷ 1 ∷ field 16 []))) 0 (size 3) 100 (lent 8) (lent 3)) 34 0 0 0 0 (lent 8) (lent 3)
     ∷ []
 
 -- opens the definitions of texts, so that examples compute

@@ -2,15 +2,16 @@
 use mathlib.Core.Path.{_≡_}
 use mathlib.Core.Logic.{_⊎_}
 use mathlib.Core.List.{List}
+use mathlib.Core.Bool.{true, false}
 use mathlib.Core.Option.{Option, some}
 use Prim.Native.Nat.{ℕ, _^_, _≤_, _<_}
 use lib.ListN.{length, take, drop}
 use Rattle.language.specs.Machine.{Record}
-use Rattle.language.specs.Result.{Answer, writtenInto, checkResult}
-use Rattle.language.specs.Sound.{qubitsDeclared, bitsDeclared, wiresLaidOut, AllName, EndsWith, Sound, Suits}
+use Rattle.language.specs.Result.{Answer, turnedDown, writtenInto, checkResult}
+use Rattle.language.specs.Sound.{qubitsDeclared, bitsDeclared, wiresLaidOut, AllName, EndsWith, Sound, takesFamily, Suits}
 use Rattle.qasm_text.specs.Text.{textOf, textLength, enoughFor}
 use Rattle.qasm_text.specs.RecordsIn.{recordsIn}
-use Rattle.qasm_text.specs.TextResult.{TextAnswer, TextConclusion, textFinished, runRecords, instanceRecords, runTextOutcome, instanceTextOutcome}
+use Rattle.qasm_text.specs.TextResult.{TextAnswer, TextConclusion, textFinished, withoutText, runRecords, instanceRecords, runTextOutcome, instanceTextOutcome}
 
 -- a list that a run's answer holds
 pub record Listed (wireCount bitCount : ℕ) (lent : List ℕ) (list : List Record) (run : Answer) : Type 0 where
@@ -71,15 +72,22 @@ RunTextTheorem =
     → TextFinishes 24 limit (qubitsDeclared program) (bitsDeclared program) (runRecords program limit output) output buffer
     (runTextOutcome program limit output buffer)
 
--- every instance of an accepted program, at every family number and sizes; from 23 on where the family is declared and the sizes suit it
+-- turned down before the machine starts: nothing counted, output and buffer as lent
+abbrev pub untouchedText : (number place : ℕ) → (output buffer : List ℕ) → TextAnswer
+untouchedText number place output buffer = record { result = withoutText number place (turnedDown number place); output = output; text = buffer }
+
+-- every instance of an accepted program, at every number of a family without family parameters, and sizes; from 23 on where the family is declared and the sizes
+-- suit it; and 34 for a family with a family parameter
 abbrev pub InstanceTextTheorem : Type 0
 InstanceTextTheorem =
     (program : List ℕ) (family : ℕ) (sizes : List ℕ) (limit : ℕ) (output buffer : List ℕ) → checkResult program .number ≡ 0
+    → (takesFamily program family ≡ false
     → TextFinishes 20 limit (wiresLaidOut program family sizes) 0 (instanceRecords program family sizes limit output) output buffer
-    (instanceTextOutcome program family sizes limit output buffer)
+    (instanceTextOutcome program family sizes limit output buffer))
     × (Suits program family sizes
     → TextFinishes 23 limit (wiresLaidOut program family sizes) 0 (instanceRecords program family sizes limit output) output buffer
     (instanceTextOutcome program family sizes limit output buffer))
+    × (takesFamily program family ≡ true → instanceTextOutcome program family sizes limit output buffer ≡ textFinished (untouchedText 34 0 output buffer))
 
 -- different lists on the same wires and bits print differently, whatever the records are
 abbrev pub TextInjective : Type 0

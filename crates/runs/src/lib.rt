@@ -444,6 +444,12 @@ fn sized(
         written: 0,
         steps: 0,
     };
+    let to = calls::past(program, at);
+    let from = at + 5;
+    let count = fields::wide(program[at + 4]);
+    if layout::takes_family(program, from, to, count) {
+        return Answer::Ended(34, 0, none);
+    }
     let many = program[at + 3];
     let mode = fields::wide(many);
     let mut values = [0i32; VALUES];

@@ -10,6 +10,8 @@ ghost use Rattle.indexes.specs.Values.{mostValues};
 ghost use Rattle.records.specs.Outcomes.{Does};
 ghost use Rattle.gates.specs.Gates.{frameIn, Enterable};
 ghost use Rattle.calls.specs.Families.{Tabled};
+ghost use Rattle.operands.specs.Meanings.{operandsOf};
+ghost use Rattle.unroller.specs.CalledFamilies.{Calls};
 ghost use Rattle.unroller.specs.Runs.{Ready, Often, Turns, Turned, Completes, HasBody, Nestable, Inside, oneRun, timesRun, keptIn};
 use calls::OPERAND_NUMBERS;
 use calls::Taken;
@@ -20,6 +22,7 @@ use gates::Mode;
 use gates::Repeats;
 use indexes::VALUES;
 use limits::MOST_FAMILIES;
+use operands::FamilyMeaning;
 use operands::REGISTER_NUMBERS;
 use operands::Scope;
 use records::Answer;
@@ -32,6 +35,36 @@ fn listed(table: &[u16], n: u16) -> usize
 {
     let i = fields::long(n);
     fields::long(table[i])
+}
+
+// The family that a call calls, with the position of its arguments, or that it has no meaning.
+pub enum Called {
+    Family(u16, usize),
+    Stuck,
+}
+
+// The family that the call with this tag and this content calls: the one that it names, or the one that a parameter stands for.
+fn called_family(
+    bytes: &[u8],
+    from: usize,
+    to: usize,
+    tag: u8,
+    scope: Scope,
+    regs: &[u16; REGISTER_NUMBERS],
+) -> Called
+    requires { ⌜ (from ≤ to) × (to ≤ length (now bytes)) ⌝ }
+    ensures { λ r. ⌜ Calls tag from (slice from to (now (bytes .entry))) (operandsOf scope (now (regs .entry))) r ⌝ }
+{
+    let Named::Number(n, first) = fields::called_number(bytes, from, to, tag) else {
+        return Called::Stuck;
+    };
+    if tag != fields::PARAMETER_CALL {
+        return Called::Family(n, first);
+    }
+    match operands::family_of(scope, regs, fields::long(n)) {
+        FamilyMeaning::Is(number) => Called::Family(number, first),
+        FamilyMeaning::Stuck => Called::Stuck,
+    }
 }
 
 // Begins the round i of a list: of a loop it takes a step and sets the loop's variable, the last of the values in scope.
@@ -316,7 +349,7 @@ pub fn run_list(
     }
 }
 
-// Runs the call with this tag and this content, whose step is taken: the body of the family that it names.
+// Runs the call with this tag and this content, whose step is taken: the body of the family that it calls.
 fn run_call(
     bytes: &[u8],
     base: usize,
@@ -339,7 +372,7 @@ fn run_call(
     requires { ⌜ Enterable mode tag (slice from to (now bytes)) × (isCallTag tag ≡ true) ⌝ }
     ensures { λ r. ⌜ Completes mode tag (slice from to (now (bytes .entry))) (now (out .entry)) st (now (out .exit)) r (oneRun mode (length (now (out .entry))) place tag (slice from to (now (bytes .entry))) (now (program .entry)) (frameIn mode (take (mode .variables) (now (vars .entry))) scope (now (regs .entry)))) ⌝ }
 {
-    let Named::Family(number, first) = fields::family_named(bytes, from, to, tag) else {
+    let Called::Family(number, first) = called_family(bytes, from, to, tag, scope, regs) else {
         return Answer::Stuck;
     };
     if mode.families_visible <= number {

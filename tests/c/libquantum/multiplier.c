@@ -8,40 +8,25 @@ enum { MULT = 5, UNMULT = 6, MULT_PRINTED = 7 };
 
 #define MOST_CELLS 3
 
-/* How many pairs of inputs are multiplied, or taken back: the wires are those of x, of y and of the product, which has twice as
- * many. */
-static unsigned pairs_done(const gates *list, unsigned cells, int is_back)
-{
-    unsigned x, y, right = 0, mask = (1u << cells) - 1;
-
-    for (x = 0; x <= mask; x++) {
-        for (y = 0; y <= mask; y++) {
-            unsigned before = x | y << cells, after = before | x * y << 2 * cells;
-
-            right += (unsigned)takes(list, (int)(4 * cells), is_back ? after : before, is_back ? before : after);
-        }
-    }
-    return right;
-}
-
 /* Holds the multiplier of so many cells, and its reverse, to all inputs, and notices lists that are wrong. */
 static void multiply(const program *from, uint8_t n)
 {
     static gates product, back, printed, wrong;
     unsigned pairs = 1u << 2 * n;
+    int wires = 4 * n;
     char name[32];
 
     snprintf(name, sizeof name, "mult at n = %u", n);
     if (!ask(&product, from, MULT, n) || !ask(&back, from, UNMULT, n) || !ask(&printed, from, MULT_PRINTED, n)) {
         return;
     }
-    expect(pairs_done(&product, n, 0) == pairs, name, "every pair of inputs to be multiplied");
-    expect(pairs_done(&back, n, 1) == pairs, name, "every product to be taken back by its reverse");
-    expect((pairs_done(&printed, n, 0) == pairs) == (n == 1), name, "lost carries where the slices are a cell shorter");
+    expect(pairs_done(&product, n, wires, 0) == pairs, name, "every pair of inputs to be multiplied");
+    expect(pairs_done(&back, n, wires, 1) == pairs, name, "every product to be taken back by its reverse");
+    expect((pairs_done(&printed, n, wires, 0) == pairs) == (n == 1), name, "lost carries where the slices are a cell shorter");
     wrong = cut(&product);
-    expect(pairs_done(&wrong, n, 0) < pairs, name, "a missing gate to be noticed");
+    expect(pairs_done(&wrong, n, wires, 0) < pairs, name, "a missing gate to be noticed");
     wrong = broken(&product, METAQASM_OP_CPHASEDG, METAQASM_OP_CPHASE);
-    expect(pairs_done(&wrong, n, 0) < pairs, name, "a wrong gate to be noticed");
+    expect(pairs_done(&wrong, n, wires, 0) < pairs, name, "a wrong gate to be noticed");
     printf("%s: %u pairs of inputs, %llu gates\n", name, pairs, (unsigned long long)product.records);
 }
 

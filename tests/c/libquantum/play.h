@@ -8,7 +8,7 @@
 #include <metaqasm.h>
 #include <quantum.h>
 
-#define MOST_RECORDS 256
+#define MOST_RECORDS 1024
 #define FULL_TURN 6.2831853f
 
 /* A list of gates. */
@@ -133,6 +133,22 @@ static inline int takes(const gates *list, int wires, unsigned long long from, u
     int right = play(list, &state) && near(amplitude(&state, to), 1);
 
     quantum_delete_qureg(&state);
+    return right;
+}
+
+/* How many pairs of inputs are multiplied, or taken back: the wires are those of x, of y and of the product, which has twice as
+ * many, and perhaps one more, which starts at 0 and ends there. */
+static inline unsigned pairs_done(const gates *list, unsigned cells, int wires, int is_back)
+{
+    unsigned x, y, right = 0, mask = (1u << cells) - 1;
+
+    for (x = 0; x <= mask; x++) {
+        for (y = 0; y <= mask; y++) {
+            unsigned before = x | y << cells, after = before | x * y << 2 * cells;
+
+            right += (unsigned)takes(list, wires, is_back ? after : before, is_back ? before : after);
+        }
+    }
     return right;
 }
 

@@ -1,5 +1,5 @@
 #!/usr/bin/env bash
-# Builds and runs the adder, the Fourier transform and the multiplier in libquantum. Where libquantum is not installed it is
+# Builds and runs the adder, the Fourier transform and both multipliers in libquantum. Where libquantum is not installed it is
 # installed, if that can be done; where it cannot, the test is left out with a line that says so.
 # Its last line is `N passed, M failed`, and it succeeds only with M = 0.
 set -u

@@ -122,8 +122,8 @@ fn written(each: usize, count: u64, buffer: &[u8]) -> Option<&[u8]> {
 /// Whether a number is one of those that have a meaning for the call.
 fn known(question: &Question, outcome: &TextOutcome) -> bool {
     match outcome.number {
-        0..=13 | 31 => true,
-        20..=23 => matches!(question.call, Call::Instance { .. }),
+        0..=13 | 31 | 33 => true,
+        20..=23 | 34 => matches!(question.call, Call::Instance { .. }),
         24..=27 | 32 => question.call != Call::Check,
         30 => prints(question),
         _ => false,
@@ -133,7 +133,7 @@ fn known(question: &Question, outcome: &TextOutcome) -> bool {
 /// Whether a place stands in the program, and is 0 where it is about nothing there.
 fn place_fits(question: &Question, outcome: &TextOutcome) -> bool {
     match outcome.number {
-        0 | 1 | 20..=22 | 30 => outcome.place == 0,
+        0 | 1 | 20..=22 | 30 | 34 => outcome.place == 0,
         _ => (outcome.place as usize) < question.program.len(),
     }
 }

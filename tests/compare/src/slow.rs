@@ -96,6 +96,47 @@ fn slices_in_tried_loops(calls: usize) -> Vec<Field> {
     tried(call(0, vec![], vec![part; 8]), calls)
 }
 
+/// The type of a family over 4 index variables with 8 sizes, each of one variable: the most
+/// sizes for its bytes.
+fn eight_sizes() -> Field {
+    let sizes = (0..8).map(|number| qbits(variable(number % 4)));
+    family_type(4, sizes.collect())
+}
+
+/// So many families with 8 parameters that are families with 8 sizes each.
+fn families_of_families(families: usize) -> Vec<Field> {
+    vec![family(4, vec![eight_sizes(); 8], vec![]); families]
+}
+
+/// The size v0 + v1 + v2 + v3, each times a factor, and the factor: it has every number that a
+/// family's size may have.
+fn every_number(factor: u16) -> Field {
+    sum(all_sizes(factor), literal(factor))
+}
+
+/// So many calls that pass a family with 8 sizes for 8 parameters: each shows 64 differences
+/// of sizes, all numbers of which are other than 0.
+fn passes(calls: usize) -> Vec<Field> {
+    let formal = family_type(4, vec![qbits(every_number(2)); 8]);
+    let mut fields = vec![
+        family(4, vec![qbits(every_number(1)); 8], vec![]),
+        family(0, vec![formal; 8], vec![]),
+    ];
+    fields.extend(vec![call(1, vec![], vec![passed(0); 8]); calls]);
+    fields
+}
+
+/// A family of 4 index variables that makes so many calls of a parameter inside 8 loops: as
+/// `calls_in_eight_loops`, but for what is called.
+fn parameter_calls_in_eight_loops(calls: usize) -> Vec<Field> {
+    let called = called();
+    let formal = family_type(4, called.parts.clone());
+    let one = parameter_call(1, vec![variable(11); 4], vec![whole(0); 8]);
+    let body = in_eight_loops(vec![one; calls]);
+    let types = vec![qbits(all_sizes(512)), formal];
+    vec![called, family(4, types, body)]
+}
+
 /// A program of as many statements as fit into one.
 fn full(made: fn(usize) -> Vec<Field>) -> Vec<Field> {
     let bytes = |count| program(&made(count)).len();
@@ -122,6 +163,28 @@ pub fn tried_check() -> Vec<Field> {
 /// The same with slices, which have more showings for each byte.
 pub fn tried_slices() -> Vec<Field> {
     full(slices_in_tried_loops)
+}
+
+/// The program of family types that takes the longest to check for each byte; its last family
+/// has as many of them as still fit.
+pub fn typed_check() -> Vec<Field> {
+    let mut fields = full(families_of_families);
+    let formal = eight_sizes();
+    let head = family(4, vec![], vec![]).size();
+    let room = MOST_BYTES - length(&fields) - head;
+    let last = family(4, vec![formal.clone(); room / formal.size()], vec![]);
+    fields.push(last);
+    fields
+}
+
+/// The program of passed families that takes the longest to check for each byte.
+pub fn passed_check() -> Vec<Field> {
+    full(passes)
+}
+
+/// The program of calls of a parameter that takes the longest to check for each byte.
+pub fn parameter_check() -> Vec<Field> {
+    full(parameter_calls_in_eight_loops)
 }
 
 /// The index 0 as a sum of so many literals, halved at each level.

@@ -3,6 +3,8 @@
 use compare::harness::{reference_answer, whole_text};
 use compare::{compared, promises, Call, Question, Tally};
 use generate::build::*;
+use generate::random::Random;
+use generate::targeted::passing;
 use generate::{case, libraries, library, Case};
 use reference::RECORD_BYTES;
 use std::collections::BTreeSet;
@@ -18,6 +20,8 @@ compared!(run_text_on_24000_programs, has_run_text, run_text);
 compared!(check_on_every_change_of_a_byte, has_check, changes);
 compared!(run_text_on_every_change, has_run_text, printed_changes);
 compared!(check_on_every_beginning, has_check, beginnings);
+compared!(all_calls_on_12000_that_pass, has_run, passing_programs);
+compared!(texts_of_2000_that_pass, has_run_text, printed_passing);
 compared!(all_calls_on_200_libraries, has_run, sound_libraries);
 compared!(all_calls_on_300_damaged, has_run, damaged_libraries);
 compared!(texts_of_15_libraries, has_run_text, printed_libraries);
@@ -95,13 +99,13 @@ fn ask_check(tally: &mut Tally, program: &[u8]) -> Result<(), String> {
     })
 }
 
-/// Asks check, instance and run about the libraries of some seeds.
-fn every_library(tally: &mut Tally, made: fn(u64) -> Case, seeds: u64) -> Result<(), String> {
+/// Asks check, instance and run about what some seeds make.
+fn every_made(tally: &mut Tally, made: fn(u64) -> Case, seeds: u64) -> Result<(), String> {
     for seed in 0..seeds {
         let case = made(seed);
         for call in [Call::Check, as_instance(&case), Call::Run] {
             let compared = tally.question(&question(&case, call));
-            compared.map_err(|message| format!("library {seed}: {message}"))?;
+            compared.map_err(|message| format!("seed {seed}: {message}"))?;
         }
     }
     Ok(())
@@ -109,12 +113,30 @@ fn every_library(tally: &mut Tally, made: fn(u64) -> Case, seeds: u64) -> Result
 
 /// Libraries of hundreds to thousands of families.
 fn sound_libraries(tally: &mut Tally) -> Result<(), String> {
-    every_library(tally, libraries::sound, 200)
+    every_made(tally, libraries::sound, 200)
 }
 
 /// Such libraries with a damaged call.
 fn damaged_libraries(tally: &mut Tally) -> Result<(), String> {
-    every_library(tally, libraries::damaged, 300)
+    every_made(tally, libraries::damaged, 300)
+}
+
+/// A program about families as arguments.
+fn passing_case(seed: u64) -> Case {
+    passing::case(&mut Random::new(seed))
+}
+
+/// Programs about families as arguments, with check, instance and run.
+fn passing_programs(tally: &mut Tally) -> Result<(), String> {
+    every_made(tally, passing_case, 12_000)
+}
+
+/// Some of them with all calls, those that print too.
+fn printed_passing(tally: &mut Tally) -> Result<(), String> {
+    (0..2_000).try_for_each(|seed| {
+        let compared = tally.case(&passing_case(seed));
+        compared.map_err(|message| format!("seed {seed}: {message}"))
+    })
 }
 
 /// A few libraries with all calls, those that print too.
@@ -142,7 +164,31 @@ fn small_programs() -> Vec<Vec<u8>> {
     programs.push(program(&phases()));
     programs.push(program(&slices()));
     programs.push(program(&ranges()));
+    programs.push(program(&passed_families()));
     programs
+}
+
+/// A wire, a register and two families as parameters: both are called, with a slice, in a loop
+/// and backward; and passed in a run, in a reversal and in a condition.
+fn passed_families() -> Vec<Field> {
+    let sized = |size| family_type(1, vec![qbits(size)]);
+    let wire = || family_type(0, vec![qbit()]);
+    let first = parameter_call(2, vec![], vec![whole(0)]);
+    let next = parameter_call(3, vec![plus(0, 1)], vec![slice(1, literal(0), plus(0, 1))]);
+    let looped = repeat(literal(0), literal(1), vec![next]);
+    let types = vec![qbit(), qbits(literal(3)), wire(), sized(plus(0, 1))];
+    let each = repeat(literal(1), variable(0), vec![t(element(0, minus(1, 1)))]);
+    let operands = vec![at(0, 3), between(0, 0, 2), passed(0), passed(1)];
+    let once = call(2, vec![], operands);
+    vec![
+        family(0, vec![qbit()], vec![h(whole(0))]),
+        family(1, vec![qbits(variable(0))], vec![each]),
+        family(0, types, vec![first, reverse(vec![looped])]),
+        qreg(4),
+        creg(1),
+        reverse(vec![once.clone()]),
+        when(1, at(1, 0), vec![once]),
+    ]
 }
 
 /// Bodies that need the range of a loop: the innermost one's, an outer one's, and one over

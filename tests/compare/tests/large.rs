@@ -30,7 +30,17 @@ compared!(the_slowest_check_of_calls, has_check, called_check);
 compared!(the_slowest_check_of_slices, has_check, sliced_check);
 compared!(the_slowest_check_of_trials, has_check, tried_check);
 compared!(the_slowest_check_of_tried_slices, has_check, tried_slices);
+compared!(the_slowest_check_of_family_types, has_check, typed_check);
+compared!(the_slowest_check_of_passes, has_check, passed_check);
+compared!(the_slowest_parameter_calls, has_check, parameter_check);
 compared!(the_slowest_steps, has_run, slowest_steps);
+compared!(
+    the_passed_product_of_100_wires,
+    has_instance,
+    passed_products
+);
+compared!(deepest_parameter_calls, has_run, deepest_passed);
+compared!(programs_packed_with_types, has_run, packed_types);
 
 /// Asks, and holds the reference to number, place, records and steps.
 fn due(tally: &mut Tally, question: &Question, expected: [u64; 4]) -> Result<(), String> {
@@ -296,6 +306,87 @@ fn large_products(tally: &mut Tally) -> Result<(), String> {
     Ok(())
 }
 
+/// Unrolls the same product with what adds passed to it, and its inverse.
+fn passed_products(tally: &mut Tally) -> Result<(), String> {
+    let program = program(&library::passed_multiplier());
+    let sizes = sizes(&[100]);
+    // As above, behind the call that passes it. Backward, a reversal and a call come before.
+    let steps = 2 + 100 * (3 + 100 * 17);
+    for (family, steps) in [(3, steps), (4, steps + 2)] {
+        let question = Question {
+            length: RECORD_BYTES * 150_000,
+            ..instance(&program, family, &sizes)
+        };
+        due(tally, &question, [0, 0, 150_000, steps])?;
+    }
+    due(tally, &instance(&program, 2, &sizes), [34, 0, 0, 0])
+}
+
+/// Families on a wire that are passed to each other from 16 levels down, as many as fit.
+const PASSED_ON: usize = 483;
+
+/// Checks, unrolls and runs families half of which are called as parameters.
+fn deepest_passed(tally: &mut Tally) -> Result<(), String> {
+    let work = |tally: &mut Tally| {
+        let mut fields = library::passed_on(PASSED_ON, 16);
+        let last = families(&fields) as u16 - 1;
+        let called = |wire| call(last, vec![], vec![at(0, wire)]);
+        fields.extend([qreg(3), called(2), reverse(vec![called(1)])]);
+        let program = program(&fields);
+        if !(65_400..=65_535).contains(&program.len()) {
+            return Err(format!("{} bytes are not a full program", program.len()));
+        }
+        // 15 reversals and one statement in each family, of which there are 965.
+        let steps = 16 * (2 * PASSED_ON as u64 - 1);
+        due(tally, &other(&program, Call::Check), [0; 4])?;
+        due(
+            tally,
+            &instance(&program, last.into(), &[]),
+            [0, 0, 1, steps],
+        )?;
+        let taking = instance(&program, u32::from(last) - 1, &[]);
+        due(tally, &taking, [34, 0, 0, 0])?;
+        due(tally, &other(&program, Call::Run), [0, 0, 2, 2 * steps + 3])
+    };
+    on_a_deep_stack(work, tally)
+}
+
+/// Asks about a program that is filled with family types: the family that it passes at its end
+/// asks for 7 wires more than n, of so many more.
+fn packed(
+    tally: &mut Tally,
+    (length, registers): (usize, u8),
+    inner: &Field,
+    wires: u16,
+) -> Result<(), String> {
+    let fields = library::packed(length, registers, inner, wires);
+    let program = program(&fields);
+    let (checked, ran) = match wires {
+        ..=6 => {
+            let refused = [12, library::packed_place(&fields), 0, 0];
+            (refused, refused)
+        }
+        _ => ([0; 4], [0, 0, 1, 3]),
+    };
+    due(tally, &other(&program, Call::Check), checked)?;
+    due(tally, &other(&program, Call::Run), ran)
+}
+
+/// Checks and runs programs of about 4,096 bytes and of all that there may be, with the most
+/// types of families, the most sizes in them and the most registers.
+fn packed_types(tally: &mut Tally) -> Result<(), String> {
+    for inner in [qbit(), qbits(variable(0)), qbits(literal(7))] {
+        for length in (4_080..4_110).chain([60_000, MOST_BYTES]) {
+            for registers in [0, 254] {
+                for wires in [8, 7, 6] {
+                    packed(tally, (length, registers), &inner, wires)?;
+                }
+            }
+        }
+    }
+    Ok(())
+}
+
 /// Families that each pass all but the first wire on, as many as fit.
 const SHORTENED: usize = 2_055;
 
@@ -399,6 +490,21 @@ fn tried_check(tally: &mut Tally) -> Result<(), String> {
 /// Checks the program of slices that takes the longest for each byte, by trials.
 fn tried_slices(tally: &mut Tally) -> Result<(), String> {
     full_check(tally, &slow::tried_slices())
+}
+
+/// Checks the program of family types that takes the longest for each byte.
+fn typed_check(tally: &mut Tally) -> Result<(), String> {
+    full_check(tally, &slow::typed_check())
+}
+
+/// Checks the program of passed families that takes the longest for each byte.
+fn passed_check(tally: &mut Tally) -> Result<(), String> {
+    full_check(tally, &slow::passed_check())
+}
+
+/// Checks the program of parameter calls that takes the longest for each byte.
+fn parameter_check(tally: &mut Tally) -> Result<(), String> {
+    full_check(tally, &slow::parameter_check())
 }
 
 /// Runs steps that evaluate an index of 60,000 bytes.

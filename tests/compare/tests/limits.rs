@@ -35,12 +35,13 @@ const ROOM: usize = 60_000;
 /// A program with a family and its sizes.
 type Small = (Vec<u8>, u32, Vec<u8>);
 
-/// Small programs for instances.
-fn instances() -> Vec<Small> {
+/// Small named programs for instances.
+fn named() -> Vec<Small> {
     let adder = program(&library::reversed_adder());
     let fourier = program(&library::fourier());
     let product = program(&library::multiplier());
-    let mut list = vec![
+    let passed = program(&library::passed_multiplier());
+    vec![
         (program(&library::each_cell()), 0, build::sizes(&[3])),
         (program(&library::nested_loops()), 0, build::sizes(&[3])),
         (adder.clone(), 2, build::sizes(&[1])),
@@ -49,6 +50,9 @@ fn instances() -> Vec<Small> {
         (fourier, 0, build::sizes(&[64])),
         (product.clone(), 2, build::sizes(&[2])),
         (product, 3, build::sizes(&[1])),
+        (passed.clone(), 3, build::sizes(&[2])),
+        (passed, 4, build::sizes(&[1])),
+        (program(&library::passed_on(6, 3)), 10, build::sizes(&[])),
         (program(&library::neighbours()), 1, build::sizes(&[9])),
         (program(&library::shortened(12)), 11, build::sizes(&[])),
         (
@@ -56,7 +60,12 @@ fn instances() -> Vec<Small> {
             8,
             build::sizes(&[1]),
         ),
-    ];
+    ]
+}
+
+/// Small programs for instances.
+fn instances() -> Vec<Small> {
+    let mut list = named();
     let cases = (0..600).map(case);
     let small = cases.filter(|case| {
         let answer = reference::instance(

@@ -57,7 +57,11 @@ const LIST: &[Damage] = &[
         "a number that means nothing",
     ),
     (
-        |answer| answer.outcome.number = 33,
+        |answer| answer.outcome.number = 34,
+        "a number that means nothing",
+    ),
+    (
+        |answer| answer.outcome.number = 35,
         "a number that means nothing",
     ),
     (
@@ -67,6 +71,7 @@ const LIST: &[Damage] = &[
     (|answer| answer.outcome.place = 5, "a place that cannot be"),
     (|answer| answer.outcome.number = 4, "counts without a run"),
     (|answer| answer.outcome.number = 31, "counts without a run"),
+    (|answer| answer.outcome.number = 33, "counts without a run"),
     (
         |answer| answer.outcome.length = 1,
         "more text than there is room",

@@ -1,5 +1,5 @@
-//! The slow programs are what they are meant to be, by the reference: full, accepted, and
-//! shown by the last of their trials only.
+//! The slow programs are what they are meant to be, by the reference: full, accepted, and with
+//! as many showings as they are meant to have; those of trials by the last of them only.
 
 use compare::slow;
 use generate::build::{program, Field};
@@ -87,12 +87,17 @@ fn answers(fields: &[Field]) -> Vec<ShowingOutcome> {
         .collect()
 }
 
-/// Tests that a program is full and accepted, with so many showings in each statement, all by
-/// the eighth trial, and through all loops by the plain rule.
-fn hold(fields: &[Field], showings: usize) {
+/// Tests that a program is full and accepted.
+fn hold_full(fields: &[Field]) {
     let bytes = program(fields);
     assert!((65_400..=65_535).contains(&bytes.len()), "{}", bytes.len());
     assert_eq!(reference::check(&bytes).number, 0);
+}
+
+/// Tests that a program is full and accepted, with so many showings in each statement, all by
+/// the eighth trial, and through all loops by the plain rule.
+fn hold(fields: &[Field], showings: usize) {
+    hold_full(fields);
     let answers = answers(fields);
     assert_eq!(answers.len(), showings);
     for answer in answers {
@@ -109,4 +114,55 @@ fn every_gate_takes_all_trials() {
 #[test]
 fn every_slice_takes_all_trials() {
     hold(&slow::tried_slices(), 32);
+}
+
+/// The forms of the sizes of eight types, all of which are registers.
+fn eight_forms(types: &[Field]) -> Vec<FormNumbers> {
+    assert!(types.len() == 8 && types.iter().all(|one| one.tag == 17));
+    types.iter().map(|one| form(&one.parts[0])).collect()
+}
+
+#[test]
+fn every_parameter_is_a_family_of_eight_sizes() {
+    let fields = slow::typed_check();
+    hold_full(&fields);
+    let [most @ .., last] = &fields[..] else {
+        panic!("no families");
+    };
+    assert!(most.iter().all(|family| family.parts.len() == 8));
+    assert!((1..8).contains(&last.parts.len()), "{}", last.parts.len());
+    for formal in fields.iter().flat_map(|family| &family.parts) {
+        assert_eq!(formal.tag, 18);
+        eight_forms(&formal.parts);
+    }
+}
+
+#[test]
+fn every_pass_shows_eight_differences_in_all_numbers() {
+    let fields = slow::passed_check();
+    hold_full(&fields);
+    let own = eight_forms(&fields[0].parts);
+    assert_eq!(fields[1].parts.len(), 8);
+    for formal in &fields[1].parts {
+        for (given, asked) in eight_forms(&formal.parts).iter().zip(&own) {
+            let spare = plus(given, -1, asked);
+            assert!(spare[..5].iter().all(|&number| number > 0), "{spare:?}");
+        }
+    }
+    for call in &fields[2..] {
+        assert_eq!(call.head, [1]);
+        assert!(call.parts.len() == 8 && call.parts.iter().all(|one| one.tag == 51));
+    }
+    assert!(fields.len() > 1_300, "{}", fields.len());
+}
+
+#[test]
+fn parameters_are_called_as_families_are() {
+    let [called, other] = [slow::parameter_check(), slow::called_check()];
+    hold_full(&called);
+    let call = |fields: &[Field]| innermost(fields[1].parts.last().expect("a body")).1.clone();
+    let [one, two] = [call(&called), call(&other)];
+    assert_eq!((one.tag, two.tag), (42, 36));
+    assert_eq!(one.parts, two.parts);
+    assert_eq!(called[1].parts[1].parts, called[0].parts);
 }

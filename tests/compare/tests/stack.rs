@@ -1,7 +1,7 @@
 //! The deepest programs are answered on the stack that the header names.
 
 use compare::header::stack_kib;
-use generate::shapes::SHAPES;
+use generate::shapes::{Shape, SHAPES};
 use std::process::Command;
 
 /// Whether a call about a shape comes to 0 on a stack of so many KiB.
@@ -67,6 +67,22 @@ fn an_instance_that_is_printed_has_enough() {
 )]
 fn a_run_that_is_printed_has_enough() {
     every_shape_has_enough("run_text");
+}
+
+#[test]
+#[cfg_attr(
+    not(has_run),
+    ignore = "no archive with this call; run `rt staticlib metaqasm` first"
+)]
+fn calls_of_parameters_nest_as_deep_as_they_can_in_8_mib() {
+    let passing = |(_, shape): &(usize, &Shape)| shape.passes();
+    let shapes: Vec<_> = SHAPES.iter().enumerate().filter(passing).collect();
+    assert!(!shapes.is_empty());
+    for (number, shape) in shapes {
+        for call in ["instance", "run"] {
+            assert!(enough(call, number, 8_192), "{call}, {}", shape.name);
+        }
+    }
 }
 
 #[test]

@@ -108,6 +108,11 @@ pub fn qbits(size: Field) -> Field {
     Field::new(17, &[], vec![size])
 }
 
+/// The type of a family with `m` index variables and parameters of types.
+pub fn family_type(m: u8, types: Vec<Field>) -> Field {
+    Field::new(18, &[m, types.len() as u8], types)
+}
+
 /// A quantum register.
 pub fn qreg(size: u16) -> Field {
     Field::new(2, &size.to_le_bytes(), vec![])
@@ -178,6 +183,11 @@ pub fn wide_call(family: u16, sizes: Vec<Field>, operands: Vec<Field>) -> Field 
     Field::new(39, &family.to_le_bytes(), [sizes, operands].concat())
 }
 
+/// A call of the parameter with a number, which is a family.
+pub fn parameter_call(number: u8, sizes: Vec<Field>, operands: Vec<Field>) -> Field {
+    Field::new(42, &[number], [sizes, operands].concat())
+}
+
 /// Statements run backward.
 pub fn reverse(body: Vec<Field>) -> Field {
     Field::new(37, &[], body)
@@ -203,6 +213,11 @@ pub fn element(number: u8, index: Field) -> Field {
 /// The part of the operand with a number from a first to a last element.
 pub fn slice(number: u8, first: Field, last: Field) -> Field {
     Field::new(50, &[number], vec![first, last])
+}
+
+/// A declared family that is passed.
+pub fn passed(family: u16) -> Field {
+    Field::new(51, &family.to_le_bytes(), vec![])
 }
 
 /// A part of which both ends are fixed.

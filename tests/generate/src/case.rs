@@ -44,7 +44,8 @@ fn damaged_tree(random: &mut Random) -> Case {
     } = typed::program(random);
     match random.below(100) {
         0..=14 => damage::some_phase(&mut fields, random),
-        15..=39 => damage::some_slice(&mut fields, random),
+        15..=34 => damage::some_slice(&mut fields, random),
+        35..=59 => damage::some_passing(&mut fields, random),
         _ => damage::tree(&mut fields, random),
     }
     arguments(program(&fields), &families, random)
@@ -70,7 +71,7 @@ fn mixed(random: &mut Random) -> Case {
 /// Arguments that mostly suit the families declared.
 pub(crate) fn arguments(program: Vec<u8>, families: &[Signature], random: &mut Random) -> Case {
     let family = match random.percent(96) {
-        true => random.below(families.len()),
+        true => some_family(families, random),
         false => families.len() + random.below(3),
     };
     let count = families.get(family).map_or(1, |called| called.sizes);
@@ -88,6 +89,16 @@ pub(crate) fn arguments(program: Vec<u8>, families: &[Signature], random: &mut R
         sizes,
         limit: some_limit(random),
         output: some_length(random),
+    }
+}
+
+/// The number of a family, mostly of one that takes no families.
+fn some_family(families: &[Signature], random: &mut Random) -> usize {
+    let plain = |number: &usize| !families[*number].takes_families();
+    let numbers: Vec<usize> = (0..families.len()).filter(plain).collect();
+    match numbers.is_empty() || random.percent(12) {
+        true => random.below(families.len()),
+        false => random.pick(&numbers),
     }
 }
 

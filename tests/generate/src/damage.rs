@@ -1,16 +1,18 @@
 //! Damage: small changes to a program's tree or to its bytes.
 
+mod passing;
 mod slices;
 
+pub use passing::{passing_field, some_passing};
 pub use slices::{slice_field, some_slice};
 
 use crate::build::*;
 use crate::random::Random;
 
 /// All tags that mean something, and two that do not.
-const TAGS: [u8; 28] = [
-    1, 2, 3, 4, 5, 6, 16, 17, 32, 33, 34, 35, 36, 37, 38, 39, 40, 41, 48, 49, 50, 64, 65, 66, 67,
-    68, 0, 42,
+const TAGS: [u8; 31] = [
+    1, 2, 3, 4, 5, 6, 16, 17, 18, 32, 33, 34, 35, 36, 37, 38, 39, 40, 41, 42, 48, 49, 50, 51, 64,
+    65, 66, 67, 68, 0, 43,
 ];
 /// The tags of calls with a family number of one byte and of two.
 const CALL: u8 = 36;
@@ -97,7 +99,7 @@ pub fn phase_field(field: &mut Field, random: &mut Random) {
     let last = field.parts.len().saturating_sub(1);
     match random.below(10) {
         0 => field.tag = PHASE + CPHASE - field.tag,
-        1 => field.tag = random.pick(&[32, 33, 34, 35, 38, 42]),
+        1 => field.tag = random.pick(&[32, 33, 34, 35, 38, 42, 43]),
         2 => field.parts.truncate(random.below(last + 1)),
         3 => {
             field.parts.remove(0);
@@ -117,7 +119,7 @@ fn index_field(index: &mut Field, random: &mut Random) {
         1 => *index = difference(before, literal(1 + random.below(64) as u16)),
         2 => *index = product(before.clone(), before),
         3 => *index = product(largest(), before),
-        4 => index.tag = random.pick(&[16, 48, 49, 50, 63, 69, 65, 66]),
+        4 => index.tag = random.pick(&[16, 48, 49, 50, 51, 63, 69, 65, 66]),
         5 => *index = variable(random.below(14) as u8),
         6 => {
             index.head.pop();
@@ -261,7 +263,7 @@ fn wrap(field: &mut Field, random: &mut Random) {
     for _ in 0..times {
         let inner = field.clone();
         *field = match inner.tag {
-            32..=41 => reverse(vec![inner]),
+            32..=42 => reverse(vec![inner]),
             64..=68 => match random.below(4) {
                 0 => sum(inner, literal(0)),
                 1 => sum(literal(0), inner),

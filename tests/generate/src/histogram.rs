@@ -1,6 +1,6 @@
 //! Counts of the answers that the reference gives to generated cases.
 
-use crate::build::program;
+use crate::build::{program, Field};
 use crate::case::{case, Case};
 use crate::read;
 use reference::{Outcome, RECORD_BYTES};
@@ -9,7 +9,7 @@ use std::ops::Range;
 
 /// All numbers that an input can be turned down with.
 pub fn all_numbers() -> impl Iterator<Item = u32> {
-    (1..=13).chain(20..=27).chain([31, 32])
+    (1..=13).chain(20..=27).chain(31..=34)
 }
 
 /// All ops that a record can have.
@@ -28,6 +28,10 @@ pub struct Histogram {
     /// calls that pass them.
     pub sliced: u64,
     pub through_slices: u64,
+    /// Accepted programs that call parameters, and those of which a list is shorter without
+    /// these calls.
+    pub passing: u64,
+    pub through_passed: u64,
     pub records: u64,
     pub longest: u64,
     /// By op: how many records have it.
@@ -59,25 +63,22 @@ impl Histogram {
         self.longest = self.longest.max(unrolled.records).max(ran.records);
         self.count([checked, unrolled, ran]);
         if checked.number == 0 {
-            self.count_slices(case, unrolled.records + ran.records);
+            self.count_made(case, unrolled.records + ran.records);
         }
     }
 
-    /// Counts an accepted case with slices, whose two lists have so many records.
-    fn count_slices(&mut self, case: &Case, records: u64) {
+    /// Counts what an accepted case is made of, whose two lists have so many records.
+    fn count_made(&mut self, case: &Case, records: u64) {
         let fields = read::fields(&case.program);
-        if !read::has_slices(&fields) {
-            return;
+        let shorter = |without: Vec<Field>| u64::from(listed(case, &without) < records);
+        if read::has_slices(&fields) {
+            self.sliced += 1;
+            self.through_slices += shorter(read::without_slices(&fields));
         }
-        let without = Case {
-            program: program(&read::without_slices(&fields)),
-            ..case.clone()
-        };
-        let mut output = vec![0; case.output];
-        let unrolled = unrolled(&without, &mut output);
-        let ran = reference::run(&without.program, case.limit, &mut output);
-        self.sliced += 1;
-        self.through_slices += u64::from(unrolled.records + ran.records < records);
+        if read::has_parameter_calls(&fields) {
+            self.passing += 1;
+            self.through_passed += shorter(read::without_parameter_calls(&fields));
+        }
     }
 
     /// Counts the numbers of the three answers.
@@ -106,6 +107,18 @@ impl Histogram {
             .filter(|number| !self.counts.contains_key(number))
             .collect()
     }
+}
+
+/// How many records the two lists of a case have with other fields.
+fn listed(case: &Case, fields: &[Field]) -> u64 {
+    let other = Case {
+        program: program(fields),
+        ..case.clone()
+    };
+    let mut output = vec![0; case.output];
+    let unrolled = unrolled(&other, &mut output);
+    let ran = reference::run(&other.program, case.limit, &mut output);
+    unrolled.records + ran.records
 }
 
 /// The answer about a case's family.

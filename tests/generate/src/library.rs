@@ -90,6 +90,30 @@ pub fn multiplier() -> Vec<Field> {
     ]
 }
 
+/// The same product with what adds passed to it: family 2 takes it beside x, y and z, family 3
+/// passes family 1, and family 4 runs that backward.
+pub fn passed_multiplier() -> Vec<Field> {
+    let (n, i) = (|| variable(0), || variable(1));
+    let [toffoli, add, product, _] = <[Field; 4]>::try_from(multiplier()).expect("four families");
+    let plain = product.parts[..3].to_vec();
+    let mut types = plain.clone();
+    types.push(family_type(1, add.parts[..3].to_vec()));
+    let part = slice(2, i(), sum(i(), minus(0, 1)));
+    let once = parameter_call(3, vec![n()], vec![element(0, i()), whole(1), part]);
+    let each = repeat(literal(0), minus(0, 1), vec![once]);
+    let mut operands = [0, 1, 2].map(whole).to_vec();
+    let same = call(3, vec![n()], operands.clone());
+    operands.push(passed(1));
+    let passing = call(2, vec![n()], operands);
+    vec![
+        toffoli,
+        add,
+        family(1, types, vec![each]),
+        family(1, plain.clone(), vec![passing]),
+        family(1, plain, vec![reverse(vec![same])]),
+    ]
+}
+
 /// A family on two wires, called by family 1 for each pair x[i..i+1] of n + 1 wires.
 pub fn neighbours() -> Vec<Field> {
     let i = || variable(1);
@@ -196,7 +220,68 @@ pub fn deep_calls(families: usize, levels: usize) -> Vec<Field> {
     calling(families, |inner| wrapped(levels - 1, inner))
 }
 
-/// The same, with a gate beside the statement at each level.
+/// Families, a register of nine qubits and a call: a family over n on n + 7 wires is passed for
+/// one on so many more than n. So many families and registers stand before.
+fn passed_at_the_end(families: u16, registers: u8, wires: u16) -> [Field; 4] {
+    let formal = family_type(1, vec![qbits(plus(0, wires))]);
+    let once = parameter_call(1, vec![literal(1)], vec![whole(0)]);
+    let operands = vec![whole(registers), passed(families)];
+    [
+        family(1, vec![qbits(plus(0, 7))], vec![h(at(0, 0))]),
+        family(0, vec![qbits(literal(9)), formal], vec![once]),
+        qreg(9),
+        call(families + 1, vec![], operands),
+    ]
+}
+
+/// A program of about so many bytes and no more: so many bits, as many types of family
+/// parameters of one inner type as fit, and the passed family of `passed_at_the_end`.
+pub fn packed(bytes: usize, registers: u8, inner: &Field, wires: u16) -> Vec<Field> {
+    let of_types = |count| {
+        family(
+            1,
+            vec![family_type(1, vec![inner.clone(); 8]); count],
+            vec![],
+        )
+    };
+    let room = bytes - length(&passed_at_the_end(256, registers, wires));
+    let mut fields = vec![creg(1); registers.into()];
+    let full = of_types(8);
+    let count = (room - length(&fields)) / full.size();
+    fields.extend(vec![full; count]);
+    let each = of_types(2).size() - of_types(1).size();
+    let left = (room - length(&fields)).saturating_sub(of_types(0).size()) / each;
+    if left > 0 {
+        fields.push(of_types(left));
+    }
+    let number = families(&fields) as u16;
+    fields.extend(passed_at_the_end(number, registers, wires));
+    fields
+}
+
+/// Where the passed family of such a program stands.
+pub fn packed_place(fields: &[Field]) -> u64 {
+    headers(fields).last().copied().unwrap_or(0) as u64
+}
+
+/// So many families on a wire, and between each two one that takes a family: each of the first
+/// kind but the first passes the one before it, and both call from so many levels down.
+pub fn passed_on(families: usize, levels: usize) -> Vec<Field> {
+    let wrap = |inner| vec![wrapped(levels - 1, inner)];
+    let mut fields = vec![family(0, vec![qbit()], wrap(t(whole(0))))];
+    let types = vec![qbit(), family_type(0, vec![qbit()])];
+    let once = parameter_call(1, vec![], vec![whole(0)]);
+    let taking = family(0, types, wrap(once));
+    for before in (0..2 * (families as u16 - 1)).step_by(2) {
+        let passing = call(before + 1, vec![], vec![whole(0), passed(before)]);
+        fields.push(taking.clone());
+        fields.push(family(0, vec![qbit()], wrap(passing)));
+    }
+    fields
+}
+
+/// So many families, each calling the one before from so many levels down, with a gate beside
+/// the statement at each level.
 pub fn deep_lists(families: usize, levels: usize) -> Vec<Field> {
     let beside = |inner| reverse(vec![inner, t(whole(0))]);
     calling(families, |inner| {

@@ -5,8 +5,8 @@ use crate::build::{reverse, Field};
 /// How many bytes of numbers a field with this tag begins with.
 fn head(tag: u8) -> usize {
     match tag {
-        1..=3 | 39 | 64 => 2,
-        6 | 36 | 48..=50 | 65 => 1,
+        1..=3 | 18 | 39 | 51 | 64 => 2,
+        6 | 36 | 42 | 48..=50 | 65 => 1,
         _ => 0,
     }
 }
@@ -37,10 +37,31 @@ pub fn has_slices(fields: &[Field]) -> bool {
 
 /// The same fields with every call that passes a slice replaced by an empty reversal.
 pub fn without_slices(fields: &[Field]) -> Vec<Field> {
-    let replaced = |field: &Field| match field.parts.iter().any(is_slice) {
+    without(fields, |field| field.parts.iter().any(is_slice))
+}
+
+/// Whether a statement calls a parameter.
+fn calls_parameter(field: &Field) -> bool {
+    field.tag == 42
+}
+
+/// Whether a parameter is called among fields, at any depth.
+pub fn has_parameter_calls(fields: &[Field]) -> bool {
+    let inside = |field: &Field| calls_parameter(field) || has_parameter_calls(&field.parts);
+    fields.iter().any(inside)
+}
+
+/// The same fields with every call of a parameter replaced by an empty reversal.
+pub fn without_parameter_calls(fields: &[Field]) -> Vec<Field> {
+    without(fields, calls_parameter)
+}
+
+/// The same fields with the statements meant replaced by empty reversals.
+fn without(fields: &[Field], meant: fn(&Field) -> bool) -> Vec<Field> {
+    let replaced = |field: &Field| match meant(field) {
         true => reverse(vec![]),
         false => Field {
-            parts: without_slices(&field.parts),
+            parts: without(&field.parts, meant),
             ..field.clone()
         },
     };

@@ -1,4 +1,5 @@
-//! The deepest programs: as many families as fit, each of which calls the one before.
+//! The deepest programs: as many families as fit, each of which calls the one before, by its
+//! number or as a parameter.
 
 use crate::build::*;
 
@@ -10,6 +11,8 @@ pub struct Shape {
     loops: usize,
     reversals: usize,
     parameters: Parameters,
+    /// Whether every second family is passed the one before and calls it as a parameter.
+    passes: bool,
 }
 
 /// In which order loops and reversals are nested, and what else a reversal holds.
@@ -57,9 +60,19 @@ const MOST_SLICES: Parameters = Slices {
     indexes: 4,
 };
 
+/// The most registers and slices beside a family that is passed.
+const MOST_BUT_ONE: Parameters = Registers {
+    count: 7,
+    indexes: 4,
+};
+const MOST_SLICES_BUT_ONE: Parameters = Slices {
+    count: 7,
+    indexes: 4,
+};
+
 /// From the most families without nesting to those of 16 levels. Reversals that hold
 /// nothing else take the fewest bytes; those that hold a list take the most stack each.
-pub const SHAPES: [Shape; 12] = [
+pub const SHAPES: [Shape; 19] = [
     shape("calls alone", Single, [0, 0], Wires(1)),
     shape("1 reversal", Single, [0, 1], Wires(1)),
     shape("15 reversals", Single, [0, 15], Wires(1)),
@@ -72,6 +85,18 @@ pub const SHAPES: [Shape; 12] = [
     shape("slices alone", Single, [0, 0], ONE_SLICE),
     shape("in turn, 1 slice", InTurn, [8, 7], ONE_SLICE),
     shape("in turn, 8 slices", InTurn, [8, 7], MOST_SLICES),
+    passing("passed alone", Single, [0, 0], Wires(1)),
+    passing("passed, 1 reversal", Single, [0, 1], Wires(1)),
+    passing("passed, 15 reversals", Single, [0, 15], Wires(1)),
+    passing("passed, 15 in lists", Listed, [0, 15], Wires(1)),
+    passing("passed in turn, 1 register", InTurn, [8, 7], ONE),
+    passing("passed in turn, 7 registers", InTurn, [8, 7], MOST_BUT_ONE),
+    passing(
+        "passed in turn, 7 slices",
+        InTurn,
+        [8, 7],
+        MOST_SLICES_BUT_ONE,
+    ),
 ];
 
 /// A shape of so many loops and reversals.
@@ -87,6 +112,20 @@ const fn shape(
         loops,
         reversals,
         parameters,
+        passes: false,
+    }
+}
+
+/// The same of families half of which are called as parameters.
+const fn passing(
+    name: &'static str,
+    order: Order,
+    levels: [usize; 2],
+    parameters: Parameters,
+) -> Shape {
+    Shape {
+        passes: true,
+        ..shape(name, order, levels, parameters)
     }
 }
 
@@ -180,12 +219,74 @@ impl Shape {
         family(parameters.indexes(), parameters.types(), body)
     }
 
-    /// A call that passes all index variables and parameters on.
-    fn call(&self, number: u16) -> Field {
+    /// All index variables and parameters, as they are passed on.
+    fn all(&self) -> (Vec<Field>, Vec<Field>) {
         let sizes = (0..self.parameters.indexes()).map(variable).collect();
         let passed = |number| self.parameters.passed(number);
-        let operands = (0..self.parameters.count()).map(passed).collect();
+        (sizes, (0..self.parameters.count()).map(passed).collect())
+    }
+
+    /// A call that passes all index variables and parameters on.
+    fn call(&self, number: u16) -> Field {
+        let (sizes, operands) = self.all();
         call(number, sizes, operands)
+    }
+
+    /// A family with statements at the bottom of its body and a parameter more, which is a
+    /// family of a type.
+    fn taking(&self, formal: Field, statements: Vec<Field>) -> Field {
+        let mut types = self.parameters.types();
+        types.push(formal);
+        let body = self.nest(statements);
+        family(self.parameters.indexes(), types, body)
+    }
+
+    /// Two families behind the one with a number: the first takes a family like that and calls
+    /// it, the second passes it to the first.
+    fn passing(&self, number: u16) -> [Field; 2] {
+        let parameters = self.parameters;
+        let formal = family_type(parameters.indexes(), parameters.types());
+        let (sizes, operands) = self.all();
+        let inner = parameter_call(parameters.count(), sizes, operands);
+        let mut outer = self.call(number + 1);
+        outer.parts.push(passed(number));
+        [self.taking(formal, vec![inner]), self.family(vec![outer])]
+    }
+
+    /// Whether half of its families are called as parameters.
+    pub fn passes(&self) -> bool {
+        self.passes
+    }
+
+    /// How many families come next at a time.
+    pub fn at_a_time(&self) -> usize {
+        match self.passes {
+            true => 2,
+            false => 1,
+        }
+    }
+
+    /// The families that come next behind the one with a number.
+    fn next(&self, number: u16) -> Vec<Field> {
+        match self.passes {
+            true => self.passing(number).to_vec(),
+            false => vec![self.family(vec![self.call(number)])],
+        }
+    }
+
+    /// The type of a family with the deepest sizes, and a call of the parameter with a number
+    /// of this type with the deepest indexes.
+    fn deep_parameter(&self, number: u8) -> (Field, Field) {
+        let part = self.parameters.part(left_deep(), right_deep());
+        let types = match self.parameters {
+            Wires(_) => vec![qbit(); 2],
+            Registers { .. } | Slices { .. } => vec![qbits(left_deep()), qbits(right_deep())],
+        };
+        let sizes = vec![right_deep()];
+        (
+            family_type(1, types),
+            parameter_call(number, sizes, times(2, part)),
+        )
     }
 
     /// A call of a family like this one with the deepest indexes, of 16 levels.
@@ -240,14 +341,16 @@ impl Shape {
         fields.extend(self.lowest());
         let mut bytes = length(&fields);
         let mut last = families(&fields) as u16 - 1;
-        while usize::from(last) + 1 < MOST_FAMILIES {
-            let next = self.family(vec![self.call(last)]);
-            bytes += next.size();
-            if bytes + length(&self.run(last + 1)) > MOST_BYTES {
+        loop {
+            let next = self.next(last);
+            let new = last + next.len() as u16;
+            bytes += length(&next);
+            let many = usize::from(new) >= MOST_FAMILIES;
+            if many || bytes + length(&self.run(new)) > MOST_BYTES {
                 break;
             }
-            fields.push(next);
-            last += 1;
+            fields.extend(next);
+            last = new;
         }
         fields.extend(self.run(last));
         fields
@@ -259,19 +362,26 @@ impl Shape {
     }
 
     /// Families of which the last one has the deepest indexes at the bottom: in calls
-    /// with a number of one byte and of two, in a cx and in phases.
+    /// with a number of one byte and of two, in a cx and in phases; and in the type of a
+    /// family parameter and its call.
     pub fn deepest_indexes(&self) -> Vec<Field> {
         let small = family(1, vec![qbit()], vec![]);
         let mut fields = vec![small; 256];
         fields.push(self.family(vec![]));
         let wire = |index| self.parameters.wire(index);
-        let statements = vec![
+        let mut statements = vec![
             call(255, vec![right_deep()], vec![wire(left_deep())]),
             self.deep_call(256),
             cx(wire(left_deep()), wire(right_deep())),
             phase(right_deep(), wire(left_deep())),
             cphase(left_deep(), wire(left_deep()), wire(right_deep())),
         ];
+        if self.passes {
+            let (formal, inner) = self.deep_parameter(self.parameters.count());
+            statements.push(inner);
+            fields.push(self.taking(formal, statements));
+            return fields;
+        }
         fields.push(self.family(statements));
         fields
     }

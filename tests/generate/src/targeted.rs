@@ -1,5 +1,6 @@
 //! Programs near one limit or one rule each, for answers that chance misses.
 
+pub mod passing;
 mod phases;
 pub mod ranges;
 mod slices;
@@ -12,7 +13,7 @@ use crate::random::Random;
 use reference::RECORD_BYTES;
 
 /// A writer of cases near one limit.
-type Writer = fn(&mut Random) -> Case;
+pub type Writer = fn(&mut Random) -> Case;
 
 /// The writers of short programs.
 const WRITERS: [Writer; 36] = [
@@ -62,6 +63,7 @@ pub fn case(random: &mut Random) -> Case {
     match random.below(40) {
         0 => random.pick(&LONG_WRITERS)(random),
         1..=7 => ranges::case(random),
+        8..=15 => passing::case(random),
         _ => random.pick(&WRITERS)(random),
     }
 }
@@ -94,7 +96,7 @@ fn full_length(random: &mut Random) -> Case {
 /// Statements nested about 16 deep, in a family, at the top or in an if.
 fn statement_depth(random: &mut Random) -> Case {
     let levels = 13 + random.below(5);
-    let tag = random.pick(&[5, 6, 32, 37, 38, 40, 41, 42, 48]);
+    let tag = random.pick(&[5, 6, 32, 37, 38, 40, 41, 42, 43, 48]);
     let innermost = match random.percent(80) {
         true => h(at(0, 0)),
         false => Field::new(tag, &[], vec![]),

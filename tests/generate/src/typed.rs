@@ -5,6 +5,7 @@
 //! unfit on purpose, so that near misses are among the programs too.
 
 mod libraries;
+mod passing;
 mod phases;
 mod slices;
 
@@ -28,6 +29,7 @@ enum Kind {
     Wire,
     Wires(Linear),
     Bits(u16),
+    Family(Signature),
 }
 
 /// What the statements being written can name.
@@ -38,11 +40,19 @@ struct Scope {
     kinds: Vec<Kind>,
 }
 
-/// A declared family: how many sizes it takes, and its parameters.
+/// A declared family, or a family's type: how many sizes it takes, and its parameters.
 #[derive(Clone)]
 pub struct Signature {
     pub sizes: usize,
-    parameters: Vec<Option<Linear>>,
+    parameters: Vec<Parameter>,
+}
+
+/// What a parameter takes: a wire, a register of a size, or a family.
+#[derive(Clone)]
+enum Parameter {
+    Wire,
+    Wires(Linear),
+    Family(Signature),
 }
 
 /// A program as a tree, with the families that it declares.
@@ -51,12 +61,22 @@ pub struct Written {
     pub families: Vec<Signature>,
 }
 
-/// Writes one program.
+/// Writes one program, at times with a near miss.
 pub fn program(random: &mut Random) -> Written {
+    written(random, true)
+}
+
+/// Writes one program without near misses.
+pub fn sound(random: &mut Random) -> Written {
+    written(random, false)
+}
+
+/// Writes one program, with or without near misses.
+fn written(random: &mut Random, near_misses: bool) -> Written {
     let mut writer = Writer {
         random,
         families: Vec::new(),
-        near_misses: true,
+        near_misses,
     };
     let fields = writer.top();
     Written {
@@ -106,6 +126,17 @@ impl Scope {
     }
 }
 
+impl Parameter {
+    /// What the parameter's number names in the body.
+    fn kind(&self) -> Kind {
+        match self {
+            Parameter::Wire => Kind::Wire,
+            Parameter::Wires(linear) => Kind::Wires(*linear),
+            Parameter::Family(formal) => Kind::Family(formal.clone()),
+        }
+    }
+}
+
 /// Families and commands.
 impl Writer<'_> {
     /// Writes the fields at the top.
@@ -126,6 +157,7 @@ impl Writer<'_> {
                 _ => self.statement(&mut scope, 1),
             });
         }
+        fields.extend(self.passing_statement(&mut scope));
         fields
     }
 
@@ -157,13 +189,28 @@ impl Writer<'_> {
 
     /// Writes a family over a few sizes.
     fn family(&mut self) -> Field {
+        let signature = match self.taking_families() {
+            Some(signature) => signature,
+            None => self.plain_signature(),
+        };
+        self.declare(signature, |writer, scope| {
+            let mut body = writer.statements(scope, 1);
+            body.extend(writer.parameter_statement(scope));
+            body
+        })
+    }
+
+    /// A few sizes, and wires and registers over them.
+    fn plain_signature(&mut self) -> Signature {
         let sizes = self.random.pick(&[0, 1, 1, 1, 1, 2, 2, 3, 4]);
         let count = self.random.pick(&[1, 1, 2, 2, 3, 4, 8]);
         let parameters = (0..count)
-            .map(|_| self.random.percent(65).then(|| self.size(sizes)))
+            .map(|_| match self.random.percent(65) {
+                true => Parameter::Wires(self.size(sizes)),
+                false => Parameter::Wire,
+            })
             .collect();
-        let body = |writer: &mut Self, scope: &mut Scope| writer.statements(scope, 1);
-        self.declare(Signature { sizes, parameters }, body)
+        Signature { sizes, parameters }
     }
 
     /// Writes a family with a body that may name its parameters and sizes.
@@ -173,15 +220,8 @@ impl Writer<'_> {
         body: fn(&mut Self, &mut Scope) -> Vec<Field>,
     ) -> Field {
         let sizes = signature.sizes;
-        let types = signature.parameters.iter().map(|size| match size {
-            None => qbit(),
-            Some(linear) => qbits(linear.render(self.random)),
-        });
-        let types = types.collect();
-        let kinds = signature.parameters.iter().map(|size| match size {
-            None => Kind::Wire,
-            Some(linear) => Kind::Wires(*linear),
-        });
+        let types = self.types(&signature);
+        let kinds = signature.parameters.iter().map(Parameter::kind);
         let mut scope = Scope {
             sizes,
             loops: Vec::new(),
@@ -190,6 +230,16 @@ impl Writer<'_> {
         let body = body(self, &mut scope);
         self.families.push(signature);
         family(sizes as u8, types, body)
+    }
+
+    /// Writes the types of a signature's parameters.
+    fn types(&mut self, signature: &Signature) -> Vec<Field> {
+        let written = |parameter: &Parameter| match parameter {
+            Parameter::Wire => qbit(),
+            Parameter::Wires(linear) => qbits(linear.render(self.random)),
+            Parameter::Family(formal) => family_type(formal.sizes as u8, self.types(formal)),
+        };
+        signature.parameters.iter().map(written).collect()
     }
 
     /// The size of a parameter, over the family's variables.
@@ -236,6 +286,9 @@ impl Writer<'_> {
 
     /// Writes a gate or a call, where the scope has what it takes.
     fn simple(&mut self, scope: &Scope) -> Option<Field> {
+        if let Some(written) = self.parameter_call(scope) {
+            return Some(written);
+        }
         if self.random.percent(40) && !self.families.is_empty() {
             if let Some(written) = self.call(scope) {
                 return Some(written);
@@ -324,7 +377,7 @@ impl Writer<'_> {
                         return Some((number, Part::Element(index)));
                     }
                 }
-                Kind::Bits(_) => {}
+                Kind::Bits(_) | Kind::Family(_) => {}
             }
         }
         None
@@ -386,20 +439,39 @@ impl Writer<'_> {
     /// Writes a call of an earlier family, if arguments are found.
     fn call(&mut self, scope: &Scope) -> Option<Field> {
         let number = self.called();
+        self.call_of(number, scope)
+    }
+
+    /// Writes a call of the family with a number, if arguments are found.
+    fn call_of(&mut self, number: usize, scope: &Scope) -> Option<Field> {
         let called = self.families[number].clone();
+        let (sizes, operands) = self.handed(scope, &called, number)?;
+        Some(call(number as u16, sizes, operands))
+    }
+
+    /// The sizes and operands of a call of a family with a number, if they are found.
+    fn handed(
+        &mut self,
+        scope: &Scope,
+        called: &Signature,
+        number: usize,
+    ) -> Option<(Vec<Field>, Vec<Field>)> {
         for attempt in 0..LOOKS {
             let forms = self.call_sizes(scope, called.sizes, attempt);
-            if let Some(operands) = self.arguments(scope, &called, &forms) {
+            if let Some(operands) = self.arguments(scope, called, number, &forms) {
                 let sizes = forms.iter().map(|form| form.render(self.random));
-                return Some(call(number as u16, sizes.collect(), operands));
+                return Some((sizes.collect(), operands));
             }
         }
         None
     }
 
-    /// The number of a family to call: where there are many, often one about the
-    /// first that takes two bytes, or one of the last.
+    /// The number of a family to call: often one to which families are passed; where there are
+    /// many, often one about the first that takes two bytes, or one of the last.
     fn called(&mut self) -> usize {
+        if let Some(number) = self.taking() {
+            return number;
+        }
         let last = self.families.len() - 1;
         match self.random.below(if last < 256 { 1 } else { 4 }) {
             1 => last.min(252 + self.random.below(8)),
@@ -428,22 +500,30 @@ impl Writer<'_> {
         }
     }
 
-    /// Arguments for a call with these sizes, mostly on different wires.
+    /// Arguments for a call with these sizes of the family with a number: wires that are
+    /// mostly different, and families declared before it.
     fn arguments(
         &mut self,
         scope: &Scope,
         called: &Signature,
+        number: usize,
         forms: &[Linear],
     ) -> Option<Vec<Field>> {
         let mut taken = Vec::new();
+        let mut operands = Vec::new();
         for parameter in &called.parameters {
             let chosen = match parameter {
-                None => self.fresh_wire(scope, &taken)?,
-                Some(size) => self.fresh_wires(scope, &size.put_in(forms), &taken)?,
+                Parameter::Wire => self.fresh_wire(scope, &taken)?,
+                Parameter::Wires(size) => self.fresh_wires(scope, &size.put_in(forms), &taken)?,
+                Parameter::Family(formal) => {
+                    operands.push(passed(self.passed(formal, number)?));
+                    continue;
+                }
             };
+            operands.push(self.chosen(chosen));
             taken.push(chosen);
         }
-        Some(taken.iter().map(|&chosen| self.chosen(chosen)).collect())
+        Some(operands)
     }
 
     /// A wire that is no part of what is taken, or else any wire.

@@ -1,6 +1,6 @@
 //! The large libraries are what they are meant to be, by the reference.
 
-use generate::build::{families, program, Field, MOST_BYTES, MOST_FAMILIES};
+use generate::build::{families, length, program, Field, MOST_BYTES, MOST_FAMILIES};
 use generate::libraries::{damaged, sound};
 use generate::shapes::SHAPES;
 use generate::{library, Case};
@@ -65,8 +65,9 @@ fn every_shape_is_accepted_and_no_family_more_would_fit() {
         let indexes = program(&shape.deepest_indexes());
         assert_eq!(reference::check(&bytes).number, 0, "{}", shape.name);
         assert_eq!(reference::check(&indexes).number, 0, "{}", shape.name);
-        let most = fields[declared].size();
-        let full = bytes.len() + most > MOST_BYTES || declared == MOST_FAMILIES;
+        let more = shape.at_a_time();
+        let most = length(&fields[declared + 1 - more..=declared]);
+        let full = bytes.len() + most > MOST_BYTES || declared + more > MOST_FAMILIES;
         assert!(bytes.len() <= MOST_BYTES && full, "{}", shape.name);
     }
 }

@@ -3,6 +3,7 @@
 mod controlled;
 mod fourier;
 mod multiplier;
+mod passing;
 
 pub use controlled::{
     adds_under_control, ctrladd_adds_under_control, ctrladd_as_printed_adds_two_cells_only,
@@ -16,6 +17,11 @@ pub use multiplier::{
     fourier_by_slices_is_the_same, multiplier_and_back_is_no_change,
     multiplier_as_printed_loses_carries, multiplier_multiplies, multiplier_run_gives_nine,
     multiplies,
+};
+pub use passing::{
+    multiplier_of_and_back_is_no_change, multiplier_of_both_adders_is_the_same,
+    multiplier_of_multiplies, multiplier_of_run_gives_nine_twice, passed_adder_lists_as_called,
+    passed_adders_add_under_control,
 };
 
 use crate::{branches, play, records, Branch, Calls, Complex, Outcome, Record, State};
@@ -39,6 +45,8 @@ const LIBRARY: &str = include_str!("../../../examples/library.mq");
 const QFT: &str = include_str!("../../../examples/qft.mq");
 /// The multiplier's text.
 pub const MULTIPLIER: &str = include_str!("../../../examples/multiplier.mq");
+/// The text of the multiplier that takes its adder as an argument.
+pub const MULTIPLIER_OF: &str = include_str!("../../../examples/multiplier-of.mq");
 
 /// What a check answers: nothing, or what went wrong.
 pub type Answer = Result<(), String>;
@@ -47,7 +55,7 @@ pub type Answer = Result<(), String>;
 pub type Check = fn(&Calls) -> Answer;
 
 /// Every check by its name.
-pub const ALL: [(&str, Check); 23] = [
+pub const ALL: [(&str, Check); 29] = [
     ("bell_pair_agrees", bell_pair_agrees),
     ("coin_is_put_back", coin_is_put_back),
     ("teleport_moves_the_state", teleport_moves_the_state),
@@ -87,6 +95,24 @@ pub const ALL: [(&str, Check); 23] = [
         "fourier_by_slices_is_the_same",
         fourier_by_slices_is_the_same,
     ),
+    (
+        "passed_adders_add_under_control",
+        passed_adders_add_under_control,
+    ),
+    ("multiplier_of_multiplies", multiplier_of_multiplies),
+    (
+        "multiplier_of_both_adders_is_the_same",
+        multiplier_of_both_adders_is_the_same,
+    ),
+    (
+        "multiplier_of_and_back_is_no_change",
+        multiplier_of_and_back_is_no_change,
+    ),
+    (
+        "multiplier_of_run_gives_nine_twice",
+        multiplier_of_run_gives_nine_twice,
+    ),
+    ("passed_adder_lists_as_called", passed_adder_lists_as_called),
     ("reversed_lists_are_mirrored", reversed_lists_are_mirrored),
     ("lists_of_both_calls_agree", lists_of_both_calls_agree),
 ];
@@ -327,6 +353,8 @@ pub fn reversed_lists_are_mirrored(calls: &Calls) -> Answer {
         (QFT, "qft", "unqft"),
         (QFT, "add", "sub"),
         (MULTIPLIER, "mult", "unmult"),
+        (MULTIPLIER_OF, "mult_ripple", "unmult_ripple"),
+        (MULTIPLIER_OF, "mult_fourier", "unmult_fourier"),
     ];
     for (text, forward, backward) in pairs {
         for n in 0..12 {

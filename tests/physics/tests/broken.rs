@@ -1,5 +1,5 @@
-//! The checks notice unrollers that are wrong in ways that look finished,
-//! multipliers with wrong slices, and controlled adders with wrong loops around them.
+//! The checks notice unrollers that are wrong in ways that look finished, multipliers with wrong
+//! slices or a wrong adder passed, and controlled adders with wrong loops around them.
 
 use physics::{checks, Calls, Outcome, REFERENCE};
 use reference::RECORD_BYTES;
@@ -79,6 +79,26 @@ const UNCONDITIONAL: Calls = Calls {
     },
 };
 
+/// The program with its family 3 passed wherever another one is.
+fn passing_family_3(program: &[u8]) -> Vec<u8> {
+    let mut changed = program.to_vec();
+    for at in 0..program.len().saturating_sub(4) {
+        if program[at..at + 3] == [51, 2, 0] {
+            changed[at + 3..at + 5].copy_from_slice(&[3, 0]);
+        }
+    }
+    changed
+}
+
+/// The reference, but one and the same family stands for every one that is passed.
+const ALWAYS_FAMILY_3: Calls = Calls {
+    instance: |program, family, sizes, limit, output| {
+        let changed = passing_family_3(program);
+        (REFERENCE.instance)(&changed, family, sizes, limit, output)
+    },
+    run: REFERENCE.run,
+};
+
 /// Nothing is ever written.
 const SILENT: Calls = Calls {
     instance: |_, _, _, _, _| NOTHING,
@@ -125,6 +145,7 @@ fn tdg_written_as_t_is_noticed() {
     assert!(failed.contains(&"ctrladd_guarded_adds_from_two_cells_on"));
     assert!(failed.contains(&"there_and_back_is_no_change"));
     assert!(failed.contains(&"reversed_lists_are_mirrored"));
+    assert!(PASSED.iter().all(|name| failed.contains(name)));
 }
 
 /// The checks of the Fourier transform's families.
@@ -140,24 +161,39 @@ const MULTIPLIER: [&str; 2] = [
     "multiplier_as_printed_loses_carries",
 ];
 
+/// The checks of what the adders and multipliers with passed families give.
+const PASSED: [&str; 3] = [
+    "passed_adders_add_under_control",
+    "multiplier_of_multiplies",
+    "multiplier_of_both_adders_is_the_same",
+];
+
 #[test]
 fn inverse_phases_that_are_not_exchanged_are_noticed() {
     let mirrored = ["reversed_lists_are_mirrored"];
-    let due = [&FOURIER[1..], &MULTIPLIER, &mirrored].concat();
+    let due = [&FOURIER[1..], &MULTIPLIER, &PASSED, &mirrored].concat();
     assert_eq!(failing(&NO_INVERSE_PHASES), due);
 }
 
 #[test]
 fn a_k_that_is_one_off_is_noticed() {
-    let due = [&[FOURIER[0], FOURIER[2]], &MULTIPLIER[..]].concat();
+    let fourier = [FOURIER[0], FOURIER[2]];
+    let due = [&fourier, &MULTIPLIER[..], &PASSED].concat();
     assert_eq!(failing(&LARGER_K), due);
-    assert_eq!(failing(&SMALLER_K), due[..3]);
+    let due = [&fourier, &MULTIPLIER[..1], &PASSED].concat();
+    assert_eq!(failing(&SMALLER_K), due);
 }
 
 #[test]
 fn a_phase_on_another_pair_of_wires_is_noticed() {
-    let due = [&[FOURIER[0], FOURIER[2]], &MULTIPLIER[..]].concat();
+    let due = [&[FOURIER[0], FOURIER[2]], &MULTIPLIER[..], &PASSED].concat();
     assert_eq!(failing(&OTHER_PAIR), due);
+}
+
+#[test]
+fn another_family_than_the_passed_one_is_noticed() {
+    let due = ["passed_adder_lists_as_called"];
+    assert_eq!(failing(&ALWAYS_FAMILY_3), due);
 }
 
 #[test]
@@ -184,6 +220,11 @@ fn a_missing_record_is_noticed() {
         "multiplier_multiplies",
         "multiplier_and_back_is_no_change",
         "multiplier_run_gives_nine",
+        "passed_adders_add_under_control",
+        "multiplier_of_multiplies",
+        "multiplier_of_both_adders_is_the_same",
+        "multiplier_of_and_back_is_no_change",
+        "multiplier_of_run_gives_nine_twice",
     ] {
         assert!(failed.contains(&name), "{name}");
     }
@@ -221,6 +262,31 @@ fn wrong_slices_are_noticed() {
     wrong_slice("(n, 1)(x[i], y, z[i..i+n])", "(n, 0)(x[i], y, z[i+1..i+n])");
     wrong_slice("(n, 1)(x[i], y, z[i..i+n])", "(n, 0)(x[i], y, z[i..i+n-1])");
     checks::multiplies(&REFERENCE, checks::MULTIPLIER, "mult", 2).unwrap();
+}
+
+/// Shows that the multiplier that takes its adder, with one text put for another, is accepted, and
+/// whether it multiplies two bits by two with each of both adders.
+fn with_adders(right: &str, put: &str, multiplies: [bool; 2]) {
+    assert!(checks::MULTIPLIER_OF.contains(right), "{right}");
+    let nothing = "family(n) nothing(ctrl: Qbit, a: Qbit[n], b: Qbit[n+1], c: Qbit) {}";
+    let text = format!("{nothing}{}", checks::MULTIPLIER_OF.replace(right, put));
+    let bytes = programs::assemble(&text).unwrap().bytes;
+    assert_eq!(reference::check(&bytes).number, 0, "{put}");
+    let found = ["mult_ripple", "mult_fourier"]
+        .map(|family| checks::multiplies(&REFERENCE, &text, family, 2).is_ok());
+    assert_eq!(found, multiplies, "{put}");
+}
+
+#[test]
+fn wrong_adders_are_noticed() {
+    with_adders("anc, ripple_add", "anc, ripple_add", [true, true]);
+    with_adders("anc, ripple_add", "anc, fourier_add", [true, true]);
+    with_adders("anc, ripple_add", "anc, nothing", [false, true]);
+    with_adders("anc, fourier_add", "anc, nothing", [true, false]);
+    with_adders("toffoli(a[n-1], ctrl, b[n]);", "", [false, true]);
+    with_adders("a[j], b[i]", "a[j], b[n-i+j]", [true, false]);
+    with_adders("z[i..i+n], anc", "z[n-1-i..2*n-1-i], anc", [false, false]);
+    with_adders("ctrladd(n)(x[i]", "ctrladd(0)(x[i]", [false, false]);
 }
 
 /// Shows that a controlled adder with one loop put for another is accepted, and whether it adds on

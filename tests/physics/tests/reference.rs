@@ -35,6 +35,12 @@ with_the_reference! {
     multiplier_as_printed_loses_carries
     multiplier_run_gives_nine
     fourier_by_slices_is_the_same
+    passed_adders_add_under_control
+    multiplier_of_multiplies
+    multiplier_of_both_adders_is_the_same
+    multiplier_of_and_back_is_no_change
+    multiplier_of_run_gives_nine_twice
+    passed_adder_lists_as_called
     reversed_lists_are_mirrored
     lists_of_both_calls_agree
 }

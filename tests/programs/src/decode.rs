@@ -27,6 +27,7 @@ enum Class {
     Top,
     Statement,
     Type,
+    PlainType,
     Operand,
     Index,
     Argument,
@@ -38,7 +39,8 @@ impl Class {
         match self {
             Class::Top => tags::at_top_only(tag) || tags::is_statement(tag),
             Class::Statement => tags::is_statement(tag),
-            Class::Type => matches!(tag, tags::QBIT | tags::QBITS),
+            Class::Type => Class::PlainType.allows(tag) || tag == tags::FAMILY_TYPE,
+            Class::PlainType => matches!(tag, tags::QBIT | tags::QBITS),
             Class::Operand => tags::is_operand(tag),
             Class::Index => tags::is_index(tag),
             Class::Argument => Class::Operand.allows(tag) || Class::Index.allows(tag),
@@ -50,6 +52,7 @@ impl Class {
             Class::Top => "a declaration or statement",
             Class::Statement => "a statement",
             Class::Type => "a type",
+            Class::PlainType => "a type Qbit or Qbit[..]",
             Class::Operand => "an operand",
             Class::Index => "an index",
             Class::Argument => "an index or operand",
@@ -86,8 +89,9 @@ fn refuse<T>(place: usize, message: impl Into<String>) -> Result<T, ByteError> {
 /// How many own bytes a field has.
 fn head_length(tag: u8) -> usize {
     match tag {
-        tags::FAMILY | tags::QREG | tags::CREG | tags::LONG_CALL | tags::LITERAL => 2,
-        tags::IF | tags::CALL | tags::VARIABLE => 1,
+        tags::FAMILY | tags::FAMILY_TYPE | tags::QREG | tags::CREG => 2,
+        tags::LONG_CALL | tags::PASSED | tags::LITERAL => 2,
+        tags::IF | tags::CALL | tags::PARAMETER_CALL | tags::VARIABLE => 1,
         tags::WHOLE | tags::ELEMENT | tags::SLICE => 1,
         _ => 0,
     }
@@ -100,6 +104,7 @@ fn parts_due(tag: u8, head: &[u8]) -> (Vec<Class>, Option<Class>) {
             vec![Class::Type; usize::from(head[1])],
             Some(Class::Statement),
         ),
+        tags::FAMILY_TYPE => (vec![Class::PlainType; usize::from(head[1])], None),
         tags::QBITS | tags::ELEMENT => (vec![Class::Index], None),
         tags::SLICE => (vec![Class::Index; 2], None),
         tags::SUM | tags::DIFFERENCE | tags::PRODUCT => (vec![Class::Index; 2], None),
@@ -108,7 +113,7 @@ fn parts_due(tag: u8, head: &[u8]) -> (Vec<Class>, Option<Class>) {
         tags::PHASE => (vec![Class::Index, Class::Operand], None),
         tags::CPHASE => (vec![Class::Index, Class::Operand, Class::Operand], None),
         tags::IF => (vec![Class::Operand], Some(Class::Statement)),
-        tags::CALL | tags::LONG_CALL => (Vec::new(), Some(Class::Argument)),
+        tag if tags::is_call(tag) => (Vec::new(), Some(Class::Argument)),
         tags::REVERSE => (Vec::new(), Some(Class::Statement)),
         tags::FOR => (vec![Class::Index; 2], Some(Class::Statement)),
         _ => (Vec::new(), None),

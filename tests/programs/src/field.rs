@@ -12,6 +12,7 @@ pub mod tags {
     pub const IF: u8 = 6;
     pub const QBIT: u8 = 16;
     pub const QBITS: u8 = 17;
+    pub const FAMILY_TYPE: u8 = 18;
     pub const H: u8 = 32;
     pub const T: u8 = 33;
     pub const TDG: u8 = 34;
@@ -22,9 +23,11 @@ pub mod tags {
     pub const LONG_CALL: u8 = 39;
     pub const PHASE: u8 = 40;
     pub const CPHASE: u8 = 41;
+    pub const PARAMETER_CALL: u8 = 42;
     pub const WHOLE: u8 = 48;
     pub const ELEMENT: u8 = 49;
     pub const SLICE: u8 = 50;
+    pub const PASSED: u8 = 51;
     pub const LITERAL: u8 = 64;
     pub const VARIABLE: u8 = 65;
     pub const SUM: u8 = 66;
@@ -44,7 +47,7 @@ pub mod tags {
             T => "t",
             TDG => "tdg",
             CX => "cx",
-            CALL | LONG_CALL => "call",
+            CALL | LONG_CALL | PARAMETER_CALL => "call",
             REVERSE => "reverse",
             FOR => "for",
             PHASE => "phase",
@@ -55,12 +58,12 @@ pub mod tags {
 
     /// Whether a field with this tag is a call.
     pub fn is_call(tag: u8) -> bool {
-        matches!(tag, CALL | LONG_CALL)
+        matches!(tag, CALL | LONG_CALL | PARAMETER_CALL)
     }
 
     /// Whether a field with this tag is a statement that may stand anywhere.
     pub fn is_statement(tag: u8) -> bool {
-        (H..=CPHASE).contains(&tag)
+        (H..=PARAMETER_CALL).contains(&tag)
     }
 
     /// Whether a field with this tag is an index.
@@ -70,7 +73,7 @@ pub mod tags {
 
     /// Whether a field with this tag is an operand.
     pub fn is_operand(tag: u8) -> bool {
-        (WHOLE..=SLICE).contains(&tag)
+        (WHOLE..=PASSED).contains(&tag)
     }
 
     /// Whether a field with this tag stands at the top only.
@@ -95,8 +98,9 @@ pub struct Field {
     pub spot: Spot,
     /// How many fields lie in each other, this one counting 1.
     pub depth: usize,
-    /// The names that the text gives: a register's or a loop variable's one, or
-    /// a family's own and then its index variables' and parameters'.
+    /// The names that the text gives: a register's or a loop variable's one, a
+    /// family's own and then its index variables' and parameters', or, for a
+    /// family type, the parameter's and then the type's index variables'.
     pub names: Vec<String>,
 }
 
@@ -114,9 +118,14 @@ impl Field {
         }
     }
 
-    /// Whether it is a call, by a number of one byte or of two.
+    /// Whether it is a call: of a family, by a number of one byte or of two, or of a parameter.
     pub fn is_call(&self) -> bool {
         self.tag.is_some_and(tags::is_call)
+    }
+
+    /// Whether it is the type of a parameter that takes a family.
+    pub fn is_family_type(&self) -> bool {
+        self.tag == Some(tags::FAMILY_TYPE)
     }
 
     /// The operands among the fields inside it.

@@ -1,7 +1,7 @@
 //! Fields to text, with invented names where the fields have none.
 
 use crate::field::{tags, Field};
-use crate::scope::{called_number, own_variables, parameter_count, parameter_name};
+use crate::scope::{own_variables, parameter_count, parameter_name};
 use crate::scope::{two_bytes, variable_name, Scope};
 
 /// Writes a program as text.
@@ -44,7 +44,7 @@ impl<'a> Printer<'a> {
             tags::CX => self.operands("cx ", ", ", field),
             tags::PHASE => self.phase("phase", field),
             tags::CPHASE => self.phase("cphase", field),
-            tags::CALL | tags::LONG_CALL => self.call(field),
+            tag if tags::is_call(tag) => self.call(field),
             tags::IF => {
                 let bit = self.scope.operand(&field.parts[0]);
                 self.line(&format!("if ({bit} == {})", field.head[0]));
@@ -118,7 +118,7 @@ impl<'a> Printer<'a> {
         let (indexes, operands): (Vec<_>, Vec<_>) = field.parts.iter().partition(is_index);
         let name = match low_by_two(field) {
             Some(number) => format!("##{number}"),
-            None => self.scope.family(called_number(field)),
+            None => self.scope.called_name(field),
         };
         let sizes = match indexes.is_empty() {
             true => String::new(),

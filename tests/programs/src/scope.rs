@@ -2,9 +2,11 @@
 //!
 //! Names are those of the text. Where there is no text they are invented:
 //! families `f0`, parameters `x0`, index variables `n0` (a family's own) and
-//! `i1` (loops), registers `q0` and `c1`. A number out of scope is `#3`.
+//! `i1` (loops), registers `q0` and `c1`. A number out of scope is `#3`; that of a
+//! family that is passed is `##3`, and that of a parameter that is called `###3`.
 
 use crate::field::{tags, Field};
+use crate::print::join;
 
 /// The declarations in scope and what is open around a place.
 #[derive(Clone, Default)]
@@ -19,6 +21,14 @@ pub struct Scope<'a> {
 
 /// Reading a program in order.
 impl<'a> Scope<'a> {
+    /// What the sizes of a family type can name: its own index variables.
+    pub fn of_type(family_type: &'a Field) -> Self {
+        Scope {
+            inside: Some(family_type),
+            ..Scope::default()
+        }
+    }
+
     /// Opens a family or loop; other fields open nothing.
     pub fn enter(&mut self, field: &'a Field) {
         match field.tag {
@@ -47,17 +57,23 @@ impl<'a> Scope<'a> {
     }
 }
 
-/// How many index variables a family declares.
+/// How many index variables a family or a family type declares.
 pub fn own_variables(family: &Field) -> usize {
     usize::from(family.head[0])
 }
 
-/// How many parameters a family declares.
+/// How many parameters a family or a family type declares.
 pub fn parameter_count(family: &Field) -> usize {
     usize::from(family.head[1])
 }
 
-/// The name of one of a family's index variables.
+/// The types of the parameters that a family or a family type declares.
+pub fn parameter_types(family: &Field) -> &[Field] {
+    let count = parameter_count(family).min(family.parts.len());
+    &family.parts[..count]
+}
+
+/// The name of one of the index variables of a family or a family type.
 pub fn variable_name(family: &Field, number: usize) -> String {
     given(family, 1 + number).unwrap_or(format!("n{number}"))
 }
@@ -77,7 +93,7 @@ pub fn two_bytes(field: &Field) -> u16 {
     u16::from_le_bytes([field.head[0], field.head[1]])
 }
 
-/// The number of the family that a call names, by one byte or by two.
+/// The number of the family or parameter that a call names, by one byte or by two.
 pub fn called_number(call: &Field) -> usize {
     match call.tag {
         Some(tags::LONG_CALL) => usize::from(two_bytes(call)),
@@ -96,7 +112,7 @@ pub fn counted(count: usize, word: &str) -> String {
 }
 
 /// Names by number.
-impl Scope<'_> {
+impl<'a> Scope<'a> {
     /// How many index variables are in scope.
     pub fn variables(&self) -> usize {
         self.inside.map_or(0, own_variables) + self.loops.len()
@@ -130,6 +146,33 @@ impl Scope<'_> {
         }
     }
 
+    /// The family that a call calls, or the type of the parameter that it calls.
+    pub fn called(&self, call: &Field) -> Option<&'a Field> {
+        let number = called_number(call);
+        match call.tag {
+            Some(tags::PARAMETER_CALL) => self.family_parameter(number),
+            _ => self.families.get(number).copied(),
+        }
+    }
+
+    /// The name of what a call calls.
+    pub fn called_name(&self, call: &Field) -> String {
+        let number = called_number(call);
+        match call.tag {
+            Some(tags::PARAMETER_CALL) => match self.family_parameter(number) {
+                Some(_) => self.operand_name(number),
+                None => format!("###{number}"),
+            },
+            _ => self.family(number),
+        }
+    }
+
+    /// The type of the parameter of a number, where it takes a family.
+    fn family_parameter(&self, number: usize) -> Option<&'a Field> {
+        let found = parameter_types(self.inside?).get(number)?;
+        found.is_family_type().then_some(found)
+    }
+
     /// The name of an operand, without its index.
     pub fn operand_name(&self, number: usize) -> String {
         match self.inside {
@@ -144,11 +187,22 @@ impl Scope<'_> {
 impl Scope<'_> {
     /// The text of an operand.
     pub fn operand(&self, field: &Field) -> String {
+        if field.tag == Some(tags::PASSED) {
+            return self.passed(usize::from(two_bytes(field)));
+        }
         let name = self.operand_name(usize::from(field.head[0]));
         match &field.parts[..] {
             [] => name,
             [index] => format!("{name}[{}]", self.index(index)),
             [first, last, ..] => format!("{name}[{}..{}]", self.index(first), self.index(last)),
+        }
+    }
+
+    /// The text of a family that is passed.
+    fn passed(&self, number: usize) -> String {
+        match number < self.families.len() {
+            true => self.family(number),
+            false => format!("##{number}"),
         }
     }
 
@@ -176,9 +230,22 @@ impl Scope<'_> {
 
     /// The text of a parameter's type.
     pub fn parameter_type(&self, field: &Field) -> String {
+        if field.is_family_type() {
+            return family_type(field);
+        }
         match field.parts.first() {
             None => "Qbit".to_string(),
             Some(size) => format!("Qbit[{}]", self.index(size)),
         }
     }
+}
+
+/// The text of a family type, or of the type of a family, as `family(n)(Qbit, Qbit[n])`.
+pub fn family_type(family: &Field) -> String {
+    let scope = Scope::of_type(family);
+    let variables = join(0..own_variables(family), |number| {
+        variable_name(family, number)
+    });
+    let types = join(parameter_types(family), |one| scope.parameter_type(one));
+    format!("family({variables})({types})")
 }

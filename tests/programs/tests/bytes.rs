@@ -217,6 +217,82 @@ fn slices_have_indexes_at_both_ends() {
 }
 
 #[test]
+fn family_types() {
+    gives(
+        "gate g(f: family()(Qbit)) {}",
+        "01 0a 00 00 01 12 05 00 00 01 10 00 00",
+    );
+    let bytes = "01 27 00 01 02 12 1b 00 02 03 11 04 00 41 01 00 00 10 00 00 \
+         11 0c 00 42 09 00 41 01 00 01 40 02 00 01 00 11 04 00 41 01 00 00";
+    gives(
+        "family(n) g(f: family(m, k)(Qbit[m], Qbit, Qbit[k+1]), x: Qbit[n]) {}",
+        bytes,
+    );
+    gives(
+        "family(m) g(f: family(k, m)(Qbit[k], Qbit, Qbit[m+1]), x: Qbit[m]) {}",
+        bytes,
+    );
+}
+
+#[test]
+fn passed_families_and_parameter_calls() {
+    let turn = "01 05 00 00 01 10 00 00";
+    let twice = "01 1d 00 00 02 12 05 00 00 01 10 00 00 10 00 00 \
+         2a 05 00 00 30 01 00 01 2a 05 00 00 30 01 00 01";
+    gives(
+        "gate turn(a: Qbit) {} gate twice(f: family()(Qbit), a: Qbit) { f(a); f(a); } \
+         qreg q[1]; twice(turn, q[0]);",
+        &format!(
+            "{turn} {twice} 02 02 00 01 00 24 0f 00 01 33 02 00 00 00 31 06 00 00 40 02 00 00 00"
+        ),
+    );
+    gives(
+        "family(n) with(x: Qbit[n], f: family(m)(Qbit[m])) { f(n-1)(x[1..n-1]); }",
+        "01 3a 00 01 02 11 04 00 41 01 00 00 12 09 00 01 01 11 04 00 41 01 00 00 \
+         2a 22 00 01 43 09 00 41 01 00 00 40 02 00 01 00 \
+         32 12 00 00 40 02 00 01 00 43 09 00 41 01 00 00 40 02 00 01 00",
+    );
+}
+
+#[test]
+fn families_from_256_on_are_passed_by_the_same_tag() {
+    let gates = (0..257).map(|number| format!("gate f{number}(a: Qbit) {{}}\n"));
+    let before: String = gates.collect();
+    let bytes = "01 05 00 00 01 10 00 00 ".repeat(257);
+    gives(
+        &format!("{before} gate g(f: family()(Qbit)) {{}} g(f0); g(f255); g(f256);"),
+        &format!(
+            "{bytes} 01 0a 00 00 01 12 05 00 00 01 10 00 00 27 07 00 01 01 33 02 00 00 00 \
+             27 07 00 01 01 33 02 00 ff 00 27 07 00 01 01 33 02 00 00 01"
+        ),
+    );
+}
+
+#[test]
+fn parameters_and_registers_come_before_families() {
+    let f = "01 05 00 00 01 10 00 00";
+    let typed = "12 05 00 00 01 10 00 00";
+    gives(
+        "gate f(a: Qbit) {} gate g(f: family()(Qbit)) { f(f); } gate h1(a: Qbit) { f(f); }",
+        &format!(
+            "{f} 01 12 00 00 01 {typed} 2a 05 00 00 30 01 00 00 \
+             01 0e 00 00 01 10 00 00 24 06 00 00 33 02 00 00 00"
+        ),
+    );
+    gives(
+        "gate f(a: Qbit) {} gate g(f: Qbit) { f(f); } qreg f[1]; f(f); h f;",
+        &format!(
+            "{f} 01 0d 00 00 01 10 00 00 24 05 00 00 30 01 00 00 02 02 00 01 00 \
+             24 05 00 00 30 01 00 00 20 04 00 30 01 00 00"
+        ),
+    );
+    gives(
+        "gate n(a: Qbit) {} family(n) g(f: family()(Qbit)) { h n; }",
+        &format!("{f} 01 12 00 01 01 {typed} 20 05 00 33 02 00 00 00"),
+    );
+}
+
+#[test]
 fn families_from_256_on_are_called_by_two_bytes() {
     let gates = (0..299).map(|number| format!("gate f{number}(a: Qbit) {{}}\n"));
     let before: String = gates.collect();
@@ -242,6 +318,17 @@ fn what_the_checker_refuses_can_be_written() {
     gives("#255(); #256();", "24 01 00 ff 27 02 00 00 01");
     gives("##3(1)(#0);", "27 0b 00 03 00 40 02 00 01 00 30 01 00 00");
     gives("##255(); ##65535();", "27 02 00 ff 00 27 02 00 ff ff");
+    gives("###3(1)(#0);", "2a 0a 00 03 40 02 00 01 00 30 01 00 00");
+    gives("###0(); ###255();", "2a 01 00 00 2a 01 00 ff");
+    gives(
+        "h ##300; #0(##65535, # #3);",
+        "20 05 00 33 02 00 2c 01 24 0b 00 00 33 02 00 ff ff 33 02 00 03 00",
+    );
+    gives("gate g(f: family(n)()) {}", "01 07 00 00 01 12 02 00 01 00");
+    gives(
+        "gate g(f: family()(Qbit[#9])) {}",
+        "01 0e 00 00 01 12 09 00 00 01 11 04 00 41 01 00 09",
+    );
     gives(
         "creg c[1]; if (c == 200) {}",
         "03 02 00 01 00 06 05 00 c8 30 01 00 00",

@@ -27,7 +27,7 @@ fn the_examples_drawings() {
         gives(&words, "", 0, drawing, "");
         count += 1;
     }
-    assert!(count >= 6);
+    assert!(count >= 9);
 }
 
 #[test]
@@ -204,7 +204,9 @@ fn every_examples_list_draws_as_its_program_does() {
             .filter(|line: &String| !line.is_empty())
             .collect()
     };
-    for name in ["bell", "teleport", "coin", "toffoli", "ctrladd", "qft"] {
+    for name in [
+        "bell", "teleport", "coin", "toffoli", "ctrladd", "qft", "passing",
+    ] {
         let program = wrote(&tool(
             &["draw", &format!("{name}.mq"), "--width=10000"],
             b"",
@@ -330,6 +332,9 @@ fn refused_programs_have_no_drawing() {
     assert_eq!(found.status.code(), Some(1));
     let found = tool(&["draw", "-"], b"qreg q[1]; ##0(q[0]);");
     assert_eq!(wrote(&found), "end 31 5 0 0\n");
+    assert_eq!(found.status.code(), Some(1));
+    let found = tool(&["draw", "pass-itself.mq"], b"");
+    assert_eq!(wrote(&found), "end 33 41 0 0\n");
     assert_eq!(found.status.code(), Some(1));
     for (program, end) in [
         ("cx-one-wire.mq", "q[0] ───\nend 25 5 0 1\n"),

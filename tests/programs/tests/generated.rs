@@ -33,7 +33,7 @@ fn number(output: &str) -> u32 {
 
 #[test]
 fn checks_say_why() {
-    let (mut shown, mut low) = (0, 0);
+    let (mut shown, mut low, mut late) = (0, 0, 0);
     for seed in 0..6000 {
         let case = case(seed);
         let (code, output, messages) = tool(&["check", "--bytes", "-"], &case.program);
@@ -51,8 +51,12 @@ fn checks_say_why() {
             assert!(messages.contains(" by one byte"), "{seed}: {messages}");
             low += 1;
         }
+        if number == 33 && programs::disassemble(&case.program).is_ok() {
+            assert!(messages.contains("\n  'f"), "{seed}: {messages}");
+            late += 1;
+        }
     }
-    assert!(shown > 100 && low > 5, "{shown}, {low}");
+    assert!(shown > 100 && low > 1 && late > 5, "{shown}, {low}, {late}");
 }
 
 #[test]
@@ -246,4 +250,47 @@ fn slices_are_explained() {
         }
     }
     assert!(found.iter().all(|count| *count > 3), "{found:?}");
+}
+
+/// What is said of families that are passed, and of parameters that take them.
+const OF_PASSING: [&str; 8] = [
+    " is a family\n",
+    " is a family parameter",
+    " sizes, operands and their kinds must agree",
+    ", which takes a family itself ",
+    "this call takes a parameter of a family type",
+    " cells for ",
+    " in the type of parameter ",
+    " is declared after ",
+];
+
+#[test]
+fn passing_is_explained() {
+    let mut found = [0; OF_PASSING.len()];
+    for seed in 0..12_000 {
+        let (_, output, messages) = tool(&["check", "--bytes", "-"], &case(seed).program);
+        if matches!(number(&output), 9 | 12 | 33) {
+            for (count, words) in found.iter_mut().zip(OF_PASSING) {
+                *count += usize::from(messages.contains(words));
+            }
+        }
+    }
+    assert!(found.iter().all(|count| *count > 3), "{found:?}");
+}
+
+#[test]
+fn instances_that_nothing_is_passed_to_are_explained() {
+    let mut found = 0;
+    for seed in 0..6000 {
+        let case = case(seed);
+        let family = format!("--family={}", case.family);
+        let words = ["list", "--bytes", "-", &family, "--limit=10"];
+        let (_, list, messages) = tool(&words, &case.program);
+        if number(&list) == 34 {
+            assert_eq!(list, "end 34 0 0 0\n", "{seed}");
+            assert!(messages.contains(" takes a family, and only a call can pass one"));
+            found += 1;
+        }
+    }
+    assert!(found > 20, "{found}");
 }

@@ -2,15 +2,8 @@
 
 mod common;
 
-use common::{gives, not_shown, said, tool};
+use common::{gives, kind, mend, not_shown, said, tool};
 use programs::meaning;
-
-/// Shows where a text is refused, with which number, and what is said to mend.
-fn mend(text: &str, spot: &str, end: &str, number: u32, details: &str) {
-    let sentence = meaning(number);
-    let message = format!("mqasm: standard input:{spot}: {number}: {sentence}\n  {details}\n");
-    gives(&["check", "-"], text, 1, end, &message);
-}
 
 #[test]
 fn an_index_below_zero() {
@@ -277,13 +270,6 @@ fn what_stands_at_the_top_only() {
     let bytes = [0x25, 3, 0, 4, 0, 0];
     let found = tool(&["check", "--bytes", "-"], &bytes);
     assert!(said(&found).ends_with("  'measure' stands at the top of a program only\n"));
-}
-
-/// Shows what is said of an operand of the wrong kind.
-fn kind(text: &str, details: &str) {
-    let found = tool(&["check", "-"], text.as_bytes());
-    assert!(said(&found).contains(": 9: "), "{text}");
-    assert!(said(&found).ends_with(&format!("  {details}\n")), "{text}");
 }
 
 #[test]

@@ -127,8 +127,16 @@ fn numbers_of_calls() {
         "1:3: expected a number from 0 to 65535, found 'f'",
     );
     says(
-        "###3(q);",
-        "1:3: expected a number from 0 to 65535, found '#'",
+        "####3(q);",
+        "1:4: expected a number from 0 to 255, found '#'",
+    );
+    says(
+        "###256(q);",
+        "1:4: expected a number from 0 to 255, found '256'",
+    );
+    says(
+        "h ###3;",
+        "1:5: expected a number from 0 to 65535, found '#'",
     );
     says("#65536(q);", "1:2: the number 65536 is above 65535");
 }
@@ -153,7 +161,6 @@ fn what_is_due() {
     says("}", "1:1: expected a statement, found '}'");
     says("for i = 1 { }", "1:11: expected '..', found '{'");
     says("gate g(a Qbit) {}", "1:10: expected ':', found 'Qbit'");
-    says("gate g(a: Bit) {}", "1:11: expected 'Qbit', found 'Bit'");
     says(
         "creg c[1]; if (c[0] = 1) {}",
         "1:21: expected '==', found '='",
@@ -234,6 +241,79 @@ fn slices_without_their_parts() {
     says(
         "family(n) f(x: Qbit[0..n]) {}",
         "1:22: expected ']', found '..'",
+    );
+}
+
+#[test]
+fn family_types_without_their_parts() {
+    let typed = |text: &str, message: &str| says(&format!("gate g(f: {text}) {{}}"), message);
+    let types = "expected 'Qbit' (a family type has types only, as family(n)(Qbit, Qbit[n]))";
+    typed("Bit", "1:11: expected 'Qbit' or 'family', found 'Bit'");
+    typed("family", "1:17: expected '(', found ')'");
+    typed("family()", "1:19: expected '(', found ')'");
+    typed("family(3)(Qbit)", {
+        "1:18: expected a name for an index variable, found '3'"
+    });
+    typed("family()(x: Qbit)", &format!("1:20: {types}, found 'x'"));
+    typed("family()(family()(Qbit))", {
+        &format!("1:20: {types}, found 'family'")
+    });
+    typed("family()(Qbit Qbit)", "1:25: expected ',', found 'Qbit'");
+    typed("family(n, n)(Qbit)", {
+        "1:21: the name 'n' is already in use here"
+    });
+    let many: Vec<_> = (0..256).map(|number| format!("n{number}")).collect();
+    typed(&format!("family({})(Qbit)", many.join(", ")), {
+        "1:11: more than 255 index variables"
+    });
+    let many = vec!["Qbit"; 256].join(", ");
+    typed(&format!("family()({many})"), {
+        "1:11: more than 255 parameters"
+    });
+}
+
+#[test]
+fn names_of_family_types_are_their_own() {
+    says(
+        "family(n) g(f: family(m)(Qbit[n]), x: Qbit[n]) {}",
+        "1:31: no index variable named 'n' here",
+    );
+    says(
+        "family(n) g(f: family(m)(Qbit[m]), x: Qbit[m]) {}",
+        "1:44: no index variable named 'm' here",
+    );
+    says(
+        "family(n) g(f: family(m)(Qbit[m]), x: Qbit[n]) { f(m)(x); }",
+        "1:52: no index variable named 'm' here",
+    );
+    says(
+        "gate g(f: family()(Qbit), f: Qbit) {}",
+        "1:27: the name 'f' is already in use here",
+    );
+}
+
+#[test]
+fn families_that_cannot_be_named() {
+    let twice = "gate twice(f: family()(Qbit), a: Qbit) { f(a); f(a); }";
+    says(
+        &format!("{twice}\ngate g(a: Qbit) {{ twice(g, a); }}"),
+        "2:25: no parameter named 'g' here",
+    );
+    says(
+        &format!("{twice}\nqreg q[1]; twice(later, q[0]); gate later(a: Qbit) {{}}"),
+        "2:18: no register named 'later' here",
+    );
+    says(
+        &format!("{twice}\nh twice[0];"),
+        "2:3: no register named 'twice' here",
+    );
+    says(
+        &format!("{twice}\ngate g(a: Qbit) {{ f(a); }}"),
+        "2:19: no statement or family named 'f' here",
+    );
+    says(
+        "gate g(a: Qbit, b: Qbit) { a(b); }",
+        "1:28: no statement or family named 'a' here",
     );
 }
 
@@ -338,8 +418,8 @@ fn phases_that_do_not_read() {
         "byte 0: this field has bytes left over",
     );
     says_of_bytes(
-        &[42, 0, 0],
-        "byte 0: a declaration or statement is due here, and tag 42 is none",
+        &[43, 0, 0],
+        "byte 0: a declaration or statement is due here, and tag 43 is none",
     );
 }
 
@@ -366,8 +446,56 @@ fn slices_that_do_not_read() {
         "byte 4: this field has bytes left over",
     );
     says_of_bytes(
-        &call(&[51, 0, 0]),
-        "byte 4: an index or operand is due here, and tag 51 is none",
+        &call(&[52, 0, 0]),
+        "byte 4: an index or operand is due here, and tag 52 is none",
+    );
+}
+
+#[test]
+fn family_types_that_do_not_read() {
+    let family = |parameter: &[u8]| {
+        let length = 2 + parameter.len() as u8;
+        [&[1, length, 0, 0, 1], parameter].concat()
+    };
+    for short in [&[18, 0, 0][..], &[18, 1, 0, 0]] {
+        let missing = "byte 5: this field ends before its own bytes do";
+        says_of_bytes(&family(short), missing);
+    }
+    says_of_bytes(
+        &family(&[18, 2, 0, 0, 1]),
+        "byte 5: this field ends where a type Qbit or Qbit[..] is due",
+    );
+    says_of_bytes(
+        &family(&[18, 6, 0, 0, 1, 16, 0, 0, 0]),
+        "byte 5: this field has bytes left over",
+    );
+    says_of_bytes(
+        &family(&[18, 10, 0, 0, 1, 18, 5, 0, 0, 1, 16, 0, 0]),
+        "byte 10: a type Qbit or Qbit[..] is due here, and tag 18 is none",
+    );
+    says_of_bytes(
+        &family(&[19, 0, 0]),
+        "byte 5: a type is due here, and tag 19 is none",
+    );
+}
+
+#[test]
+fn passed_families_and_parameter_calls_that_do_not_read() {
+    says_of_bytes(
+        &[42, 0, 0],
+        "byte 0: this field ends before its own bytes do",
+    );
+    says_of_bytes(
+        &[42, 9, 0, 0, 48, 1, 0, 0, 65, 1, 0, 0],
+        "byte 0: this call has an index after an operand",
+    );
+    for short in [&[51, 0, 0][..], &[51, 1, 0, 0]] {
+        let gate = [&[32, short.len() as u8, 0], short].concat();
+        says_of_bytes(&gate, "byte 3: this field ends before its own bytes do");
+    }
+    says_of_bytes(
+        &[32, 6, 0, 51, 3, 0, 0, 0, 0],
+        "byte 3: this field has bytes left over",
     );
 }
 

@@ -44,7 +44,7 @@ fn complete_lists_and_no_others_have_their_text() {
     let entries = fs::read_dir(common::examples()).unwrap();
     let names = entries.map(|entry| entry.unwrap().file_name().to_string_lossy().into_owned());
     let found: BTreeSet<String> = names.filter(|name| name.ends_with(".qasm")).collect();
-    assert!(found.len() >= 37);
+    assert!(found.len() >= 62);
     assert_eq!(found, due);
 }
 
@@ -67,7 +67,7 @@ fn the_tool_writes_them() {
 #[test]
 fn they_say_what_the_listings_say() {
     /// The wires of instances, reckoned by hand from their parameters.
-    const WIRES: [(&str, u32); 15] = [
+    const WIRES: [(&str, u32); 19] = [
         ("loop.n0.list", 0),
         ("loop.n3.list", 3),
         ("loop-short.n1.list", 1),
@@ -83,6 +83,10 @@ fn they_say_what_the_listings_say() {
         ("qft.unqft.n3.list", 3),
         ("qft.add.n2.list", 4),
         ("qft.sub.n2.list", 4),
+        ("multiplier-of.ripple.n0.list", 1),
+        ("multiplier-of.ripple.n1.list", 5),
+        ("multiplier-of.fourier.n2.list", 9),
+        ("multiplier-of.unmult-ripple.n1.list", 5),
     ];
     let (mut runs, mut instances) = (0, 0);
     for example in all().iter().filter(|example| is_complete(example)) {

@@ -40,8 +40,9 @@ fn index(dice: &mut Dice, depth: usize) -> Vec<u8> {
 
 fn operand(dice: &mut Dice) -> Vec<u8> {
     let number = dice.byte(4);
-    match dice.below(4) {
+    match dice.below(5) {
         0 => field(48, vec![number]),
+        4 => field(51, vec![number, dice.byte(2)]),
         1 => {
             let (first, last) = (index(dice, 1), index(dice, 1));
             field(50, [vec![number], first, last].concat())
@@ -79,21 +80,36 @@ fn statement(dice: &mut Dice, depth: usize) -> Vec<u8> {
     }
 }
 
-/// The tag and number of a call: one byte, or two that one byte may hold as well.
+/// The tag and number of a call: of a family, by one byte or by two that one byte may hold as
+/// well, or of a parameter.
 fn called(dice: &mut Dice) -> (u8, Vec<u8>) {
-    match dice.below(3) {
+    match dice.below(4) {
         0 => (39, vec![dice.byte(3), dice.byte(3)]),
+        1 => (42, vec![dice.byte(4)]),
         _ => (36, vec![dice.byte(3)]),
     }
+}
+
+fn plain_type(dice: &mut Dice) -> Vec<u8> {
+    match dice.below(2) {
+        0 => field(16, vec![]),
+        _ => field(17, index(dice, 1)),
+    }
+}
+
+fn family_type(dice: &mut Dice) -> Vec<u8> {
+    let parameters = dice.byte(4);
+    let types = (0..parameters).flat_map(|_| plain_type(dice)).collect();
+    field(18, [vec![dice.byte(4), parameters], types].concat())
 }
 
 fn family(dice: &mut Dice) -> Vec<u8> {
     let parameters = dice.byte(4);
     let mut content = vec![dice.byte(4), parameters];
     for _ in 0..parameters {
-        content.extend(match dice.below(2) {
-            0 => field(16, vec![]),
-            _ => field(17, index(dice, 1)),
+        content.extend(match dice.below(3) {
+            0 => family_type(dice),
+            _ => plain_type(dice),
         });
     }
     content.extend(statements(dice, 1));
@@ -223,6 +239,37 @@ fn libraries_past_255_families_go_round() {
 }
 
 #[test]
+fn invented_names_of_family_types_read_well() {
+    let text = "\
+family(n0, n1) f0(x0: Qbit[n0], x1: Qbit) {
+}
+family(n0) f1(x0: family(n0, n1)(Qbit[n0], Qbit), x1: Qbit[n0 + 1], x2: family()(Qbit[#1])) {
+    for i1 = 0..n0 {
+        x0(n0, i1)(x1, x1[i1]);
+        reverse {
+            x2(x1[0..i1 - 1], x0, f0);
+        }
+    }
+    ###1(n0)(x1);
+    ###3(x1);
+    f0(1, 2)(f0, ##1, ##2);
+}
+gate f2(x0: family()(), x1: family(n0, n1, n2)(Qbit[n2 - (n0 - n1)])) {
+    h x0;
+    t x1[0];
+    x0();
+    x1(#2);
+}
+qreg q0[3];
+f1(2)(f0, q0, f2);
+f1(2)(##3, ##256, ##65535);
+###0(q0);
+cx f0, f1;
+";
+    assert_eq!(goes_round(&assemble(text).unwrap().bytes), text);
+}
+
+#[test]
 fn damaged_bytes_are_refused_or_go_round() {
     let mut dice = Dice(7);
     let mut refused = 0;
@@ -251,8 +298,8 @@ fn damaged_texts_are_read_or_refused() {
     let mut dice = Dice(11);
     let pieces = [
         "family", "gate", "qreg", "for", "i", "=", "..", "{", "}", "(", ")", "[", "]", ";", ",",
-        "#", "##", "1", "300", "65536", "x", ":", "Qbit", "h", "cx", "phase", "cphase", "->", "==",
-        "\"", "é", "\n", "/", "//", "bytes", "reverse", "if", "+", "-", "*",
+        "#", "##", "###", "1", "300", "65536", "x", ":", "Qbit", "h", "cx", "phase", "cphase",
+        "->", "==", "\"", "é", "\n", "/", "//", "bytes", "reverse", "if", "+", "-", "*",
     ];
     for _ in 0..3000 {
         let count = dice.below(40);

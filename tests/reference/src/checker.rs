@@ -3,10 +3,12 @@
 use crate::bytes::{refuse, Content, Field, Refusal};
 use crate::form::{Bounds, Form};
 use crate::index::{Kind, Scope};
+use crate::operand::Wanted;
 use crate::tree::{
-    Action, Bit, Call, Cphase, Family, Gate, Index, Loop, Parameter, Program, Register, Size,
-    Statement, Wire,
+    Action, Bit, Call, Called, Cphase, Family, FamilyType, Gate, Index, Loop, Parameter, Program,
+    Register, Size, Statement, Type, Wire,
 };
+use std::rc::Rc;
 
 /// The most bytes a program may have.
 const PROGRAM_BYTES: usize = 65_535;
@@ -83,18 +85,11 @@ impl Checker {
         if self.program.families.len() == FAMILIES {
             return refuse(6, field.place);
         }
-        let sizes = field.content.byte()?;
-        if sizes > 4 {
-            return refuse(6, field.place);
-        }
-        let count = field.content.byte()?;
-        if !(1..=8).contains(&count) {
-            return refuse(6, field.place);
-        }
+        let (sizes, count) = counts(&mut field)?;
         let mut scope = Scope {
             families: &self.program.families,
             kinds: &[],
-            sizes: usize::from(sizes),
+            sizes,
             loops: Vec::new(),
         };
         let parameters: Vec<Parameter> = (0..count)
@@ -104,7 +99,7 @@ impl Checker {
         scope.kinds = &kinds;
         let body = scope.statements(&mut field.content, 1)?;
         Ok(Family {
-            sizes: usize::from(sizes),
+            sizes,
             parameters,
             body,
         })
@@ -157,12 +152,54 @@ fn far_family(content: &mut Content, place: u32) -> Result<u16, Refusal> {
     }
 }
 
+/// Reads the numbers of index variables and of parameters with which a family begins, and
+/// so does a family's type.
+fn counts(field: &mut Field) -> Result<(usize, u8), Refusal> {
+    let sizes = field.content.byte()?;
+    if sizes > 4 {
+        return refuse(6, field.place);
+    }
+    let count = field.content.byte()?;
+    if !(1..=8).contains(&count) {
+        return refuse(6, field.place);
+    }
+    Ok((usize::from(sizes), count))
+}
+
+/// Reads a family's type, whose sizes are over its own index variables.
+fn family_type(mut field: Field) -> Result<FamilyType, Refusal> {
+    let (sizes, count) = counts(&mut field)?;
+    let scope = Scope {
+        families: &[],
+        kinds: &[],
+        sizes,
+        loops: Vec::new(),
+    };
+    let mut parameters = Vec::new();
+    for _ in 0..count {
+        let size = scope.plain_type(field.content.field()?)?;
+        parameters.push(size.map(|size| size.form));
+    }
+    field.content.end()?;
+    Ok(FamilyType { sizes, parameters })
+}
+
 impl Parameter {
     /// What the parameter's number names in the body.
     fn kind(&self) -> Kind {
-        match &self.size {
-            None => Kind::Wire,
-            Some(size) => Kind::Wires(size.form.clone()),
+        match &self.kind {
+            Type::Wire => Kind::Wire,
+            Type::Wires(size) => Kind::Wires(size.form.clone()),
+            Type::Family(family) => Kind::Family(family.clone()),
+        }
+    }
+
+    /// What a call has to hand to the parameter.
+    fn wanted(&self) -> Wanted<'_> {
+        match &self.kind {
+            Type::Wire => Wanted::Wire,
+            Type::Wires(size) => Wanted::Wires(&size.form),
+            Type::Family(family) => Wanted::Family(family),
         }
     }
 }
@@ -170,7 +207,20 @@ impl Parameter {
 impl Scope<'_> {
     /// Reads a parameter's type field.
     fn parameter(&self, content: &mut Content) -> Result<Parameter, Refusal> {
-        let mut field = content.field()?;
+        let field = content.field()?;
+        let place = field.place;
+        let kind = match field.tag {
+            18 => Type::Family(Rc::new(family_type(field)?)),
+            _ => match self.plain_type(field)? {
+                None => Type::Wire,
+                Some(size) => Type::Wires(size),
+            },
+        };
+        Ok(Parameter { place, kind })
+    }
+
+    /// Reads the type of a wire, or of a register with a size that must be shown 0 or more.
+    fn plain_type(&self, mut field: Field) -> Result<Option<Size>, Refusal> {
         let place = field.place;
         let size = match field.tag {
             16 => None,
@@ -184,7 +234,7 @@ impl Scope<'_> {
         if let Some(size) = &size {
             self.show(&size.form, place)?;
         }
-        Ok(Parameter { place, size })
+        Ok(size)
     }
 
     /// Reads statements up to the end of the content.
@@ -225,7 +275,7 @@ impl Scope<'_> {
     /// Reads a statement that may stand in a body.
     fn statement(&mut self, mut field: Field, depth: u32) -> Result<Statement, Refusal> {
         let place = field.place;
-        if !(32..=41).contains(&field.tag) {
+        if !(32..=42).contains(&field.tag) {
             return refuse(3, place);
         }
         if depth > STATEMENT_NESTING {
@@ -237,12 +287,13 @@ impl Scope<'_> {
             33 => self.gate(Gate::T, content)?,
             34 => self.gate(Gate::Tdg, content)?,
             35 => self.cx(content)?,
-            36 => self.call(u16::from(content.byte()?), content, place)?,
+            36 => self.family_call(u16::from(content.byte()?), content, place)?,
             37 => Action::Reverse(self.statements(content, depth + 1)?),
             38 => self.open_loop(content, place, depth)?,
-            39 => self.call(far_family(content, place)?, content, place)?,
+            39 => self.family_call(far_family(content, place)?, content, place)?,
             40 => self.phase(content)?,
-            _ => self.cphase(content)?,
+            41 => self.cphase(content)?,
+            _ => self.parameter_call(content, place)?,
         };
         Ok(Statement { place, action })
     }
@@ -288,26 +339,56 @@ impl Scope<'_> {
         Ok((index, form))
     }
 
-    /// Reads what follows the family's number in a call: sizes, arguments.
-    fn call(&self, family: u16, content: &mut Content, place: u32) -> Result<Action, Refusal> {
+    /// Reads what follows the family's number in a call.
+    fn family_call(
+        &self,
+        family: u16,
+        content: &mut Content,
+        place: u32,
+    ) -> Result<Action, Refusal> {
         let Some(called) = self.families.get(usize::from(family)) else {
             return refuse(8, place);
         };
-        let mut sizes = Vec::with_capacity(called.sizes);
-        let mut forms = Vec::with_capacity(called.sizes);
-        for _ in 0..called.sizes {
+        let wanted = called.parameters.iter().map(Parameter::wanted);
+        self.call(Called::Family(family), called.sizes, wanted, content)
+    }
+
+    /// Reads a call of a parameter, which has to be a family.
+    fn parameter_call(&self, content: &mut Content, place: u32) -> Result<Action, Refusal> {
+        let number = content.byte()?;
+        let called = match self.kinds.get(usize::from(number)) {
+            None => return refuse(8, place),
+            Some(Kind::Family(called)) => called,
+            Some(_) => return refuse(9, place),
+        };
+        let wanted = called.parameters.iter().map(|size| match size {
+            None => Wanted::Wire,
+            Some(size) => Wanted::Wires(size),
+        });
+        self.call(Called::Parameter(number), called.sizes, wanted, content)
+    }
+
+    /// Reads the sizes and arguments of a call.
+    fn call<'w>(
+        &self,
+        called: Called,
+        count: usize,
+        wanted: impl Iterator<Item = Wanted<'w>>,
+        content: &mut Content,
+    ) -> Result<Action, Refusal> {
+        let mut sizes = Vec::with_capacity(count);
+        let mut forms = Vec::with_capacity(count);
+        for _ in 0..count {
             let (index, form) = self.natural(content)?;
             sizes.push(index);
             forms.push(form);
         }
-        let arguments = called
-            .parameters
-            .iter()
-            .map(|parameter| self.argument(content, parameter, &forms))
+        let arguments = wanted
+            .map(|wanted| self.argument(content, called, wanted, &forms))
             .collect::<Result<_, _>>()?;
         content.end()?;
         Ok(Action::Call(Box::new(Call {
-            family,
+            called,
             sizes,
             arguments,
         })))

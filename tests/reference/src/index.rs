@@ -2,7 +2,8 @@
 
 use crate::bytes::{refuse, Content, Field, Refusal};
 use crate::form::{Bounds, Form, OutOfRange};
-use crate::tree::{Family, Index};
+use crate::tree::{Family, FamilyType, Index};
+use std::rc::Rc;
 
 /// How deep index fields may nest.
 const INDEX_NESTING: u32 = 16;
@@ -15,6 +16,8 @@ pub enum Kind {
     Wires(Form),
     /// A classical register.
     Bits(Form),
+    /// A parameter that is a family.
+    Family(Rc<FamilyType>),
 }
 
 /// What the statements being read can name.

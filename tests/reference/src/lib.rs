@@ -105,7 +105,7 @@ fn listed_instance(
 /// Runs the whole program.
 fn listed_run(program: &[u8], limit: u64, output: &mut [u8]) -> Listed {
     let tree = checker::program(program)?;
-    let layout = Layout::of_registers(&tree.registers);
+    let layout = Layout::of_registers(&tree);
     let outcome = Machine::new(&tree, limit, output).run(&tree.top, &layout);
     Ok((outcome, layout.locations))
 }
@@ -116,11 +116,14 @@ fn laid_out(program: &[u8], family: u32, sizes: &[u8]) -> Result<(Program, Layou
     let Some(called) = tree.families.get(family as usize) else {
         return Err(Outcome::before_run(20, 0));
     };
+    if called.takes_families() {
+        return Err(Outcome::before_run(34, 0));
+    }
     if sizes.len() != 4 * called.sizes {
         return Err(Outcome::before_run(21, 0));
     }
     let sizes = read_sizes(sizes).ok_or(Outcome::before_run(22, 0))?;
-    let layout = Layout::of_parameters(&called.parameters, &sizes)?;
+    let layout = Layout::of_parameters(&tree, family as usize, &sizes)?;
     Ok((tree, layout))
 }
 

@@ -3,8 +3,8 @@
 use crate::bytes::{refuse, Refusal};
 use crate::form::{in_range, OutOfRange, VARIABLES};
 use crate::tree::{
-    Action, Argument, Bit, BitOperand, Call, Cphase, Gate, Index, Loop, Parameter, Program,
-    Register, Slice, Statement, Wire, WireOperand,
+    Action, Argument, Bit, BitOperand, Call, Called, Cphase, Family, Gate, Index, Loop, Parameter,
+    Program, Register, Slice, Statement, Type, Wire, WireOperand,
 };
 use crate::Outcome;
 
@@ -17,12 +17,13 @@ const WIRES: i64 = 65_535;
 /// The most parameters that a family may have.
 const PARAMETERS: usize = 8;
 
-/// What an operand stands for.
+/// What an operand stands for, a family by its number.
 #[derive(Clone, Copy)]
 enum Meaning {
     Wire(Wire),
     Wires { first: Wire, size: u16 },
     Bits { first: Bit, size: u16 },
+    Family(u16),
 }
 
 /// The direction in which lists are run.
@@ -64,12 +65,15 @@ pub struct Locations {
 pub struct Layout {
     values: [i64; VARIABLES],
     meanings: Vec<Meaning>,
+    /// How many families the statements can name.
+    families: usize,
     pub locations: Locations,
 }
 
 impl Layout {
     /// The registers of a whole run, numbered as declared.
-    pub fn of_registers(registers: &[Register]) -> Layout {
+    pub fn of_registers(program: &Program) -> Layout {
+        let registers = &program.registers;
         let meaning = |register: &Register| match *register {
             Register::Quantum { first, size } => Meaning::Wires { first, size },
             Register::Classical { first, size } => Meaning::Bits { first, size },
@@ -77,36 +81,25 @@ impl Layout {
         Layout {
             values: [0; VARIABLES],
             meanings: registers.iter().map(meaning).collect(),
+            families: program.families.len(),
             locations: declared(registers),
         }
     }
 
-    /// The parameters of an instance, laid out from wire 0.
-    pub fn of_parameters(parameters: &[Parameter], sizes: &[i64]) -> Result<Layout, End> {
+    /// The parameters of an instance of a family, laid out from wire 0.
+    pub fn of_parameters(program: &Program, family: usize, sizes: &[i64]) -> Result<Layout, End> {
+        let parameters = &program.families[family].parameters;
         let mut values = [0; VARIABLES];
         values[..sizes.len()].copy_from_slice(sizes);
         let mut meanings = Vec::with_capacity(parameters.len());
         let mut used = 0;
         for parameter in parameters {
-            let first = Wire(used as u16);
-            let size = match &parameter.size {
-                None => 1,
-                Some(size) => evaluate(&size.index, &values, parameter.place)?,
-            };
-            if size < 0 {
-                stuck("a parameter's size is below 0");
-            }
+            let (meaning, size) = laid_out(parameter, Wire(used as u16), &values)?;
             used += size;
             if used > WIRES {
                 return refuse(23, parameter.place);
             }
-            meanings.push(match parameter.size {
-                None => Meaning::Wire(first),
-                Some(_) => Meaning::Wires {
-                    first,
-                    size: size as u16,
-                },
-            });
+            meanings.push(meaning);
         }
         let locations = Locations {
             wires: used as u16,
@@ -115,8 +108,29 @@ impl Layout {
         Ok(Layout {
             values,
             meanings,
+            families: family,
             locations,
         })
+    }
+}
+
+/// What a parameter of an instance stands for from a first wire on, and how many wires it has;
+/// where these are too many the meaning is of no use.
+fn laid_out(
+    parameter: &Parameter,
+    first: Wire,
+    values: &[i64; VARIABLES],
+) -> Result<(Meaning, i64), End> {
+    match &parameter.kind {
+        Type::Wire => Ok((Meaning::Wire(first), 1)),
+        Type::Wires(size) => match evaluate(&size.index, values, parameter.place)? {
+            ..=-1 => stuck("a parameter's size is below 0"),
+            count => {
+                let size = count as u16;
+                Ok((Meaning::Wires { first, size }, count))
+            }
+        },
+        Type::Family(_) => stuck("an instance has a family parameter"),
     }
 }
 
@@ -136,6 +150,8 @@ fn declared(registers: &[Register]) -> Locations {
 struct Frame<'m> {
     values: [i64; VARIABLES],
     meanings: &'m [Meaning],
+    /// How many families are declared before the one whose body this is.
+    families: usize,
 }
 
 /// A run under way.
@@ -167,6 +183,7 @@ impl<'r> Machine<'r> {
         let mut frame = Frame {
             values: layout.values,
             meanings: &layout.meanings,
+            families: layout.families,
         };
         let ended = self.list(list, &mut frame, Direction::Forward);
         let (number, place) = match ended {
@@ -288,6 +305,7 @@ impl<'r> Machine<'r> {
         place: u32,
         direction: Direction,
     ) -> Result<(), End> {
+        let number = frame.called(call.called);
         let mut values = [0; VARIABLES];
         for (value, index) in values.iter_mut().zip(&call.sizes) {
             *value = evaluate(index, &frame.values, place)?;
@@ -296,12 +314,16 @@ impl<'r> Machine<'r> {
         for (meaning, argument) in meanings.iter_mut().zip(&call.arguments) {
             *meaning = frame.argument(argument, place)?;
         }
+        let family = &self.program.families[number];
+        if !family.fits(call) {
+            stuck("a call has other counts or kinds than the family that is passed");
+        }
         let mut called = Frame {
             values,
             meanings: &meanings[..call.arguments.len()],
+            families: number,
         };
-        let body = &self.program.families[usize::from(call.family)].body;
-        self.list(body, &mut called, direction)
+        self.list(&family.body, &mut called, direction)
     }
 
     /// Takes one step.
@@ -328,7 +350,43 @@ impl<'r> Machine<'r> {
     }
 }
 
+impl Family {
+    /// Whether a call hands over what this family takes; typing has compared the two where
+    /// the call names the family itself.
+    fn fits(&self, call: &Call) -> bool {
+        let Called::Parameter(_) = call.called else {
+            return true;
+        };
+        let counts = (self.sizes, self.parameters.len());
+        let mut pairs = self.parameters.iter().zip(&call.arguments);
+        counts == (call.sizes.len(), call.arguments.len())
+            && pairs.all(|(parameter, argument)| match argument {
+                Argument::Wire(_) => matches!(parameter.kind, Type::Wire),
+                Argument::Register(_) | Argument::Slice(_) => {
+                    matches!(parameter.kind, Type::Wires(_))
+                }
+                Argument::Family(_) => false,
+            })
+    }
+}
+
 impl Frame<'_> {
+    /// The number of the family that a call names, which is declared before the one whose
+    /// body this is.
+    fn called(&self, called: Called) -> usize {
+        let number = match called {
+            Called::Family(number) => number,
+            Called::Parameter(operand) => match self.meanings[usize::from(operand)] {
+                Meaning::Family(number) => number,
+                _ => stuck("a parameter that is called is no family"),
+            },
+        };
+        match usize::from(number) {
+            number if number < self.families => number,
+            _ => stuck("a family is called that is not declared before"),
+        }
+    }
+
     /// The wire of a phase and its k, which is looked at first and last.
     fn phase(&self, k: &Index, wire: &WireOperand, place: u32) -> Result<([u16; 2], u16), End> {
         let k = self.k(k, place)?;
@@ -410,6 +468,7 @@ impl Frame<'_> {
             Argument::Wire(wire) => Ok(Meaning::Wire(self.wire(wire, place)?)),
             Argument::Register(number) => Ok(self.meanings[usize::from(*number)]),
             Argument::Slice(slice) => self.slice(slice, place),
+            Argument::Family(number) => Ok(Meaning::Family(*number)),
         }
     }
 

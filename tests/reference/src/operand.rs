@@ -1,22 +1,33 @@
-//! Reading and typing operands: wires, bits and a call's arguments, slices among them.
+//! Reading and typing operands: wires, bits and a call's arguments, slices and families among
+//! them.
 
 use crate::bytes::{refuse, Content, Refusal};
 use crate::form::Form;
 use crate::index::{ranged, Kind, Scope};
-use crate::tree::{Argument, BitOperand, Index, Parameter, Slice, WireOperand};
+use crate::tree::{
+    Argument, BitOperand, Called, Family, FamilyType, Index, Slice, Type, WireOperand,
+};
 
-/// An operand field that has been read but not typed.
-struct Operand {
-    place: u32,
-    number: u8,
-    part: Part,
+/// What a call has to hand to a parameter.
+pub enum Wanted<'w> {
+    Wire,
+    Wires(&'w Form),
+    Family(&'w FamilyType),
 }
 
-/// How much an operand takes of what its number names.
-enum Part {
-    Whole,
-    Element(Index, Form),
-    Slice(Span),
+/// An operand field that has been read but not typed.
+struct Operand<'s> {
+    place: u32,
+    named: Named<'s>,
+}
+
+/// What an operand names: all, an element or a slice of what a number in scope stands for,
+/// or a declared family.
+enum Named<'s> {
+    Whole(u8, &'s Kind),
+    Element(u8, &'s Kind, (Index, Form)),
+    Slice(u8, &'s Kind, Span),
+    Family(u16),
 }
 
 /// The first and the last index of a slice, as trees and as forms.
@@ -25,29 +36,34 @@ struct Span {
     last: (Index, Form),
 }
 
+impl Family {
+    /// Whether this family has the counts and kinds of a family's type.
+    fn agrees(&self, formal: &FamilyType) -> bool {
+        let counts = (self.sizes, self.parameters.len());
+        let mut pairs = formal.parameters.iter().zip(&self.parameters);
+        counts == (formal.sizes, formal.parameters.len())
+            && pairs.all(|(formal, own)| match formal {
+                None => matches!(own.kind, Type::Wire),
+                Some(_) => matches!(own.kind, Type::Wires(_)),
+            })
+    }
+}
+
 impl Scope<'_> {
     /// Reads an operand that must be a wire.
     pub fn wire(&self, content: &mut Content) -> Result<WireOperand, Refusal> {
-        let operand = self.operand(content)?;
-        match (operand.part, self.kind(operand.number)) {
-            (Part::Whole, Kind::Wire) => Ok(WireOperand::Whole(operand.number)),
-            (Part::Element(index, form), Kind::Wires(size)) => {
-                self.inside(&form, size, operand.place)?;
-                Ok(WireOperand::Element(operand.number, index))
-            }
-            _ => refuse(9, operand.place),
-        }
+        self.as_wire(self.operand(content, None)?)
     }
 
     /// Reads an operand that must be a bit.
     pub fn bit(&self, content: &mut Content) -> Result<BitOperand, Refusal> {
-        let operand = self.operand(content)?;
-        match (operand.part, self.kind(operand.number)) {
-            (Part::Element(index, form), Kind::Bits(size)) => {
-                self.inside(&form, size, operand.place)?;
-                Ok(BitOperand(operand.number, index))
+        let Operand { place, named } = self.operand(content, None)?;
+        match named {
+            Named::Element(number, Kind::Bits(size), (index, form)) => {
+                self.inside(&form, size, place)?;
+                Ok(BitOperand(number, index))
             }
-            _ => refuse(9, operand.place),
+            _ => refuse(9, place),
         }
     }
 
@@ -55,34 +71,44 @@ impl Scope<'_> {
     pub fn argument(
         &self,
         content: &mut Content,
-        parameter: &Parameter,
+        called: Called,
+        wanted: Wanted,
         forms: &[Form],
     ) -> Result<Argument, Refusal> {
-        match &parameter.size {
-            None => Ok(Argument::Wire(self.wire(content)?)),
-            Some(size) => self.register(content, &size.form, forms),
+        let operand = self.operand(content, Some(called))?;
+        match wanted {
+            Wanted::Wire => Ok(Argument::Wire(self.as_wire(operand)?)),
+            Wanted::Wires(asked) => self.as_register(operand, asked, forms),
+            Wanted::Family(formal) => self.as_family(operand, formal),
         }
     }
 
-    /// Reads a register, whole or a slice of it, of at least the size that a parameter
-    /// asks for.
-    fn register(
+    /// Types an operand that must be a wire.
+    fn as_wire(&self, Operand { place, named }: Operand) -> Result<WireOperand, Refusal> {
+        match named {
+            Named::Whole(number, Kind::Wire) => Ok(WireOperand::Whole(number)),
+            Named::Element(number, Kind::Wires(size), (index, form)) => {
+                self.inside(&form, size, place)?;
+                Ok(WireOperand::Element(number, index))
+            }
+            _ => refuse(9, place),
+        }
+    }
+
+    /// Types a register, whole or a slice of it, that must have at least the size that a
+    /// parameter asks for.
+    fn as_register(
         &self,
-        content: &mut Content,
+        Operand { place, named }: Operand,
         asked: &Form,
         forms: &[Form],
     ) -> Result<Argument, Refusal> {
-        let Operand {
-            place,
-            number,
-            part,
-        } = self.operand(content)?;
-        match (part, self.kind(number)) {
-            (Part::Whole, Kind::Wires(size)) => {
+        match named {
+            Named::Whole(number, Kind::Wires(size)) => {
                 self.large_enough(size, asked, forms, place)?;
                 Ok(Argument::Register(number))
             }
-            (Part::Slice(span), Kind::Wires(size)) => {
+            Named::Slice(number, Kind::Wires(size), span) => {
                 let held = self.slice_size(&span, size, place)?;
                 self.large_enough(&held, asked, forms, place)?;
                 let (first, last) = (span.first.0, span.last.0);
@@ -94,6 +120,31 @@ impl Scope<'_> {
             }
             _ => refuse(9, place),
         }
+    }
+
+    /// Types a declared family, which must have the counts and kinds of a family's type and
+    /// ask for no more wires, whatever its own variables are.
+    fn as_family(
+        &self,
+        Operand { place, named }: Operand,
+        formal: &FamilyType,
+    ) -> Result<Argument, Refusal> {
+        let Named::Family(number) = named else {
+            return refuse(9, place);
+        };
+        let family = &self.families[usize::from(number)];
+        if !family.agrees(formal) {
+            return refuse(9, place);
+        }
+        for (given, own) in formal.parameters.iter().zip(&family.parameters) {
+            if let (Some(given), Type::Wires(asked)) = (given, &own.kind) {
+                let spare = ranged(given.minus(&asked.form), place)?;
+                if !ranged(spare.shown(formal.sizes, &[]), place)? {
+                    return refuse(12, place);
+                }
+            }
+        }
+        Ok(Argument::Family(number))
     }
 
     /// Asks for a size to be shown as large as a parameter asks for.
@@ -133,43 +184,55 @@ impl Scope<'_> {
         self.show(&rest, place)
     }
 
-    /// What an operand number in scope names.
-    fn kind(&self, number: u8) -> &Kind {
-        &self.kinds[usize::from(number)]
-    }
-
-    /// Reads an operand field up to its leftover bytes.
-    fn operand(&self, content: &mut Content) -> Result<Operand, Refusal> {
+    /// Reads an operand field up to its leftover bytes; in a call it is an argument.
+    fn operand(
+        &self,
+        content: &mut Content,
+        called: Option<Called>,
+    ) -> Result<Operand<'_>, Refusal> {
         let mut field = content.field()?;
-        if !(48..=50).contains(&field.tag) {
-            return refuse(3, field.place);
-        }
-        let number = field.content.byte()?;
-        if usize::from(number) >= self.kinds.len() {
-            return refuse(8, field.place);
-        }
-        let part = self.part(field.tag, &mut field.content)?;
+        let place = field.place;
+        let named = match field.tag {
+            48..=50 => self.part(field.tag, &mut field.content, place)?,
+            51 => Named::Family(self.family_number(&mut field.content, place, called)?),
+            _ => return refuse(3, place),
+        };
         field.content.end()?;
-        Ok(Operand {
-            place: field.place,
-            number,
-            part,
-        })
+        Ok(Operand { place, named })
     }
 
-    /// Reads the indexes that stand behind an operand's number.
-    fn part(&self, tag: u8, content: &mut Content) -> Result<Part, Refusal> {
-        match tag {
-            48 => Ok(Part::Whole),
-            49 => {
-                let (index, form) = self.index(content)?;
-                Ok(Part::Element(index, form))
-            }
+    /// Reads the number of a declared family. Where a family is called by its own number, the
+    /// passed one must be declared before it.
+    fn family_number(
+        &self,
+        content: &mut Content,
+        place: u32,
+        called: Option<Called>,
+    ) -> Result<u16, Refusal> {
+        let number = content.number()?;
+        if usize::from(number) >= self.families.len() {
+            return refuse(8, place);
+        }
+        match called {
+            Some(Called::Family(family)) if number >= family => refuse(33, place),
+            _ => Ok(number),
+        }
+    }
+
+    /// Reads an operand number and the indexes that stand behind it.
+    fn part(&self, tag: u8, content: &mut Content, place: u32) -> Result<Named<'_>, Refusal> {
+        let number = content.byte()?;
+        let Some(kind) = self.kinds.get(usize::from(number)) else {
+            return refuse(8, place);
+        };
+        Ok(match tag {
+            48 => Named::Whole(number, kind),
+            49 => Named::Element(number, kind, self.index(content)?),
             _ => {
                 let first = self.index(content)?;
                 let last = self.index(content)?;
-                Ok(Part::Slice(Span { first, last }))
+                Named::Slice(number, kind, Span { first, last })
             }
-        }
+        })
     }
 }

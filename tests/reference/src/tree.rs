@@ -1,6 +1,7 @@
 //! The tree of an accepted program: what the machine runs.
 
 use crate::form::Form;
+use std::rc::Rc;
 
 /// A quantum location of the source or the list.
 #[derive(Clone, Copy, Debug, PartialEq, Eq)]
@@ -32,11 +33,32 @@ pub struct Family {
     pub body: Vec<Statement>,
 }
 
-/// A parameter: one wire, or a register with a size.
+impl Family {
+    /// Whether a family has to be passed to this one.
+    pub fn takes_families(&self) -> bool {
+        let is_family = |parameter: &Parameter| matches!(parameter.kind, Type::Family(_));
+        self.parameters.iter().any(is_family)
+    }
+}
+
+/// A parameter with the place of its type field.
 pub struct Parameter {
-    /// The place of its type field.
     pub place: u32,
-    pub size: Option<Size>,
+    pub kind: Type,
+}
+
+/// What a parameter takes: one wire, a register with a size, or a family.
+pub enum Type {
+    Wire,
+    Wires(Size),
+    Family(Rc<FamilyType>),
+}
+
+/// A family's type: how many index variables it has and what each parameter takes, which is
+/// a wire where there is no size. Nothing of it is evaluated.
+pub struct FamilyType {
+    pub sizes: usize,
+    pub parameters: Vec<Option<Form>>,
 }
 
 /// The size in a type, as a tree to evaluate and as a form to type with.
@@ -68,6 +90,8 @@ pub enum Argument {
     Wire(WireOperand),
     Register(u8),
     Slice(Box<Slice>),
+    /// A declared family by its number.
+    Family(u16),
 }
 
 /// The part of a register from a first to a last element; it may be empty.
@@ -114,9 +138,16 @@ pub struct Cphase {
 
 /// A call with its sizes and arguments.
 pub struct Call {
-    pub family: u16,
+    pub called: Called,
     pub sizes: Vec<Index>,
     pub arguments: Vec<Argument>,
+}
+
+/// What a call names: a declared family, or a parameter that stands for one.
+#[derive(Clone, Copy)]
+pub enum Called {
+    Family(u16),
+    Parameter(u8),
 }
 
 /// A loop over `variable`, from low to high.

@@ -1,14 +1,21 @@
--- `check_call::call` meets its contract. Assumes nothing.
 use borrow.Author.Needs.{needs}
 use Rattle.check_call.proofs.call.Statement.{statement}
 use Rattle.check_call.proofs.call.Tie as tie
+use Rattle.check_call.proofs.call.Reads as reads
+use Rattle.check_call.proofs.call.Lts as lts
+use Rattle.check_call.proofs.family_call.Reads as family-call-reads
+use Rattle.check_call.proofs.parameter_call.Reads as parameter-call-reads
+use Rattle.fields.proofs.called_number.Reads as called-number-reads
+use Rattle.fields.proofs.long.Reads as long-reads
 use borrow.Author.Needs.{needs}
 use mathlib.Core.Path.{sym, ap, _∙_}
 use Prim.Native.Nat.{ℕ, _+_, _-_}
 use native.Mathlib.Omega.{arith}
 use denote.Ref.{now}
 use lib.Seq.{slice}
-use Rattle.language.specs.Tree.{Statement}
+use borrow.Author.Tests.{eq-eqb, ne-eqb}
+use mathlib.Core.Bool.{Bool, cond}
+use Rattle.language.specs.Tree.{Statement, call, callParameter}
 use Rattle.language.specs.Read.{callOf}
 use Rattle.language.specs.Check.{checkStatement}
 use Rattle.fields.specs.Header.{fieldsAt}
@@ -17,61 +24,90 @@ use Rattle.check_index.specs.Answers.{checkedPart}
 use Rattle.check_call.specs.Calls.{scopeFull}
 use Rattle.check_call.proofs.Calls.{call-unnamed}
 
-add-family-named : tie.Need-add-family-named
-add-family-named c =
+
+-- src/lib.rt:494:42
+add-called-number : tie.Need-add-called-number
+add-called-number c =
     search needs
 
-family-named-requires : tie.Need-family-named-requires
-family-named-requires c κs =
+-- src/lib.rt:494:11
+called-number-requires : tie.Need-called-number-requires
+called-number-requires c κs =
     search needs
 
+-- src/lib.rt:495:20
 enum-known-k : tie.Need-enum-known-k
 enum-known-k c =
     search needs
 
-enum-known-n : tie.Need-enum-known-n
-enum-known-n c =
+-- src/lib.rt:496:23
+enum-known-number : tie.Need-enum-known-number
+enum-known-number c =
     search needs
 
+-- src/lib.rt:497:17
 long-requires : tie.Need-long-requires
 long-requires c κs =
     search needs
 
-call-of-requires : tie.Need-call-of-requires
-call-of-requires c κs =
-    (c .before .before .before .before .before .before .before .pre .0 .1, (c .before .before .before .before .before .before .before .pre .1 .0, c .before .before .before .before .before .before .before .pre .1 .1))
+-- src/lib.rt:499:17
+parameter-call-requires : tie.Need-parameter-call-requires
+parameter-call-requires c κs =
+    (c .before .before .before .before .before .before .before .before .pre .0 .1, (c .before .before .before .before .before .before .before .before .pre .1 .0, c .before .before .before .before .before .before .before .before .pre .1 .1))
 
+-- src/lib.rt:499:17
 returns : tie.Need-returns
-unfolding checkedPart
+unfolding fieldsAt
 returns c =
+    let a = c .before .before .before .before .before .before .before .before .before .args in
+    let program = now (a .program) in
+    let n = c .before .before .before .before .number .given .0 .0 in
+    let from = c .before .before .before .before .number .given .0 .1 .0 in
+    let w = named-in (a .tag) (a .at + 3) (a .next) program (c .before .before .before .before .before .before .before .before .before .pre .0 .0) (c .before .before .before .before .before .before .before .before .before .pre .0 .1) n from (sym (c .before .before .before .before .before .before .called-number .ensures) ∙ c .before .before .before .before .number .given .1) in
+    c .parameter-call .ensures
+    ∙ ap (λ (k : ℕ). checkStatement (callOf callParameter (a .at) k (fieldsAt program from (a .next))) (scopeFull (a .s) (now (a .families)) (now (a .kinds)) (now (a .sizes)) (now (a .lows)) (now (a .highs)))) (c .before .before .long .ensures .0)
+    ∙ ap (λ (b : Bool). checkStatement (callOf (cond b callParameter call) (a .at) n (fieldsAt program from (a .next))) (scopeFull (a .s) (now (a .families)) (now (a .kinds)) (now (a .sizes)) (now (a .lows)) (now (a .highs)))) (sym (eq-eqb (a .tag) 42 (c .before .if1 .taken)))
+    ∙ ap (λ (x : Statement). checkStatement x (scopeFull (a .s) (now (a .families)) (now (a .kinds)) (now (a .sizes)) (now (a .lows)) (now (a .highs)))) (sym (w .reads (a .at) from (omega (arith, w .low))))
+
+-- src/lib.rt:503:13
+family-call-requires : tie.Need-family-call-requires
+family-call-requires c κs =
+    (c .before .before .before .before .before .before .before .before .pre .0 .1, (c .before .before .before .before .before .before .before .before .pre .1 .0, c .before .before .before .before .before .before .before .before .pre .1 .1))
+
+-- src/lib.rt:477:1
+returns-2 : tie.Need-returns-2
+unfolding checkedPart
+returns-2 c =
     let a = c .before .before .before .before .before .before .args in
     let program = now (a .program) in
-    let s = scopeFull (a .s) (now (a .families)) (now (a .kinds)) (now (a .sizes)) (now (a .lows)) (now (a .highs)) in
     let content = slice (a .at + 3) (a .next) program in
-    call-unnamed s (a .at) (c .before .k .given .0 .0) (a .tag) content (named-bad (a .tag) (a .at + 3) content (c .before .k .given .0 .0) (sym (c .before .before .before .family-named .ensures) ∙ c .before .k .given .1) (a .at))
+    call-unnamed (scopeFull (a .s) (now (a .families)) (now (a .kinds)) (now (a .sizes)) (now (a .lows)) (now (a .highs))) (a .at) (c .before .k .given .0 .0) (a .tag) content (named-bad (a .tag) (a .at + 3) content (c .before .k .given .0 .0) (sym (c .before .before .before .called-number .ensures) ∙ c .before .k .given .1) (a .at))
 
-returns-2 : tie.Need-returns-2
+-- src/lib.rt:477:1
+returns-3 : tie.Need-returns-3
 unfolding fieldsAt
-returns-2 c =
-    let a = c .before .before .before .before .before .before .before .before .args in
+returns-3 c =
+    let a = c .before .before .before .before .before .before .before .before .before .args in
     let program = now (a .program) in
-    let s = scopeFull (a .s) (now (a .families)) (now (a .kinds)) (now (a .sizes)) (now (a .lows)) (now (a .highs)) in
-    let n = c .before .before .before .n .given .0 .0 in
-    let from = c .before .before .before .n .given .0 .1 .0 in
-    let w = named-in (a .tag) (a .at + 3) (a .next) program (c .before .before .before .before .before .before .before .before .pre .0 .0) (c .before .before .before .before .before .before .before .before .pre .0 .1) n from (sym (c .before .before .before .before .before .family-named .ensures) ∙ c .before .before .before .n .given .1) in
-    c .call-of .ensures
-    ∙ ap (λ (k : ℕ). checkStatement (callOf (a .at) k (fieldsAt program from (a .next))) s) (c .before .long .ensures .0)
-    ∙ ap (λ (x : Statement). checkStatement x s) (sym (w .reads (a .at) from (omega (arith, w .low))))
+    let n = c .before .before .before .before .number .given .0 .0 in
+    let from = c .before .before .before .before .number .given .0 .1 .0 in
+    let w = named-in (a .tag) (a .at + 3) (a .next) program (c .before .before .before .before .before .before .before .before .before .pre .0 .0) (c .before .before .before .before .before .before .before .before .before .pre .0 .1) n from (sym (c .before .before .before .before .before .before .called-number .ensures) ∙ c .before .before .before .before .number .given .1) in
+    c .family-call .ensures
+    ∙ ap (λ (k : ℕ). checkStatement (callOf call (a .at) k (fieldsAt program from (a .next))) (scopeFull (a .s) (now (a .families)) (now (a .kinds)) (now (a .sizes)) (now (a .lows)) (now (a .highs)))) (c .before .before .long .ensures .0)
+    ∙ ap (λ (b : Bool). checkStatement (callOf (cond b callParameter call) (a .at) n (fieldsAt program from (a .next))) (scopeFull (a .s) (now (a .families)) (now (a .kinds)) (now (a .sizes)) (now (a .lows)) (now (a .highs)))) (sym (ne-eqb (a .tag) 42 (c .before .if1 .left)))
+    ∙ ap (λ (x : Statement). checkStatement x (scopeFull (a .s) (now (a .families)) (now (a .kinds)) (now (a .sizes)) (now (a .lows)) (now (a .highs)))) (sym (w .reads (a .at) from (omega (arith, w .low))))
 
 pub call-spec : {M : Type 1} → statement M
 call-spec =
     tie.close
     (tie.spec
-    add-family-named
-    family-named-requires
+    add-called-number
+    called-number-requires
     enum-known-k
-    enum-known-n
+    enum-known-number
     long-requires
-    call-of-requires
+    parameter-call-requires
     returns
-    returns-2)
+    family-call-requires
+    returns-2
+    returns-3)

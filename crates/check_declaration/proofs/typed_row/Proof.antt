@@ -1,281 +1,118 @@
--- `check_declaration::typed_row` meets its contract. Assumes nothing.
+use borrow.Author.Needs.{needs}
 use Rattle.check_declaration.proofs.typed_row.Statement.{statement}
 use Rattle.check_declaration.proofs.typed_row.Tie as tie
+use Rattle.check_declaration.proofs.typed_row.Reads as reads
+use Rattle.check_declaration.proofs.typed_row.Lts as lts
+use Rattle.check_declaration.proofs.family_row.Reads as family-row-reads
+use Rattle.check_declaration.proofs.plain_row.Reads as plain-row-reads
+use Rattle.fields.proofs.with_tag.Reads as with-tag-reads
 use borrow.Author.Needs.{needs}
-use mathlib.Core.Path.{_≡_, _∙_}
-use Prim.Native.Nat.{ℕ, _+_, _<_}
-use denote.Ref.{now}
-use lib.ListN.{length, getD}
-use Rattle.check_declaration.specs.Types.{sizeRow}
-use Rattle.check_declaration.proofs.Tables.{apart-none, apart-kind, apart-both, in-use-set, number-size}
-use Rattle.check_declaration.proofs.Types.{typed-single, typed-many, typed-bad, past-single, past-many}
+use mathlib.Core.Path.{_≡_, sym, ap, _∙_}
 use mathlib.Core.List.{[]}
+use Prim.Native.Nat.{ℕ, _+_, _*_, _/_, _<_}
 use native.Mathlib.Omega.{arith}
-use Rattle.language.specs.Tree.{badType}
-use Rattle.language.specs.Read.{due, readType}
-use Rattle.fields.specs.Header.{fieldsAt}
-use Rattle.kinds.specs.declared.Kind.the-variants.{Qubit, Quantum}
-use Rattle.check_operand.specs.Tables.{scopeWith, sizeOfRow}
-use Rattle.check_declaration.proofs.Sizes.{narrow}
+use denote.Ref.{now}
+use lib.ListN.{length}
+use Rattle.fields.proofs.Headers.{when-tagged}
+use Rattle.check_index.proofs.Answers.{ends-passes}
+use Rattle.check_operand.specs.Tables.{scopeWith}
+use Rattle.check_call.specs.Calls.{formalAt}
+use Rattle.check_declaration.proofs.Tables.{in-use-later}
+use Rattle.check_declaration.proofs.FamilyTypes.{type-family, type-plain, tagged-not}
+use Rattle.check_declaration.proofs.Formals.{formals-lower, stays-plain, plain-after, formals-after}
 
-parameter-type-requires : tie.Need-parameter-type-requires
-parameter-type-requires c κs =
+
+-- src/lib.rt:284:33
+with-tag-requires : tie.Need-with-tag-requires
+with-tag-requires c κs =
     search needs
 
+-- src/lib.rt:284:25
 enum-known-next : tie.Need-enum-known-next
 enum-known-next c =
     search needs
 
-row-number-requires : tie.Need-row-number-requires
-row-number-requires c κs =
-    search needs
-
-mul-kinds : tie.Need-mul-kinds
-mul-kinds c =
-    let a = c .before .before .before .before .before .before .before .before .args in
-    let program = now (a .program) in
-    let bytes = length program in
-    let l = c .before .before .before .before .parameter-type .last .1 .1 .1 .1 .1 .0 in
-    let before = c .before .before .before .before .before .before .before .before .pre .1 .1 .1 .0 in
-    let t = c .before .before .before .before .before .before .before .before .pre .1 .1 .1 .1 in
-    let kinds = now (a .kinds) in
-    let sizes = now (a .sizes) in
-    let next = c .before .before .next .given .0 .0 in
-    let u = past-single program (a .at) (a .to) (c .before .before .before .before .parameter-type .result) l next (c .before .before .before .before .parameter-type .ensures .1) (c .before .before .next .given .1) in
-    let h : a .row < length kinds = omega (arith, u .low, u .high, c .before .before .before .before .before .before .before .before .pre .0, t .kindsLong, before .few) in
-    omega (arith, c .before .before .before .before .before .before .before .before .good)
-
-slice-write-kinds : tie.Need-slice-write-kinds
-slice-write-kinds c =
-    let a = c .before .before .before .before .before .before .before .before .args in
-    let program = now (a .program) in
-    let bytes = length program in
-    let l = c .before .before .before .before .parameter-type .last .1 .1 .1 .1 .1 .0 in
-    let before = c .before .before .before .before .before .before .before .before .pre .1 .1 .1 .0 in
-    let t = c .before .before .before .before .before .before .before .before .pre .1 .1 .1 .1 in
-    let kinds = now (a .kinds) in
-    let sizes = now (a .sizes) in
-    let next = c .before .before .next .given .0 .0 in
-    let u = past-single program (a .at) (a .to) (c .before .before .before .before .parameter-type .result) l next (c .before .before .before .before .parameter-type .ensures .1) (c .before .before .next .given .1) in
-    let h : a .row < length kinds = omega (arith, u .low, u .high, c .before .before .before .before .before .before .before .before .pre .0, t .kindsLong, before .few) in
-    omega (arith, c .before .before .before .before .before .before .before .before .good)
-
-enum-known-next-2 : tie.Need-enum-known-next-2
-enum-known-next-2 c =
-    search needs
-
-store-requires : tie.Need-store-requires
-store-requires c κs =
+-- src/lib.rt:285:9
+family-row-requires : tie.Need-family-row-requires
+family-row-requires c κs =
     let a = c .before .before .before .before .before .before .before .before .before .args in
-    let program = now (a .program) in
-    let bytes = length program in
-    let l = c .before .before .before .before .before .parameter-type .last .1 .1 .1 .1 .1 .0 in
-    let before = c .before .before .before .before .before .before .before .before .before .pre .1 .1 .1 .0 in
-    let t = c .before .before .before .before .before .before .before .before .before .pre .1 .1 .1 .1 in
-    let kinds = now (a .kinds) in
-    let sizes = now (a .sizes) in
-    let next = c .before .before .before .next2 .given .0 .0 in
-    let u = past-many program (a .at) (a .to) (c .before .before .before .before .before .parameter-type .result) l next (c .before .before .before .before .before .parameter-type .ensures .1) (c .before .before .before .next2 .given .1) in
-    let h : a .row < length kinds = omega (arith, u .0 .low, u .0 .high, c .before .before .before .before .before .before .before .before .before .pre .0, t .kindsLong, before .few) in
-    let few = c .before .before .before .before .before .before .before .before .before .pre .1 .0 in
-    (u .1, narrow (c .before .before .before .before .before .parameter-type .result) next l (scopeWith [] [] (a .m) []) (due readType (badType 4 (a .parent)) (fieldsAt program (a .at) (a .to))) (c .before .before .before .next2 .given .1) (u .1) (c .before .before .before .before .before .parameter-type .ensures .0 [] []) (omega arith))
+    let w = when-tagged (now (a .program)) (a .at) (a .to) 18 (c .before .before .before .before .next .given .0 .0) (c .before .before .before .before .before .before .before .before .before .pre .0 .1) (sym (c .before .before .before .before .before .before .with-tag .ensures) ∙ c .before .before .before .before .next .given .1) in
+    ((w .low, let h = w .high in let k = c .before .before .before .before .before .before .before .before .before .pre .0 .1 in omega arith), (c .before .before .before .before .before .before .before .before .before .pre .1 .1 .0, (c .before .before .before .before .before .before .before .before .before .pre .1 .1 .1 .0, (c .before .before .before .before .before .before .before .before .before .pre .1 .1 .1 .1 .0, (c .before .before .before .before .before .before .before .before .before .pre .1 .1 .1 .1 .1 .0, c .before .before .before .before .before .before .before .before .before .pre .1 .1 .1 .1 .1 .1)))))
 
-size-row-requires : tie.Need-size-row-requires
-size-row-requires c κs =
-    let a = c .before .before .before .before .before .before .before .before .before .before .args in
-    let program = now (a .program) in
-    let bytes = length program in
-    let l = c .before .before .before .before .before .before .parameter-type .last .1 .1 .1 .1 .1 .0 in
-    let before = c .before .before .before .before .before .before .before .before .before .before .pre .1 .1 .1 .0 in
-    let t = c .before .before .before .before .before .before .before .before .before .before .pre .1 .1 .1 .1 in
-    let kinds = now (a .kinds) in
-    let sizes = now (a .sizes) in
-    let next = c .before .before .before .before .next2 .given .0 .0 in
-    let u = past-many program (a .at) (a .to) (c .before .before .before .before .before .before .parameter-type .result) l next (c .before .before .before .before .before .before .parameter-type .ensures .1) (c .before .before .before .before .next2 .given .1) in
-    let h : a .row < length kinds = omega (arith, u .0 .low, u .0 .high, c .before .before .before .before .before .before .before .before .before .before .pre .0, t .kindsLong, before .few) in
-    (omega (arith, u .0 .low, u .0 .high, c .before .before .before .before .before .before .before .before .before .before .pre .0, c .before .before .before .before .before .before .before .before .before .before .pre .1 .1 .0), before .fewRegisters)
-
-row-number-requires-2 : tie.Need-row-number-requires-2
-row-number-requires-2 c κs =
-    let a = c .before .before .before .before .before .before .before .before .before .before .before .args in
-    let program = now (a .program) in
-    let bytes = length program in
-    let l = c .before .before .before .before .before .before .before .parameter-type .last .1 .1 .1 .1 .1 .0 in
-    let before = c .before .before .before .before .before .before .before .before .before .before .before .pre .1 .1 .1 .0 in
-    let t = c .before .before .before .before .before .before .before .before .before .before .before .pre .1 .1 .1 .1 in
-    let kinds = now (a .kinds) in
-    let sizes = now (a .sizes) in
-    let next = c .before .before .before .before .before .next2 .given .0 .0 in
-    let u = past-many program (a .at) (a .to) (c .before .before .before .before .before .before .before .parameter-type .result) l next (c .before .before .before .before .before .before .before .parameter-type .ensures .1) (c .before .before .before .before .before .next2 .given .1) in
-    let h : a .row < length kinds = omega (arith, u .0 .low, u .0 .high, c .before .before .before .before .before .before .before .before .before .before .before .pre .0, t .kindsLong, before .few) in
-    omega (arith, c .size-row .ensures, before .fewRegisters, u .0 .low, u .0 .high, c .before .before .before .before .before .before .before .before .before .before .before .pre .0, c .before .before .before .before .before .before .before .before .before .before .before .pre .1 .1 .0)
-
-mul-kinds-2 : tie.Need-mul-kinds-2
-mul-kinds-2 c =
-    let a = c .before .before .before .before .before .before .before .before .before .before .before .before .args in
-    let program = now (a .program) in
-    let bytes = length program in
-    let l = c .before .before .before .before .before .before .before .before .parameter-type .last .1 .1 .1 .1 .1 .0 in
-    let before = c .before .before .before .before .before .before .before .before .before .before .before .before .pre .1 .1 .1 .0 in
-    let t = c .before .before .before .before .before .before .before .before .before .before .before .before .pre .1 .1 .1 .1 in
-    let kinds = now (a .kinds) in
-    let sizes = now (a .sizes) in
-    let next = c .before .before .before .before .before .before .next2 .given .0 .0 in
-    let u = past-many program (a .at) (a .to) (c .before .before .before .before .before .before .before .before .parameter-type .result) l next (c .before .before .before .before .before .before .before .before .parameter-type .ensures .1) (c .before .before .before .before .before .before .next2 .given .1) in
-    let h : a .row < length kinds = omega (arith, u .0 .low, u .0 .high, c .before .before .before .before .before .before .before .before .before .before .before .before .pre .0, t .kindsLong, before .few) in
-    omega (arith, c .before .before .before .before .before .before .before .before .before .before .before .before .good)
-
-slice-write-kinds-2 : tie.Need-slice-write-kinds-2
-slice-write-kinds-2 c =
-    let a = c .before .before .before .before .before .before .before .before .before .before .before .before .args in
-    let program = now (a .program) in
-    let bytes = length program in
-    let l = c .before .before .before .before .before .before .before .before .parameter-type .last .1 .1 .1 .1 .1 .0 in
-    let before = c .before .before .before .before .before .before .before .before .before .before .before .before .pre .1 .1 .1 .0 in
-    let t = c .before .before .before .before .before .before .before .before .before .before .before .before .pre .1 .1 .1 .1 in
-    let kinds = now (a .kinds) in
-    let sizes = now (a .sizes) in
-    let next = c .before .before .before .before .before .before .next2 .given .0 .0 in
-    let u = past-many program (a .at) (a .to) (c .before .before .before .before .before .before .before .before .parameter-type .result) l next (c .before .before .before .before .before .before .before .before .parameter-type .ensures .1) (c .before .before .before .before .before .before .next2 .given .1) in
-    let h : a .row < length kinds = omega (arith, u .0 .low, u .0 .high, c .before .before .before .before .before .before .before .before .before .before .before .before .pre .0, t .kindsLong, before .few) in
-    omega (arith, c .before .before .before .before .before .before .before .before .before .before .before .before .good)
-
-mul-t29 : tie.Need-mul-t29
-mul-t29 c =
-    let a = c .before .before .before .before .before .before .before .before .before .before .before .before .args in
-    let program = now (a .program) in
-    let bytes = length program in
-    let l = c .before .before .before .before .before .before .before .before .parameter-type .last .1 .1 .1 .1 .1 .0 in
-    let before = c .before .before .before .before .before .before .before .before .before .before .before .before .pre .1 .1 .1 .0 in
-    let t = c .before .before .before .before .before .before .before .before .before .before .before .before .pre .1 .1 .1 .1 in
-    let kinds = now (a .kinds) in
-    let sizes = now (a .sizes) in
-    let next = c .before .before .before .before .before .before .next2 .given .0 .0 in
-    let u = past-many program (a .at) (a .to) (c .before .before .before .before .before .before .before .before .parameter-type .result) l next (c .before .before .before .before .before .before .before .before .parameter-type .ensures .1) (c .before .before .before .before .before .before .next2 .given .1) in
-    let h : a .row < length kinds = omega (arith, u .0 .low, u .0 .high, c .before .before .before .before .before .before .before .before .before .before .before .before .pre .0, t .kindsLong, before .few) in
-    let own = c .before .size-row .result in
-    let is : own ≡ sizeRow (a .at) (a .registers) = c .before .size-row .ensures in
-    let f : own < length sizes = omega (arith, u .0 .low, u .0 .high, c .before .before .before .before .before .before .before .before .before .before .before .before .pre .0, t .sizesLong, before .fewRegisters) in
-    omega (arith, c .before .before .before .before .before .before .before .before .before .before .before .before .good)
-
-slice-set-from-sizes : tie.Need-slice-set-from-sizes
-slice-set-from-sizes c =
-    let a = c .before .before .before .before .before .before .before .before .before .before .before .before .args in
-    let program = now (a .program) in
-    let bytes = length program in
-    let l = c .before .before .before .before .before .before .before .before .parameter-type .last .1 .1 .1 .1 .1 .0 in
-    let before = c .before .before .before .before .before .before .before .before .before .before .before .before .pre .1 .1 .1 .0 in
-    let t = c .before .before .before .before .before .before .before .before .before .before .before .before .pre .1 .1 .1 .1 in
-    let kinds = now (a .kinds) in
-    let sizes = now (a .sizes) in
-    let next = c .before .before .before .before .before .before .next2 .given .0 .0 in
-    let u = past-many program (a .at) (a .to) (c .before .before .before .before .before .before .before .before .parameter-type .result) l next (c .before .before .before .before .before .before .before .before .parameter-type .ensures .1) (c .before .before .before .before .before .before .next2 .given .1) in
-    let h : a .row < length kinds = omega (arith, u .0 .low, u .0 .high, c .before .before .before .before .before .before .before .before .before .before .before .before .pre .0, t .kindsLong, before .few) in
-    let own = c .before .size-row .result in
-    let is : own ≡ sizeRow (a .at) (a .registers) = c .before .size-row .ensures in
-    let f : own < length sizes = omega (arith, u .0 .low, u .0 .high, c .before .before .before .before .before .before .before .before .before .before .before .before .pre .0, t .sizesLong, before .fewRegisters) in
-    omega (arith, c .before .before .before .before .before .before .before .before .before .before .before .before .good)
-
-enum-known-n : tie.Need-enum-known-n
-enum-known-n c =
-    search needs
-
+-- src/lib.rt:285:9
 same-length : tie.Need-same-length
 same-length c =
     search needs
 
-returns : tie.Need-returns
-returns c =
-    let a = c .before .before .before .before .before .before .before .before .args in
-    let program = now (a .program) in
-    let bytes = length program in
-    let l = c .before .before .before .before .parameter-type .last .1 .1 .1 .1 .1 .0 in
-    let before = c .before .before .before .before .before .before .before .before .pre .1 .1 .1 .0 in
-    let t = c .before .before .before .before .before .before .before .before .pre .1 .1 .1 .1 in
-    let kinds = now (a .kinds) in
-    let sizes = now (a .sizes) in
-    let next = c .before .before .next .given .0 .0 in
-    let u = past-single program (a .at) (a .to) (c .before .before .before .before .parameter-type .result) l next (c .before .before .before .before .parameter-type .ensures .1) (c .before .before .next .given .1) in
-    let h : a .row < length kinds = omega (arith, u .low, u .high, c .before .before .before .before .before .before .before .before .pre .0, t .kindsLong, before .few) in
-    let b = c .row-number .result in
-    let none = number-size Qubit 0 b (c .row-number .ensures) in (
-      λ fs ks. typed-single (c .before .before .before .before .parameter-type .result) next l bytes (a .row) kinds sizes t h b (c .row-number .ensures) (c .before .before .next .given .1) ∙ c .before .before .before .before .parameter-type .ensures .0 fs ks,
-      (
-        u,
-        (in-use-set (a .row) (a .row + 1) (a .registers) (a .registers) (a .at) next kinds (a .row) b before h (omega arith) (omega (arith, u .low)) (omega (arith, u .low, before .few)) (before .fewRegisters), apart-kind bytes (a .row) kinds sizes t h b),
-      ),
-    )
-
+-- src/lib.rt:285:9
 same-length-2 : tie.Need-same-length-2
 same-length-2 c =
     search needs
 
+-- src/lib.rt:285:9
 same-length-3 : tie.Need-same-length-3
 same-length-3 c =
     search needs
 
+-- src/lib.rt:285:9
+returns : tie.Need-returns
+returns c =
+    let a = c .before .before .before .before .before .before .before .before .before .before .before .before .before .before .args in
+    let program = now (a .program) in
+    let next = c .before .before .before .before .before .before .before .before .before .next .given .0 .0 in
+    let w = when-tagged program (a .at) (a .to) 18 next (c .before .before .before .before .before .before .before .before .before .before .before .before .before .before .pre .0 .1) (sym (c .before .before .before .before .before .before .before .before .before .before .before .with-tag .ensures) ∙ c .before .before .before .before .before .before .before .before .before .next .given .1) in
+    (λ fs ks. c .before .before .before .before .family-row .ensures .0 fs ks (a .m) ∙ type-family (scopeWith fs ks (a .m) []) program (a .at) (a .to) (a .parent) next w, (ends-passes program (a .at) (a .to) 18 next (c .before .before .before .before .family-row .result) w (c .before .before .before .before .family-row .ensures .1 .0), (c .before .before .before .before .family-row .ensures .1 .1 .0, (c .before .before .before .before .family-row .ensures .1 .1 .1 .0, c .before .before .before .before .family-row .ensures .1 .1 .1 .1))))
+
+enum-told : tie.Need-enum-told
+enum-told c =
+    search needs
+
+-- src/lib.rt:287:5
+plain-row-requires : tie.Need-plain-row-requires
+plain-row-requires c κs =
+    let a = c .before .before .before .before .before .before .before .args in
+    let u = c .before .before .before .before .before .before .before .pre .1 .1 .1 .0 in
+    let t = c .before .before .before .before .before .before .before .pre .1 .1 .1 .1 .0 in
+    (c .before .before .before .before .before .before .before .pre .0 .1, (c .before .before .before .before .before .before .before .pre .1 .0, (c .before .before .before .before .before .before .before .pre .1 .1 .0 .0, (omega (arith, u .few, t .kindsLong, c .before .before .before .before .before .before .before .pre .0 .0, c .before .before .before .before .before .before .before .pre .0 .1), (in-use-later (a .row) 0 (a .registers) (a .at) (a .at) (now (a .kinds)) u (omega arith) (omega arith), t)))))
+
+-- src/lib.rt:259:1
+same-length-4 : tie.Need-same-length-4
+same-length-4 c =
+    search needs
+
+-- src/lib.rt:259:1
+same-length-5 : tie.Need-same-length-5
+same-length-5 c =
+    search needs
+
+-- src/lib.rt:259:1
 returns-2 : tie.Need-returns-2
 returns-2 c =
-    let a = c .before .before .before .before .before .before .before .before .before .before .before .before .args in
+    let a = c .before .before .before .before .before .before .before .before .before .before .before .args in
     let program = now (a .program) in
-    let bytes = length program in
-    let l = c .before .before .before .before .before .before .before .before .parameter-type .last .1 .1 .1 .1 .1 .0 in
-    let before = c .before .before .before .before .before .before .before .before .before .before .before .before .pre .1 .1 .1 .0 in
-    let t = c .before .before .before .before .before .before .before .before .before .before .before .before .pre .1 .1 .1 .1 in
     let kinds = now (a .kinds) in
-    let sizes = now (a .sizes) in
-    let next = c .before .before .before .before .before .before .next2 .given .0 .0 in
-    let u = past-many program (a .at) (a .to) (c .before .before .before .before .before .before .before .before .parameter-type .result) l next (c .before .before .before .before .before .before .before .before .parameter-type .ensures .1) (c .before .before .before .before .before .before .next2 .given .1) in
-    let h : a .row < length kinds = omega (arith, u .0 .low, u .0 .high, c .before .before .before .before .before .before .before .before .before .before .before .before .pre .0, t .kindsLong, before .few) in
-    let own = c .before .size-row .result in
-    let is : own ≡ sizeRow (a .at) (a .registers) = c .before .size-row .ensures in
-    let f : own < length sizes = omega (arith, u .0 .low, u .0 .high, c .before .before .before .before .before .before .before .before .before .before .before .before .pre .0, t .sizesLong, before .fewRegisters) in
-    let b = c .row-number2 .result in
-    let names = number-size Quantum own b (c .row-number2 .ensures) in
-    let d : (j : ℕ) → sizeOfRow (getD kinds j 0) < own = (λ j. omega (arith, before .named j)) in
-    let short = c .before .before .store .last .0 in (
-      λ fs ks. typed-many (c .before .before .before .before .before .before .before .before .parameter-type .result) next l bytes (a .row) kinds sizes t h b own (c .row-number2 .ensures) short d f (c .before .before .before .before .before .before .next2 .given .1) (c .before .before .store .ensures .1) (c .before .before .store .ensures .0) ∙ c .before .before .before .before .before .before .before .before .parameter-type .ensures .0 fs ks,
-      (
-        u .0,
-        (in-use-set (a .row) (a .row + 1) (a .registers) (a .registers) (a .at) next kinds (a .row) b before h (omega (arith, u .2)) (omega (arith, u .2)) (omega (arith, u .2, before .few)) (before .fewRegisters), apart-both bytes (a .row) kinds sizes t h b own short (c .before .before .store .ensures .1) d f),
-      ),
-    )
-
-returns-3 : tie.Need-returns-3
-returns-3 c =
-    let a = c .before .before .before .before .before .before .before .args in
-    let program = now (a .program) in
-    let bytes = length program in
-    let l = c .before .before .before .parameter-type .last .1 .1 .1 .1 .1 .0 in
-    let before = c .before .before .before .before .before .before .before .pre .1 .1 .1 .0 in
-    let t = c .before .before .before .before .before .before .before .pre .1 .1 .1 .1 in
-    let kinds = now (a .kinds) in
-    let sizes = now (a .sizes) in (
-      λ fs ks. typed-bad (c .before .before .before .parameter-type .result) (c .before .n .given .0 .0) (c .before .n .given .0 .1 .0) l (a .row) kinds sizes (c .before .n .given .1) ∙ c .before .before .before .parameter-type .ensures .0 fs ks,
-      (tt, (tt, apart-none bytes (a .row) 1 kinds sizes t)),
-    )
+    let families = now (a .families) in
+    let u = c .before .before .before .before .before .before .before .before .before .before .before .pre .1 .1 .1 .0 in
+    let t = c .before .before .before .before .before .before .before .before .before .before .before .pre .1 .1 .1 .1 .0 in
+    let f = c .before .before .before .before .before .before .before .before .before .before .before .pre .1 .1 .1 .1 .1 .1 in
+    let later = c .before .before .before .plain-row .last .1 .1 .1 .1 .1 .1 .1 .0 in
+    let sizes = c .before .before .before .plain-row .last .1 .1 .1 .1 .1 .1 .1 .1 .0 in
+    let half : a .row < length kinds / 2 = omega (arith, u .few, t .kindsLong, c .before .before .before .before .before .before .before .before .before .before .before .pre .0 .0, c .before .before .before .before .before .before .before .before .before .before .before .pre .0 .1) in
+    (λ fs ks. c .before .before .before .plain-row .ensures .0 fs ks (formalAt families later sizes) ∙ type-plain (scopeWith fs ks (a .m) []) program (a .at) (a .to) (a .parent) (c .before .before .before .before .before .before .before .before .before .before .before .pre .0 .1) (sym (c .before .before .before .before .before .before .before .before .with-tag .ensures) ∙ tagged-not (c .before .before .before .before .before .before .before .before .with-tag .result) (c .before .before .before .before .before .before .before .match .keys2)), (c .before .before .before .plain-row .ensures .1 .0, (plain-after program (a .at) (a .to) (a .row) (a .registers) (c .before .before .before .plain-row .result) kinds later u (c .before .before .before .plain-row .ensures .1 .0) (c .before .before .before .plain-row .ensures .1 .1 .0), (formals-after program (length program) (a .row) (a .at) (a .to) (c .before .before .before .plain-row .result) families f (c .before .before .before .plain-row .ensures .1 .1 .1 .1) half (c .before .before .before .plain-row .ensures .1 .0), stays-plain (length program) (a .row) (a .at) (a .registers) families f (c .before .before .before .plain-row .ensures .1 .1 .1 .1) half))))
 
 pub typed-row-spec : {M : Type 1} → statement M
 typed-row-spec =
     tie.close
     (tie.spec
-    parameter-type-requires
+    with-tag-requires
     enum-known-next
-    row-number-requires
-    mul-kinds
-    slice-write-kinds
-    enum-known-next-2
-    store-requires
-    size-row-requires
-    row-number-requires-2
-    mul-kinds-2
-    slice-write-kinds-2
-    mul-t29
-    slice-set-from-sizes
-    enum-known-n
+    family-row-requires
     same-length
-    returns
     same-length-2
     same-length-3
-    returns-2
-    returns-3)
+    returns
+    enum-told
+    plain-row-requires
+    same-length-4
+    same-length-5
+    returns-2)

@@ -7,11 +7,11 @@ use denote.Ref.{now}
 use lib.ListN.{drop}
 use Rattle.language.specs.Tree.{badIndex}
 use Rattle.language.specs.Read.{due, outerIndex}
-use Rattle.language.specs.Check.{Signature, Scope, checkNatural}
+use Rattle.language.specs.Check.{Signature, Kind, Scope, checkNatural}
 use mathlib.Core.List.{List}
 use Rattle.fields.specs.Header.{fieldsAt}
 use Rattle.check_index.proofs.Answers.{part-goes, part-stops, passes-upto}
-use Rattle.check_operand.specs.Tables.{scopeAt, kindsAt}
+use Rattle.check_operand.specs.Tables.{Known, tabulated, kindsAt, scopeAt}
 use Rattle.check_operand.specs.Operands.{oneWire}
 use Rattle.check_phase.proofs.Naturals.{phase-is}
 
@@ -32,10 +32,11 @@ returns : tie.Need-returns
 returns c =
     let a = c .before .before .before .before .before .args in
     let program = now (a .program) in
-    let s : List Signature → Scope = λ fs. scopeAt fs (a .s) (now (a .kinds)) (now (a .sizes)) (now (a .lows)) (now (a .highs)) in
+    let s : Known → Scope = λ k. scopeAt k (a .s) (now (a .kinds)) (now (a .sizes)) (now (a .lows)) (now (a .highs)) in
     let gs = fieldsAt program (a .from) (a .next) in
-    let ks = kindsAt (a .s .count) (a .s .first) (now (a .kinds)) (now (a .sizes)) in
-    λ fs. part-stops (c .before .before .natural .result) (checkNatural (s fs) (due outerIndex (badIndex 4 (a .at)) gs)) (oneWire (s fs) (a .at) (drop 1 gs)) (c .before .before .natural .ensures .0 fs ks) (c .before .match .keys2) ∙ phase-is (s fs) (a .at) gs (drop 1 gs) refl
+    let fs : Known → List Signature = λ k. tabulated (k .declared) (a .s .families) 0 in
+    let ks : Known → List Kind = λ k. kindsAt (k .formals) (a .s .count) (a .s .first) (now (a .kinds)) (now (a .sizes)) in
+    λ k. part-stops (c .before .before .natural .result) (checkNatural (s k) (due outerIndex (badIndex 4 (a .at)) gs)) (oneWire (s k) (a .at) (drop 1 gs)) (c .before .before .natural .ensures .0 (fs k) (ks k)) (c .before .match .keys2) ∙ phase-is (s k) (a .at) gs (drop 1 gs) refl
 
 one-wire-requires : tie.Need-one-wire-requires
 one-wire-requires c κs =
@@ -45,12 +46,13 @@ returns-2 : tie.Need-returns-2
 returns-2 c =
     let a = c .before .before .before .before .before .before .before .args in
     let program = now (a .program) in
-    let s : List Signature → Scope = λ fs. scopeAt fs (a .s) (now (a .kinds)) (now (a .sizes)) (now (a .lows)) (now (a .highs)) in
+    let s : Known → Scope = λ k. scopeAt k (a .s) (now (a .kinds)) (now (a .sizes)) (now (a .lows)) (now (a .highs)) in
     let gs = fieldsAt program (a .from) (a .next) in
-    let ks = kindsAt (a .s .count) (a .s .first) (now (a .kinds)) (now (a .sizes)) in
+    let fs : Known → List Signature = λ k. tabulated (k .declared) (a .s .families) 0 in
+    let ks : Known → List Kind = λ k. kindsAt (k .formals) (a .s .count) (a .s .first) (now (a .kinds)) (now (a .sizes)) in
     let mid = c .before .before .r .given .0 .0 in
     let v = passes-upto program (a .from) (a .next) (c .before .before .before .before .natural .result) mid (c .before .before .r .given .1) (c .before .before .before .before .natural .ensures .1) in
-    λ fs. c .one-wire .ensures .0 fs ∙ sym (part-goes (c .before .before .before .before .natural .result) (checkNatural (s fs) (due outerIndex (badIndex 4 (a .at)) gs)) (c .before .before .before .before .natural .ensures .0 fs ks) mid (oneWire (s fs) (a .at) (fieldsAt program mid (a .next))) (c .before .before .r .given .1)) ∙ phase-is (s fs) (a .at) gs (fieldsAt program mid (a .next)) (v .rest)
+    λ k. c .one-wire .ensures .0 k ∙ sym (part-goes (c .before .before .before .before .natural .result) (checkNatural (s k) (due outerIndex (badIndex 4 (a .at)) gs)) (c .before .before .before .before .natural .ensures .0 (fs k) (ks k)) mid (oneWire (s k) (a .at) (fieldsAt program mid (a .next))) (c .before .before .r .given .1)) ∙ phase-is (s k) (a .at) gs (fieldsAt program mid (a .next)) (v .rest)
 
 pub phase-spec : {M : Type 1} → statement M
 phase-spec =

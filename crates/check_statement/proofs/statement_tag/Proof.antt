@@ -58,8 +58,13 @@ returns-10 c =
 returns-11 : tie.Need-returns-11
 unfolding statementBy choose checkStatement gateOf cxOf phaseOf cphaseOf
 returns-11 c =
+    λ part p content s. simp (c .match .keys11)
+
+returns-12 : tie.Need-returns-12
+unfolding statementBy choose checkStatement gateOf cxOf phaseOf cphaseOf
+returns-12 c =
     let m = c .match .rest in
-    λ part p content s. simp (ne-eqb _ _ (m .1), ne-eqb _ _ (m .0 .1), ne-eqb _ _ (m .0 .0 .1), ne-eqb _ _ (m .0 .0 .0 .1), ne-eqb _ _ (m .0 .0 .0 .0 .1), ne-eqb _ _ (m .0 .0 .0 .0 .0 .1), ne-eqb _ _ (m .0 .0 .0 .0 .0 .0 .1), ne-eqb _ _ (m .0 .0 .0 .0 .0 .0 .0 .1), ne-eqb _ _ (m .0 .0 .0 .0 .0 .0 .0 .0 .1), ne-eqb _ _ (m .0 .0 .0 .0 .0 .0 .0 .0 .0 .1))
+    λ part p content s. simp (ne-eqb _ _ (m .1), ne-eqb _ _ (m .0 .1), ne-eqb _ _ (m .0 .0 .1), ne-eqb _ _ (m .0 .0 .0 .1), ne-eqb _ _ (m .0 .0 .0 .0 .1), ne-eqb _ _ (m .0 .0 .0 .0 .0 .1), ne-eqb _ _ (m .0 .0 .0 .0 .0 .0 .1), ne-eqb _ _ (m .0 .0 .0 .0 .0 .0 .0 .1), ne-eqb _ _ (m .0 .0 .0 .0 .0 .0 .0 .0 .1), ne-eqb _ _ (m .0 .0 .0 .0 .0 .0 .0 .0 .0 .1), ne-eqb _ _ (m .0 .0 .0 .0 .0 .0 .0 .0 .0 .0 .1))
 
 pub statement-tag-spec : {M : Type 1} → statement M
 statement-tag-spec =
@@ -75,4 +80,5 @@ statement-tag-spec =
     returns-8
     returns-9
     returns-10
-    returns-11)
+    returns-11
+    returns-12)

@@ -48,9 +48,10 @@ printed-requires c κs =
     let l = now (a .program) in
     let out = c .before .before .before .before .before .before .before .before .metaqasm-instance .last .1 .1 .1 .1 .0 in
     let run : Reply = record { result = answered (c .before .before .before .before .before .before .before .before .metaqasm-instance .result); output = out } in
-    let sound = c .before .before .before .before .before .before .before .before .metaqasm-instance .ensures .1 .0 (instance-accepted l (a .family) (now (a .sizes)) (a .limit) (now (a .output)) run (c .before .before .before .before .before .before .before .before .metaqasm-instance .ensures .0) (c .before .before .before .before .if1 .left)) .0 in
+    let suits = instance-suits l (a .family) (now (a .sizes)) (a .limit) (now (a .output)) run (c .before .before .before .before .before .before .before .before .metaqasm-instance .ensures .0) (c .before .before .before .before .if1 .left) in
+    let sound = c .before .before .before .before .before .before .before .before .metaqasm-instance .ensures .1 .0 (instance-accepted l (a .family) (now (a .sizes)) (a .limit) (now (a .output)) run (c .before .before .before .before .before .before .before .before .metaqasm-instance .ensures .0) (c .before .before .before .before .if1 .left)) .1 suits in
     let few = sound .few in
-    let w = (rw (c .before .before .before .wide .ensures) at (c .before .before .wires .ensures)) (instance-suits l (a .family) (now (a .sizes)) (a .limit) (now (a .output)) run (c .before .before .before .before .before .before .before .before .metaqasm-instance .ensures .0) (c .before .before .before .before .if1 .left)) in
+    let w = (rw (c .before .before .before .wide .ensures) at (c .before .before .wires .ensures)) suits in
     (c .before .before .before .before .before .before .before .before .metaqasm-instance .ensures .1 .1 .0, ((λ i h. sound .bytes i h .halvings), (rw w (few .0), few .1)))
 
 same-length-2 : tie.Need-same-length-2

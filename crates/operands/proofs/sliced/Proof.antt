@@ -27,6 +27,10 @@ enum-known-s-4 : tie.Need-enum-known-s-4
 enum-known-s-4 c =
     search needs
 
+enum-known-s-5 : tie.Need-enum-known-s-5
+enum-known-s-5 c =
+    search needs
+
 enum-told : tie.Need-enum-told
 enum-told c =
     search needs
@@ -61,13 +65,18 @@ returns-4 c =
     λ p. rw (c .before .s4 .given .1)
 
 returns-5 : tie.Need-returns-5
-unfolding meaningTold _>>=_ after
+unfolding meaningTold _>>=_ after sliceAt
 returns-5 c =
-    λ p. rw (c .enum-told .given .1)
+    λ p. rw (c .before .s5 .given .1)
 
 returns-6 : tie.Need-returns-6
 unfolding meaningTold _>>=_ after
 returns-6 c =
+    λ p. rw (c .enum-told .given .1)
+
+returns-7 : tie.Need-returns-7
+unfolding meaningTold _>>=_ after
+returns-7 c =
     λ p. rw (c .enum-told2 .given .1)
 
 pub sliced-spec : {M : Type 1} → statement M
@@ -79,6 +88,7 @@ sliced-spec =
     enum-known-s-2
     enum-known-s-3
     enum-known-s-4
+    enum-known-s-5
     enum-told
     enum-told-2
     returns
@@ -86,4 +96,5 @@ sliced-spec =
     returns-3
     returns-4
     returns-5
-    returns-6)
+    returns-6
+    returns-7)

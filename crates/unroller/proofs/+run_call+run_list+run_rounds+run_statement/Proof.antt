@@ -19,7 +19,7 @@ use Rattle.unroller.proofs.+run_call+run_list+run_rounds+run_statement.
 pub +run-call+run-list+run-rounds+run-statement-spec : {M : Type 1} → statement M
 +run-call+run-list+run-rounds+run-statement-spec = close μ-run-call μ-run-list μ-run-rounds μ-run-statement
     (λ t. run-call-lts.spec (run-call-calls t) (run-call-at t) run-call.Post
-    (RunCall.family-named-requires t) (RunCall.enum-known-number t) (RunCall.enum-told t) (RunCall.returns t) (RunCall.returns-2 t) (RunCall.listed-requires t) (RunCall.wide-requires t) (RunCall.arguments-requires t) (RunCall.enum-told-2 t) (RunCall.cast-t34 t) (RunCall.enum-told-3 t) (RunCall.enum-known-count t) (RunCall.body-of-requires t) (RunCall.add-entered t) (RunCall.shared-slice-read-entered t) (RunCall.entered-requires t) (RunCall.scope-of-requires t) (RunCall.run-list-requires t) (RunCall.returns-3 t) (RunCall.returns-4 t) (RunCall.same-length t) (RunCall.returns-5 t))
+    (RunCall.called-family-requires t) (RunCall.enum-known-number t) (RunCall.enum-told t) (RunCall.returns t) (RunCall.returns-2 t) (RunCall.listed-requires t) (RunCall.wide-requires t) (RunCall.arguments-requires t) (RunCall.enum-told-2 t) (RunCall.cast-t34 t) (RunCall.enum-told-3 t) (RunCall.enum-known-count t) (RunCall.body-of-requires t) (RunCall.add-entered t) (RunCall.shared-slice-read-entered t) (RunCall.entered-requires t) (RunCall.scope-of-requires t) (RunCall.run-list-requires t) (RunCall.returns-3 t) (RunCall.returns-4 t) (RunCall.same-length t) (RunCall.returns-5 t))
     (λ t. run-list-lts.spec (run-list-calls t) (run-list-at t) run-list.Post RunList.Inv-loop RunList.μ-loop
     (RunList.whole-requires t) (RunList.loop-holds t) (RunList.same-length t) (RunList.returns t) (RunList.begin-round-requires t) (RunList.enum-known-r t) (RunList.same-length-2 t) (RunList.returns-2 t) (RunList.begin-requires t) (RunList.enum-known-depth t) (RunList.enum-told t) (RunList.same-length-3 t) (RunList.returns-3 t) (RunList.whole-requires-2 t) (RunList.add-i t) (RunList.loop-less t) (RunList.loop-again t) (RunList.seek-requires t) (RunList.header-at-requires t) (RunList.enum-known-tag t) (RunList.same-length-4 t) (RunList.returns-4 t) (RunList.add-content t) (RunList.add-at t) (RunList.run-statement-requires t) (RunList.enum-known-r-2 t) (RunList.same-length-5 t) (RunList.returns-5 t) (RunList.passed-requires t) (RunList.loop-less-2 t) (RunList.loop-again-2 t))
     (λ t. run-rounds-lts.spec (run-rounds-calls t) (run-rounds-at t) run-rounds.Post

@@ -130,11 +130,26 @@ fn sliced() -> Vec<Workload> {
     ]
 }
 
+/// Lists that are written through parameters: a parameter's call for each wire of a product,
+/// and families that pass the one before to each other.
+fn passed_on() -> Vec<Workload> {
+    let product = programs::passed_multiplier();
+    let gates = 15 * 100 * 100;
+    let mut deep = programs::passed_on(254, 16);
+    deep.extend(calls(506, 1_000));
+    vec![
+        Workload::instance("passed multiplier", &product, (3, &[100]), gates),
+        Workload::instance("passed, reversed", &product, (4, &[100]), gates),
+        Workload::run("deep parameter calls", &deep, 1_000),
+    ]
+}
+
 /// Everything that is measured.
 fn workloads() -> Vec<Workload> {
     let mut rows = checks();
     rows.extend(lists());
     rows.extend(sliced());
+    rows.extend(passed_on());
     rows.extend(small_calls());
     rows.extend(printed());
     rows
@@ -167,6 +182,9 @@ fn checks() -> Vec<Workload> {
         Workload::check("check, slices", &slow::sliced_check()),
         Workload::check("check, tried", &slow::tried_check()),
         Workload::check("check, tried slices", &slow::tried_slices()),
+        Workload::check("check, family types", &slow::typed_check()),
+        Workload::check("check, passed families", &slow::passed_check()),
+        Workload::check("check, parameter calls", &slow::parameter_check()),
     ]
 }
 

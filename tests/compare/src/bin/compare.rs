@@ -1,13 +1,15 @@
 //! Compares the library with the reference and says how much was compared.
 //!
 //! Use: `compare [FIRST_SEED [COUNT]]`. It holds both to the recorded answers
-//! and asks them about a range of generated programs and as many showings of
-//! forms, and for every hundredth seed about two libraries of many families. It
-//! fails where an archive lacks a call.
+//! and asks them about a range of generated programs, as many about families as
+//! arguments and as many showings of forms, and for every hundredth seed about two
+//! libraries of many families. It fails where an archive lacks a call.
 
 use compare::recorded::{recorded, showings};
 use compare::{library, showing, Tally};
-use generate::{forms, libraries};
+use generate::random::Random;
+use generate::targeted::passing;
+use generate::{forms, libraries, Case};
 use std::io::Write;
 use std::process::ExitCode;
 
@@ -73,6 +75,11 @@ fn compare_recorded() -> Result<(), String> {
     say(&format!("{count} recorded answers: {}", tally.line()))
 }
 
+/// A program about families as arguments.
+fn passing_case(seed: u64) -> Case {
+    passing::case(&mut Random::new(seed))
+}
+
 /// Compares everything and prints what was counted.
 fn compare_all() -> Result<(), String> {
     let (first, last) = seeds()?;
@@ -87,6 +94,7 @@ fn compare_all() -> Result<(), String> {
     let all = || first..last;
     let some = || all().step_by(LIBRARY_SEEDS);
     compare_made("generated programs", generate::case, Tally::case, all())?;
+    compare_made("that pass families", passing_case, Tally::case, all())?;
     compare_made("generated showings", forms::showing, Tally::showing, all())?;
     compare_made("libraries", libraries::sound, Tally::case, some())?;
     compare_made("damaged libraries", libraries::damaged, Tally::case, some())

@@ -126,7 +126,7 @@ fn without_families() -> Vec<Recorded> {
         row("27 03 00 07 01 ff", 8),
         row("27 03 00 07 00", 2),
         row("27 02 00 07 00 20", 31),
-        row("2a 02 00 00 01", 3),
+        row("2b 02 00 00 01", 3),
     ]
 }
 
@@ -182,8 +182,8 @@ fn levels() -> Vec<Recorded> {
             5,
             48,
         ),
-        row("42 at level 16", 15, "2a 00 00", 3, 45),
-        row("42 at level 17", 16, "2a 00 00", 3, 48),
+        row("43 at level 16", 15, "2b 00 00", 3, 45),
+        row("43 at level 17", 16, "2b 00 00", 3, 48),
         row("39 for a type", 0, typed, 3, 5),
         row("39 for an operand", 0, "20 03 00 27 00 00", 3, 3),
         row("39 for an index", 0, "26 03 00 27 00 00", 3, 3),

@@ -3,6 +3,7 @@
 mod examples;
 mod families;
 mod limits;
+mod passing;
 mod phases;
 mod ranges;
 mod refusals;
@@ -49,6 +50,7 @@ pub fn recorded() -> Vec<Recorded> {
     rows.extend(phases::rows());
     rows.extend(slices::rows());
     rows.extend(ranges::rows());
+    rows.extend(passing::rows());
     rows.extend(states::rows());
     rows.extend(texts::rows());
     rows

@@ -41,6 +41,10 @@ fn print(first: u64, count: u64) -> Result<(), String> {
         "{} accepted with slices, {} with records through slices",
         histogram.sliced, histogram.through_slices,
     );
+    println!(
+        "{} accepted with calls of parameters, {} with records through them",
+        histogram.passing, histogram.through_passed,
+    );
     let (numbers, ops) = (histogram.missing(), histogram.missing_ops());
     match numbers.is_empty() && ops.is_empty() {
         true => Ok(()),

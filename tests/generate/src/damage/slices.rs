@@ -27,7 +27,7 @@ pub fn slice_field(field: &mut Field, random: &mut Random) {
 /// Changes the tag, the number, or where the content ends.
 fn change_content(field: &mut Field, random: &mut Random) {
     match random.below(8) {
-        0 => field.tag = random.pick(&[48, 49, 51, 64]),
+        0 => field.tag = random.pick(&[48, 49, 51, 52, 64]),
         1 => field.head = vec![random.below(5) as u8],
         2 => field.head.clear(),
         3 => {

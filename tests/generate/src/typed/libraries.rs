@@ -1,6 +1,6 @@
 //! Libraries of many families, most of them small, and a run that calls them.
 
-use super::{Scope, Signature, Writer, Written};
+use super::{Parameter, Scope, Signature, Writer, Written};
 use crate::build::*;
 use crate::random::Random;
 
@@ -59,12 +59,13 @@ impl Writer<'_> {
 
     /// Writes a family of one or two parameters and at most two statements.
     fn small_family(&mut self) -> Field {
-        let signature = match self.random.below(8) {
+        let signature = match self.random.below(12) {
             0 => Signature {
                 sizes: 1,
-                parameters: vec![Some(self.size(1))],
+                parameters: vec![Parameter::Wires(self.size(1))],
             },
             1 | 2 => wires(2),
+            3 | 4 => taking_a_family(),
             _ => wires(1),
         };
         self.declare(signature, |writer, scope| {
@@ -77,6 +78,9 @@ impl Writer<'_> {
 
     /// Writes a call, or else a gate.
     fn small_statement(&mut self, scope: &Scope) -> Option<Field> {
+        if let Some(written) = self.parameter_call(scope) {
+            return Some(written);
+        }
         let called = match self.families.is_empty() || self.random.percent(30) {
             true => None,
             false => self.call(scope),
@@ -106,6 +110,14 @@ impl Writer<'_> {
 fn wires(count: usize) -> Signature {
     Signature {
         sizes: 0,
-        parameters: vec![None; count],
+        parameters: vec![Parameter::Wire; count],
+    }
+}
+
+/// A family on one wire to which a family on one wire is passed.
+fn taking_a_family() -> Signature {
+    Signature {
+        sizes: 0,
+        parameters: vec![Parameter::Wire, Parameter::Family(wires(1))],
     }
 }

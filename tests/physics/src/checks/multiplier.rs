@@ -17,10 +17,11 @@ pub fn multiplier_multiplies(calls: &Calls) -> Answer {
     })
 }
 
-/// Shows that a family of a text multiplies all x and y of n cells.
+/// Shows that a family of a text multiplies all x and y of n cells; a qubit for carries behind
+/// them starts at 0 and ends there.
 pub fn multiplies(calls: &Calls, text: &str, family: &str, n: u32) -> Answer {
     let list = family_list(calls, text, family, &[n])?;
-    products(n).try_for_each(|(from, to)| takes(&list, wires(n), from, to))
+    products(n).try_for_each(|(from, to)| takes(&list, wires(n) + 1, from, to))
 }
 
 /// How many wires x, y and z have.
@@ -29,7 +30,7 @@ fn wires(n: u32) -> usize {
 }
 
 /// The settings of x, y and z before and after, for all x and y, where z starts at 0.
-fn products(n: u32) -> impl Iterator<Item = (usize, usize)> {
+pub(super) fn products(n: u32) -> impl Iterator<Item = (usize, usize)> {
     let mask = (1 << n) - 1;
     (0..1 << (2 * n)).map(move |from: usize| {
         let (x, y) = (from & mask, from >> n);

@@ -1,7 +1,7 @@
 //! The field at a place of a program, what is around it, and what it can name.
 
 use crate::field::{tags, Field};
-use crate::scope::Scope;
+use crate::scope::{parameter_name, Scope};
 
 /// A field with those around it.
 pub struct Found<'a> {
@@ -18,17 +18,32 @@ impl<'a> Found<'a> {
 
     /// The field directly around it.
     pub fn around(&self) -> Option<&'a Field> {
-        let number = self.path.len().checked_sub(2)?;
+        self.above(1)
+    }
+
+    /// The field so many levels above it.
+    fn above(&self, levels: usize) -> Option<&'a Field> {
+        let number = self.path.len().checked_sub(1 + levels)?;
         self.path.get(number).copied()
     }
 
     /// Which part of the field around it this is.
     pub fn part_number(&self) -> Option<usize> {
-        let parts = &self.around()?.parts;
-        parts
-            .iter()
-            .position(|part| std::ptr::eq(part, self.field()))
+        part_of(self.around()?, self.field())
     }
+
+    /// The name of the parameter that has the type around it.
+    pub fn parameter_around(&self) -> Option<String> {
+        let family = self.above(2)?;
+        let number = part_of(family, self.around()?)?;
+        Some(parameter_name(family, number))
+    }
+}
+
+/// Which part of a field another one is.
+fn part_of(field: &Field, inner: &Field) -> Option<usize> {
+    let mut parts = field.parts.iter();
+    parts.position(|part| std::ptr::eq(part, inner))
 }
 
 /// Finds the field whose tag is at a place.
@@ -61,9 +76,11 @@ fn descend<'a>(field: &'a Field, start: usize, place: usize, found: &mut Found<'
     for (number, part) in field.parts.iter().enumerate() {
         let end = start + part.length();
         if place < end {
-            // A loop's bounds do not see its variable.
-            if field.tag != Some(tags::FOR) || number > 1 {
-                found.scope.enter(field);
+            match field.tag {
+                // A loop's bounds do not see its variable.
+                Some(tags::FOR) if number <= 1 => {}
+                Some(tags::FAMILY_TYPE) => found.scope = Scope::of_type(field),
+                _ => found.scope.enter(field),
             }
             return descend(part, start, place, found);
         }

@@ -6,8 +6,9 @@ mod locate;
 mod shape;
 mod showing;
 
+use crate::field::Field;
 use crate::print::join;
-use crate::scope::variable_name;
+use crate::scope::{parameter_name, parameter_types, variable_name};
 use crate::tool::{family_field, size_example, size_names, Loaded, Options};
 use locate::locate;
 use reference::{Outcome, RECORD_BYTES};
@@ -35,6 +36,7 @@ pub fn explain(program: &Loaded, options: &Options, outcome: &Outcome) -> Option
             "the output has {} bytes, and a record takes {RECORD_BYTES}: allow more with --output",
             options.output
         )),
+        34 => takes_family(program, options),
         3 => match locate(&program.fields, place) {
             Some(found) => shape::misplaced(&found),
             None => shape::tag_alone(program.bytes.get(place)),
@@ -83,6 +85,20 @@ fn sizes_due(program: &Loaded, options: &Options) -> Option<String> {
             format!("family '{name}' takes {count} {sizes} ({names}), and {given}: write {example}")
         }
     })
+}
+
+/// Which parameter of a family that is to be listed takes a family.
+fn takes_family(program: &Loaded, options: &Options) -> Option<String> {
+    let number = program.family(options).ok()??;
+    let family = family_field(&program.fields, number)?;
+    let name = program.families.get(usize::try_from(number).ok()?)?;
+    let mut types = parameter_types(family).iter();
+    let parameter = types.position(Field::is_family_type)?;
+    Some(format!(
+        "'{}' of '{name}' takes a family, and only a call can pass one: \
+         list a family that calls '{name}', or the whole program",
+        parameter_name(family, parameter)
+    ))
 }
 
 /// Which sizes are too large.

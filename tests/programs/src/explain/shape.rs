@@ -33,6 +33,7 @@ pub fn misshapen(found: &Found, number: u32) -> Option<String> {
              or leave out turns that are so small",
             scope.index(field.parts.first()?)
         )),
+        33 => passed_too_late(found),
         _ => None,
     }
 }
@@ -71,9 +72,8 @@ pub fn misplaced(found: &Found) -> Option<String> {
 
 /// What a call takes and what it has.
 fn call(field: &Field, scope: &Scope) -> Option<String> {
-    let number = called_number(field);
-    let called = scope.families.get(number)?;
-    let name = scope.family(number);
+    let called = scope.called(field)?;
+    let name = scope.called_name(field);
     let (sizes, operands) = (own_variables(called), parameter_count(called));
     let is_index = |part: &&Field| part.tag.is_some_and(tags::is_index);
     let given_sizes = field.parts.iter().filter(is_index).count();
@@ -104,17 +104,29 @@ fn low_number(field: &Field, scope: &Scope) -> String {
     )
 }
 
+/// Which family is passed to one that is not declared after it.
+fn passed_too_late(found: &Found) -> Option<String> {
+    let (field, call) = (found.field(), found.around()?);
+    let (passed, called) = (found.scope.operand(field), found.scope.called_name(call));
+    Some(match usize::from(two_bytes(field)) == called_number(call) {
+        true => format!("'{passed}' cannot be passed to itself"),
+        false => format!("'{passed}' is declared after '{called}': declare it before '{called}'"),
+    })
+}
+
 /// Which count is past its limit.
 fn too_many(field: &Field, scope: &Scope) -> Option<String> {
     Some(match field.tag? {
         tags::QREG | tags::CREG => "255 registers are declared before this one".to_string(),
         tags::FOR => "8 loops are open around this one, and that is the most".to_string(),
-        tags::FAMILY if own_variables(field) > 4 => {
+        tags::FAMILY | tags::FAMILY_TYPE if own_variables(field) > 4 => {
             let count = own_variables(field);
             format!("{count} index variables are declared, and 4 are the most")
         }
-        tags::FAMILY if parameter_count(field) == 0 => "a family needs a parameter".to_string(),
-        tags::FAMILY if parameter_count(field) > 8 => {
+        tags::FAMILY | tags::FAMILY_TYPE if parameter_count(field) == 0 => {
+            "a family needs a parameter".to_string()
+        }
+        tags::FAMILY | tags::FAMILY_TYPE if parameter_count(field) > 8 => {
             let count = parameter_count(field);
             format!("{count} parameters are declared, and 8 are the most")
         }
@@ -140,17 +152,17 @@ fn too_large(field: &Field, scope: &Scope) -> String {
 /// How many there are of what is named.
 fn out_of_scope(field: &Field, scope: &Scope) -> Option<String> {
     let (what, count) = match field.tag? {
-        tags::CALL | tags::LONG_CALL => ("family", scope.families.len()),
+        tags::CALL | tags::LONG_CALL | tags::PASSED => ("family", scope.families.len()),
         tags::VARIABLE => ("index variable", scope.variables()),
-        tags::WHOLE | tags::ELEMENT | tags::SLICE => match scope.inside {
+        tags::WHOLE | tags::ELEMENT | tags::SLICE | tags::PARAMETER_CALL => match scope.inside {
             Some(family) => ("parameter", parameter_count(family)),
             None => ("register", scope.registers.len()),
         },
         _ => return None,
     };
-    let number = match field.is_call() {
-        true => called_number(field),
-        false => usize::from(field.head[0]),
+    let number = match field.tag? {
+        tags::LONG_CALL | tags::PASSED => usize::from(two_bytes(field)),
+        _ => usize::from(field.head[0]),
     };
     Some(match (count, counted(count, what)) {
         (0, none) => format!("#{number} is asked for, and there is {none} here"),

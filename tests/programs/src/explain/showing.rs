@@ -4,7 +4,7 @@ use super::below::below_zero;
 use super::locate::Found;
 use crate::field::{tags, Field};
 use crate::form::Form;
-use crate::scope::{called_number, own_variables, parameter_name};
+use crate::scope::{own_variables, parameter_name, parameter_types};
 use crate::scope::{two_bytes, variable_name, Scope};
 
 /// Which showing failed, and for what index.
@@ -18,15 +18,18 @@ pub fn not_shown(found: &Found) -> Option<String> {
             let of = format!("of parameter '{name}'");
             natural("size", &field.parts[0], &of, scope)
         }
-        (tags::WHOLE, tags::CALL | tags::LONG_CALL) => argument(found, around),
-        (tags::SLICE, tags::CALL | tags::LONG_CALL) => {
+        (tags::QBITS, tags::FAMILY_TYPE) => {
+            let of = format!("in the type of parameter '{}'", found.parameter_around()?);
+            natural("size", &field.parts[0], &of, scope)
+        }
+        (tags::PASSED, _) => passed(found, around),
+        (tags::WHOLE, tag) if tags::is_call(tag) => argument(found, around),
+        (tags::SLICE, tag) if tags::is_call(tag) => {
             slice(field, scope).or_else(|| argument(found, around))
         }
-        (_, tags::CALL | tags::LONG_CALL) => {
-            let number = called_number(around);
-            let called = scope.families.get(number)?;
-            let variable = variable_name(called, found.part_number()?);
-            let of = format!("for '{variable}' of '{}'", scope.family(number));
+        (_, tag) if tags::is_call(tag) => {
+            let variable = variable_name(scope.called(around)?, found.part_number()?);
+            let of = format!("for '{variable}' of '{}'", scope.called_name(around));
             natural("size", field, &of, scope)
         }
         (_, tags::PHASE | tags::CPHASE) => natural("k", field, "of this phase", scope),
@@ -96,11 +99,10 @@ fn natural(what: &str, index: &Field, of: &str, scope: &Scope) -> Option<String>
 /// A register or slice handed to a parameter that asks for more cells.
 fn argument(found: &Found, call: &Field) -> Option<String> {
     let scope = &found.scope;
-    let number = called_number(call);
-    let called = scope.families.get(number)?;
-    let (sizes, operands) = call.parts.split_at_checked(own_variables(called))?;
+    let called = scope.called(call)?;
+    let sizes = call.parts.get(..own_variables(called))?;
     let field = found.field();
-    let parameter = operands.iter().position(|part| std::ptr::eq(part, field))?;
+    let parameter = found.part_number()?.checked_sub(sizes.len())?;
     let asked = Form::of(called.parts.get(parameter)?.parts.first()?, sizes.len())?;
     let mut due = Form::constant(asked.constant, scope.variables());
     for (factor, size) in asked.factors.iter().zip(sizes) {
@@ -108,14 +110,43 @@ fn argument(found: &Found, call: &Field) -> Option<String> {
     }
     let (has, has_text) = cells(field, scope)?;
     let reason = below_zero(&has.plus(-1, &due), scope)?;
+    let name = scope.called_name(call);
+    let taker = match called.tag? {
+        tags::FAMILY => format!("'{}' of '{name}'", parameter_name(called, parameter)),
+        _ => format!("'{name}'"),
+    };
     Some(format!(
-        "'{}' has {has_text} cells, and '{}' of '{}' takes {} here: \
+        "'{}' has {has_text} cells, and {taker} takes {} here: \
          the one less the other {reason}",
         scope.operand(field),
-        parameter_name(called, parameter),
-        scope.family(number),
         due.text(|variable| scope.variable(variable)),
     ))
+}
+
+/// A family passed to a parameter that calls it with fewer cells than it takes.
+fn passed(found: &Found, call: &Field) -> Option<String> {
+    let (field, scope) = (found.field(), &found.scope);
+    let called = scope.called(call)?;
+    let parameter = found.part_number()?.checked_sub(own_variables(called))?;
+    let formal = called.parts.get(parameter)?;
+    let own = Scope::of_type(formal);
+    let actual = scope.families.get(usize::from(two_bytes(field)))?;
+    let types = parameter_types(formal).iter().zip(parameter_types(actual));
+    types.enumerate().find_map(|(number, (given, taken))| {
+        let given = Form::of(given.parts.first()?, own.variables())?;
+        let taken = Form::of(taken.parts.first()?, own.variables())?;
+        let reason = below_zero(&given.plus(-1, &taken), &own)?;
+        Some(format!(
+            "'{}' of '{}' gives {} cells for '{}' of '{}', which takes {}: \
+             the one less the other {reason}",
+            parameter_name(called, parameter),
+            scope.called_name(call),
+            given.text(|variable| own.variable(variable)),
+            parameter_name(actual, number),
+            scope.operand(field),
+            taken.text(|variable| own.variable(variable)),
+        ))
+    })
 }
 
 /// How many cells a register or slice has, as a form and as text.

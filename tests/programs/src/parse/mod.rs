@@ -2,7 +2,8 @@
 //!
 //! Wherever a name stands for a number, `#3` gives the number itself, in scope
 //! or not. A call names its family by one byte where that holds the number, and
-//! by two where it does not; `##3(..)` is a call by two bytes, whatever the number.
+//! by two where it does not; `##3(..)` is a call by two bytes, whatever the number,
+//! and `###3(..)` calls parameter 3. As an operand, `##3` is family 3.
 //! `bytes "20 00 00";` puts bytes into a list of statements as they are.
 
 mod declarations;
@@ -59,8 +60,15 @@ struct Parser {
     families: Names,
     registers: Names,
     /// The parameters, inside a family.
-    parameters: Option<Names>,
+    parameters: Option<Parameters>,
     indexes: Names,
+}
+
+/// The parameters of a family.
+struct Parameters {
+    names: Names,
+    /// For each whether it takes a family.
+    take_families: Vec<bool>,
 }
 
 /// Tokens.

@@ -1,6 +1,6 @@
 //! Statements of the text form: gates, calls, loops and what stands at the top.
 
-use super::{field, resolve, Answer, Parser};
+use super::{field, resolve, resolve_byte, Answer, Parser};
 use crate::field::{tags, Field};
 use crate::token::{Spot, TextError, Word};
 
@@ -15,6 +15,11 @@ fn shortest_call(number: u16) -> (u8, Vec<u8>) {
 /// The tag and own bytes of a call by two bytes.
 fn long_call(number: u16) -> (u8, Vec<u8>) {
     (tags::LONG_CALL, number.to_le_bytes().to_vec())
+}
+
+/// The tag and own bytes of a call of a parameter.
+fn parameter_call(number: u8) -> (u8, Vec<u8>) {
+    (tags::PARAMETER_CALL, vec![number])
 }
 
 /// Statements.
@@ -51,9 +56,8 @@ impl Parser {
             "for" => self.counted_loop(spot),
             "bytes" => self.bare_bytes(spot),
             _ => {
-                let what = "statement or family";
-                let number = resolve(name, &self.families, what, u16::MAX, spot)?;
-                self.call(shortest_call(number), spot)
+                let start = self.named_call(name, spot)?;
+                self.call(start, spot)
             }
         }
     }
@@ -152,14 +156,29 @@ impl Parser {
         Ok(field(tags::FOR, vec![], parts, spot)?.named(vec![name]))
     }
 
-    /// `#3(x);`, or `##3(x);` for a call by two bytes, whatever the number.
+    /// The start of a call by name: of a parameter that takes a family, or of a family.
+    fn named_call(&self, name: &str, spot: Spot) -> Answer<(u8, Vec<u8>)> {
+        if let Some(parameters) = &self.parameters {
+            let number = parameters.names.number(name);
+            if number.is_some_and(|number| parameters.take_families[number]) {
+                let number = resolve_byte(name, &parameters.names, "parameter", spot)?;
+                return Ok(parameter_call(number));
+            }
+        }
+        let what = "statement or family";
+        let number = resolve(name, &self.families, what, u16::MAX, spot)?;
+        Ok(shortest_call(number))
+    }
+
+    /// `#3(x);`, or `##3(x);` for a call by two bytes, whatever the number, or `###3(x);` for a
+    /// call of parameter 3, whatever it is.
     fn numbered_call(&mut self, spot: Spot) -> Answer<Field> {
-        let start = match self.accept("#") {
-            true => long_call,
-            false => shortest_call,
+        let start = match (self.accept("#"), self.accept("#")) {
+            (true, true) => parameter_call(self.byte()?),
+            (true, false) => long_call(self.number(u16::MAX)?),
+            _ => shortest_call(self.number(u16::MAX)?),
         };
-        let number = self.number(u16::MAX)?;
-        self.call(start(number), spot)
+        self.call(start, spot)
     }
 
     /// `f(n - 1)(x, y[0]);`, or `f(x, y[0]);` without indexes.

@@ -50,17 +50,23 @@ The text form, by example:
   phase(3) q[0]; cphase(j-i+1) q[j], q[i];      phases: k, then operands
   f(4)(q, q[0]); g(q[1]);                       calls: sizes, then operands
   f(2)(q[1..3], q[0]);                          a slice: cells 1, 2 and 3
+  gate k(p: family()(Qbit), a: Qbit) { p(a); }  a parameter that takes a family
+  k(g, q[0]);                                   a call that passes the family g
   for i = 1..n { .. } reverse { .. }            loops and reversals
   measure q[0] -> c[1]; reset q[0];             at the top only
   if (c[0] == 1) { .. }                         at the top only
 A slice stands for a register: only a parameter Qbit[..] takes one. Its last
 cell is in it, and q[2..1] is empty.
+A parameter p: family(n)(Qbit, Qbit[n]) takes a family with one size and these
+operands. It is called as families are, and not passed on. Sizes in its type
+name the type's own index variables.
 A phase turns by one turn divided by 2 to the k, and k goes from 0 to 63.
 Indexes are made of numbers up to 65535, names, +, -, * and parentheses.
 #3 is the operand, family or index variable of that number, in scope or not,
 and bytes \"20 00 00\"; puts bytes into a list of statements as they are.
 Families 0 to 255 are called by a number of one byte (tag 36), and others by two
-(tag 39); ##3(..) is a call by two bytes, whatever the number.
+(tag 39); ##3(..) is a call by two bytes, whatever the number. A family that is
+passed (tag 51) is ##3 by its number, and ###3(..) calls parameter 3 (tag 42).
 ";
 
 const ASSEMBLE: &str = "\
@@ -90,6 +96,11 @@ of its family are. There a loop's variable counts as its low or its high bound,
 whichever is worse. Where this is not enough, one loop around it may make up for
 it, as its body runs only where low <= high: of x: Qbit[n], x[0] is refused by
 itself, and accepted inside for i = 1..n-1 { .. }.
+
+A family that is passed must have as many sizes and operands as the type of the
+parameter says, and operands of the same kinds, which take no more cells than
+the type gives them, whatever the sizes are. It must be declared before the
+family that it is passed to.
 ";
 
 /// The options that list, qasm and draw share.

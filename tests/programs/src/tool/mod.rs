@@ -183,7 +183,7 @@ fn draw_program(options: &Options, input: &mut dyn Read) -> Answer<Done> {
     let asked = Asked::read(options, input)?;
     let (outcome, records) = asked.answer(options, reference::run, reference::instance);
     let mut drawing = String::new();
-    if !matches!(outcome.number, 1..=23 | 31) {
+    if !matches!(outcome.number, 1..=23 | 31 | 33 | 34) {
         let fields = &asked.program.fields;
         let rows = match asked.family {
             None => draw::registers(fields),
@@ -236,7 +236,7 @@ fn note(program: &Loaded, options: &Options, outcome: &Outcome) -> Option<String
     }
     let file = shown(&options.file);
     let place = usize::try_from(outcome.place).unwrap_or(usize::MAX);
-    let placed = !matches!(number, 1 | 20..=22);
+    let placed = !matches!(number, 1 | 20..=22 | 34);
     let spot = program.spots.of(place).filter(|_| placed);
     let spoken = format!("{number}: {}", meaning(number));
     let mut said = match spot {

@@ -1,6 +1,7 @@
 //! Running the `mqasm` program as people call it.
 #![allow(dead_code)]
 
+use programs::meaning;
 use std::io::Write;
 use std::path::PathBuf;
 use std::process::{Command, Output, Stdio};
@@ -62,6 +63,20 @@ pub fn not_shown(text: &str, details: &str) {
     let second = lines.lines().nth(1).unwrap_or_default();
     assert!(lines.contains(": 12: "), "{text}: {lines}");
     assert_eq!(second.trim_start(), details, "{text}");
+}
+
+/// Shows where a text is refused, with which number, and what is said to mend.
+pub fn mend(text: &str, spot: &str, end: &str, number: u32, details: &str) {
+    let sentence = meaning(number);
+    let message = format!("mqasm: standard input:{spot}: {number}: {sentence}\n  {details}\n");
+    gives(&["check", "-"], text, 1, end, &message);
+}
+
+/// Shows what is said of an operand of the wrong kind.
+pub fn kind(text: &str, details: &str) {
+    let found = tool(&["check", "-"], text.as_bytes());
+    assert!(said(&found).contains(": 9: "), "{text}");
+    assert!(said(&found).ends_with(&format!("  {details}\n")), "{text}");
 }
 
 /// A file of a test's own, which is removed again.

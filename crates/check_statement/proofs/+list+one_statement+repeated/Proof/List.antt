@@ -12,8 +12,7 @@ use Rattle.language.specs.Check.{checkStatements}
 use Rattle.fields.specs.Header.{fieldsAt}
 use Rattle.fields.proofs.Headers.{when-whole, when-end, when-cut}
 use Rattle.check_index.specs.Answers.{checkedPart}
-use Rattle.check_operand.specs.Tables.{tabulated}
-use Rattle.check_call.specs.Calls.{scopeFull, signatureAt}
+use Rattle.check_call.specs.Calls.{scopeFull}
 use Rattle.check_statement.proofs.Statements.{stated, list-end, list-cut, list-next}
 use Rattle.check_index.proofs.Answers.{part-stops, part-went}
 
@@ -44,7 +43,6 @@ module _ (t : ℕ) where
       let a = c .before .before .before .before .before .before .args in
       let program = now (a .program) in
       let s = scopeFull (a .s) (now (a .families)) (now (a .kinds)) (now (a .sizes)) (now (a .lows)) (now (a .highs)) in
-      let fs = tabulated (signatureAt (now (a .families)) (now (a .kinds)) (now (a .sizes))) (a .s .families) 0 in
       list-end (a .levels) program (c .before .before .before .loop .at) (a .to) s (when-end program (c .before .before .before .loop .at) (a .to) (c .before .before .before .before .before .before .pre .1 .0) (sym (c .before .before .header-at .ensures) ∙ c .enum-told .given .1)) ∙ sym (c .before .before .before .loop .inv)
 
   pub enum-told-2 : lts.Need-enum-told-2 (calls t) (at t) Post Inv-loop μ-loop
@@ -57,7 +55,6 @@ module _ (t : ℕ) where
       let a = c .before .before .before .before .before .before .args in
       let program = now (a .program) in
       let s = scopeFull (a .s) (now (a .families)) (now (a .kinds)) (now (a .sizes)) (now (a .lows)) (now (a .highs)) in
-      let fs = tabulated (signatureAt (now (a .families)) (now (a .kinds)) (now (a .sizes))) (a .s .families) 0 in
       list-cut (a .levels) program (c .before .before .before .loop .at) (a .to) s (when-cut program (c .before .before .before .loop .at) (a .to) (c .before .before .before .before .before .before .pre .1 .0) (sym (c .before .before .header-at .ensures) ∙ c .enum-told2 .given .1)) ∙ sym (c .before .before .before .loop .inv)
 
   pub enum-known-tag : lts.Need-enum-known-tag (calls t) (at t) Post Inv-loop μ-loop
@@ -69,7 +66,6 @@ module _ (t : ℕ) where
       let a = c .before .before .before .before .before .before .before .args in
       let program = now (a .program) in
       let s = scopeFull (a .s) (now (a .families)) (now (a .kinds)) (now (a .sizes)) (now (a .lows)) (now (a .highs)) in
-      let fs = tabulated (signatureAt (now (a .families)) (now (a .kinds)) (now (a .sizes))) (a .s .families) 0 in
       let tag = c .before .tag .given .0 .0 in
       let next = c .before .tag .given .0 .1 .0 in
       let w = when-whole program (c .before .before .before .before .loop .at) (a .to) tag next (c .before .before .before .before .before .before .before .pre .1 .0) (sym (c .before .before .before .header-at .ensures) ∙ c .before .tag .given .1) in
@@ -92,7 +88,6 @@ module _ (t : ℕ) where
       let a = c .before .before .before .before .before .before .before .before .before .before .args in
       let program = now (a .program) in
       let s = scopeFull (a .s) (now (a .families)) (now (a .kinds)) (now (a .sizes)) (now (a .lows)) (now (a .highs)) in
-      let fs = tabulated (signatureAt (now (a .families)) (now (a .kinds)) (now (a .sizes))) (a .s .families) 0 in
       let tag = c .before .before .before .before .tag .given .0 .0 in
       let next = c .before .before .before .before .tag .given .0 .1 .0 in
       let w = when-whole program (c .before .before .before .before .before .before .before .loop .at) (a .to) tag next (c .before .before .before .before .before .before .before .before .before .before .pre .1 .0) (sym (c .before .before .before .before .before .before .header-at .ensures) ∙ c .before .before .before .before .tag .given .1) in
@@ -107,7 +102,6 @@ module _ (t : ℕ) where
       let a = c .before .before .before .before .before .before .before .before .before .before .args in
       let program = now (a .program) in
       let s = scopeFull (a .s) (now (a .families)) (now (a .kinds)) (now (a .sizes)) (now (a .lows)) (now (a .highs)) in
-      let fs = tabulated (signatureAt (now (a .families)) (now (a .kinds)) (now (a .sizes))) (a .s .families) 0 in
       let tag = c .before .before .before .before .tag .given .0 .0 in
       let next = c .before .before .before .before .tag .given .0 .1 .0 in
       let w = when-whole program (c .before .before .before .before .before .before .before .loop .at) (a .to) tag next (c .before .before .before .before .before .before .before .before .before .before .pre .1 .0) (sym (c .before .before .before .before .before .before .header-at .ensures) ∙ c .before .before .before .before .tag .given .1) in
@@ -121,7 +115,6 @@ module _ (t : ℕ) where
       let a = c .before .before .before .before .before .before .before .before .before .before .args in
       let program = now (a .program) in
       let s = scopeFull (a .s) (now (a .families)) (now (a .kinds)) (now (a .sizes)) (now (a .lows)) (now (a .highs)) in
-      let fs = tabulated (signatureAt (now (a .families)) (now (a .kinds)) (now (a .sizes))) (a .s .families) 0 in
       let tag = c .before .before .before .before .tag .given .0 .0 in
       let next = c .before .before .before .before .tag .given .0 .1 .0 in
       let w = when-whole program (c .before .before .before .before .before .before .before .loop .at) (a .to) tag next (c .before .before .before .before .before .before .before .before .before .before .pre .1 .0) (sym (c .before .before .before .before .before .before .header-at .ensures) ∙ c .before .before .before .before .tag .given .1) in

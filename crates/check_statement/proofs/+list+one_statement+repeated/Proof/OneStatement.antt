@@ -1,5 +1,5 @@
 -- What the borrow checker leaves of `one-statement`. Assumes nothing.
-use Prim.Native.Nat.{ℕ, _+_, _-_}
+use Prim.Native.Nat.{ℕ, _+_}
 use Rattle.check_statement.proofs.+list+one_statement+repeated.Lts-one_statement as lts
 use Rattle.check_statement.proofs.one_statement.Reads.{Post}
 use Rattle.check_statement.proofs.+list+one_statement+repeated.Proof.Shared.{one-statement-calls as calls, one-statement-at as at}
@@ -9,8 +9,7 @@ use borrow.Author.Needs.{needs}
 use denote.Ref.{now}
 use Rattle.fields.specs.Header.{fieldsAt}
 use Rattle.check_index.specs.Answers.{checkedPart}
-use Rattle.check_operand.specs.Tables.{tabulated}
-use Rattle.check_call.specs.Calls.{scopeFull, signatureAt}
+use Rattle.check_call.specs.Calls.{knownIn, scopeFull}
 use Rattle.language.specs.Read.{gateOf, cxOf}
 use Rattle.language.specs.Check.{checkStatement}
 use Rattle.check_statement.proofs.Statements.{statement-deep, statement-acts}
@@ -29,7 +28,6 @@ module _ (t : ℕ) where
       let a = c .before .before .before .before .args in
       let program = now (a .program) in
       let s = scopeFull (a .s) (now (a .families)) (now (a .kinds)) (now (a .sizes)) (now (a .lows)) (now (a .highs)) in
-      let fs = tabulated (signatureAt (now (a .families)) (now (a .kinds)) (now (a .sizes))) (a .s .families) 0 in
       statement-deep (a .levels) (a .at) (a .tag) (a .next) program s (c .too-deep .result) (c .too-deep .ensures (a .at) (slice (a .at + 3) (a .next) program)) (c .before .if1 .taken)
 
   pub sub-below : lts.Need-sub-below (calls t) (at t) Post
@@ -112,8 +110,8 @@ module _ (t : ℕ) where
       let a = c .before .before .before .before .before .before .before .before .before .args in
       let program = now (a .program) in
       let s = scopeFull (a .s) (now (a .families)) (now (a .kinds)) (now (a .sizes)) (now (a .lows)) (now (a .highs)) in
-      let fs = tabulated (signatureAt (now (a .families)) (now (a .kinds)) (now (a .sizes))) (a .s .families) 0 in
-      c .one-wire .ensures .0 fs ∙ statement-acts (a .levels) (a .at) (a .tag) (a .next) program s Gate (c .before .before .before .before .before .before .if1 .left) (c .before .before .before .before .before .statement-tag .result) (c .before .before .before .before .before .statement-tag .ensures) (c .before .before .before .enum-told .given .1)
+      let known = knownIn (now (a .families)) (now (a .kinds)) (now (a .sizes)) in
+      c .one-wire .ensures .0 known ∙ statement-acts (a .levels) (a .at) (a .tag) (a .next) program s Gate (c .before .before .before .before .before .before .if1 .left) (c .before .before .before .before .before .statement-tag .result) (c .before .before .before .before .before .statement-tag .ensures) (c .before .before .before .enum-told .given .1)
 
   pub returns-3 : lts.Need-returns-3 (calls t) (at t) Post
   unfolding checkStatement cxOf fieldsAt
@@ -121,8 +119,8 @@ module _ (t : ℕ) where
       let a = c .before .before .before .before .before .before .before .before .before .args in
       let program = now (a .program) in
       let s = scopeFull (a .s) (now (a .families)) (now (a .kinds)) (now (a .sizes)) (now (a .lows)) (now (a .highs)) in
-      let fs = tabulated (signatureAt (now (a .families)) (now (a .kinds)) (now (a .sizes))) (a .s .families) 0 in
-      c .two-wires .ensures fs ∙ statement-acts (a .levels) (a .at) (a .tag) (a .next) program s Cx (c .before .before .before .before .before .before .if1 .left) (c .before .before .before .before .before .statement-tag .result) (c .before .before .before .before .before .statement-tag .ensures) (c .before .before .before .enum-told2 .given .1)
+      let known = knownIn (now (a .families)) (now (a .kinds)) (now (a .sizes)) in
+      c .two-wires .ensures known ∙ statement-acts (a .levels) (a .at) (a .tag) (a .next) program s Cx (c .before .before .before .before .before .before .if1 .left) (c .before .before .before .before .before .statement-tag .result) (c .before .before .before .before .before .statement-tag .ensures) (c .before .before .before .enum-told2 .given .1)
 
   pub returns-4 : lts.Need-returns-4 (calls t) (at t) Post
   unfolding fieldsAt
@@ -130,8 +128,8 @@ module _ (t : ℕ) where
       let a = c .before .before .before .before .before .before .before .before .before .args in
       let program = now (a .program) in
       let s = scopeFull (a .s) (now (a .families)) (now (a .kinds)) (now (a .sizes)) (now (a .lows)) (now (a .highs)) in
-      let fs = tabulated (signatureAt (now (a .families)) (now (a .kinds)) (now (a .sizes))) (a .s .families) 0 in
-      c .phase .ensures fs ∙ statement-acts (a .levels) (a .at) (a .tag) (a .next) program s Phase (c .before .before .before .before .before .before .if1 .left) (c .before .before .before .before .before .statement-tag .result) (c .before .before .before .before .before .statement-tag .ensures) (c .before .before .before .enum-told3 .given .1)
+      let known = knownIn (now (a .families)) (now (a .kinds)) (now (a .sizes)) in
+      c .phase .ensures known ∙ statement-acts (a .levels) (a .at) (a .tag) (a .next) program s Phase (c .before .before .before .before .before .before .if1 .left) (c .before .before .before .before .before .statement-tag .result) (c .before .before .before .before .before .statement-tag .ensures) (c .before .before .before .enum-told3 .given .1)
 
   pub returns-5 : lts.Need-returns-5 (calls t) (at t) Post
   unfolding fieldsAt
@@ -139,15 +137,14 @@ module _ (t : ℕ) where
       let a = c .before .before .before .before .before .before .before .before .before .args in
       let program = now (a .program) in
       let s = scopeFull (a .s) (now (a .families)) (now (a .kinds)) (now (a .sizes)) (now (a .lows)) (now (a .highs)) in
-      let fs = tabulated (signatureAt (now (a .families)) (now (a .kinds)) (now (a .sizes))) (a .s .families) 0 in
-      c .cphase .ensures fs ∙ statement-acts (a .levels) (a .at) (a .tag) (a .next) program s Cphase (c .before .before .before .before .before .before .if1 .left) (c .before .before .before .before .before .statement-tag .result) (c .before .before .before .before .before .statement-tag .ensures) (c .before .before .before .enum-told4 .given .1)
+      let known = knownIn (now (a .families)) (now (a .kinds)) (now (a .sizes)) in
+      c .cphase .ensures known ∙ statement-acts (a .levels) (a .at) (a .tag) (a .next) program s Cphase (c .before .before .before .before .before .before .if1 .left) (c .before .before .before .before .before .statement-tag .result) (c .before .before .before .before .before .statement-tag .ensures) (c .before .before .before .enum-told4 .given .1)
 
   pub returns-6 : lts.Need-returns-6 (calls t) (at t) Post
   returns-6 c =
       let a = c .before .before .before .before .before .before .before .before .before .args in
       let program = now (a .program) in
       let s = scopeFull (a .s) (now (a .families)) (now (a .kinds)) (now (a .sizes)) (now (a .lows)) (now (a .highs)) in
-      let fs = tabulated (signatureAt (now (a .families)) (now (a .kinds)) (now (a .sizes))) (a .s .families) 0 in
       c .call .ensures ∙ statement-acts (a .levels) (a .at) (a .tag) (a .next) program s Call (c .before .before .before .before .before .before .if1 .left) (c .before .before .before .before .before .statement-tag .result) (c .before .before .before .before .before .statement-tag .ensures) (c .before .before .before .enum-told5 .given .1)
 
   pub returns-7 : lts.Need-returns-7 (calls t) (at t) Post
@@ -156,7 +153,6 @@ module _ (t : ℕ) where
       let a = c .before .before .before .before .before .before .before .args in
       let program = now (a .program) in
       let s = scopeFull (a .s) (now (a .families)) (now (a .kinds)) (now (a .sizes)) (now (a .lows)) (now (a .highs)) in
-      let fs = tabulated (signatureAt (now (a .families)) (now (a .kinds)) (now (a .sizes))) (a .s .families) 0 in
       c .list .ensures ∙ statement-acts (a .levels) (a .at) (a .tag) (a .next) program s Reverse (c .before .before .before .before .if1 .left) (c .before .before .before .statement-tag .result) (c .before .before .before .statement-tag .ensures) (c .before .enum-told6 .given .1)
 
   pub returns-8 : lts.Need-returns-8 (calls t) (at t) Post
@@ -165,7 +161,6 @@ module _ (t : ℕ) where
       let a = c .before .before .before .before .before .before .before .args in
       let program = now (a .program) in
       let s = scopeFull (a .s) (now (a .families)) (now (a .kinds)) (now (a .sizes)) (now (a .lows)) (now (a .highs)) in
-      let fs = tabulated (signatureAt (now (a .families)) (now (a .kinds)) (now (a .sizes))) (a .s .families) 0 in
       c .repeated .ensures ∙ statement-acts (a .levels) (a .at) (a .tag) (a .next) program s For (c .before .before .before .before .if1 .left) (c .before .before .before .statement-tag .result) (c .before .before .before .statement-tag .ensures) (c .before .enum-told7 .given .1)
 
   pub returns-9 : lts.Need-returns-9 (calls t) (at t) Post
@@ -174,5 +169,4 @@ module _ (t : ℕ) where
       let a = c .before .before .before .before .before .before .args in
       let program = now (a .program) in
       let s = scopeFull (a .s) (now (a .families)) (now (a .kinds)) (now (a .sizes)) (now (a .lows)) (now (a .highs)) in
-      let fs = tabulated (signatureAt (now (a .families)) (now (a .kinds)) (now (a .sizes))) (a .s .families) 0 in
       statement-acts (a .levels) (a .at) (a .tag) (a .next) program s S.Other (c .before .before .before .if1 .left) (c .before .before .statement-tag .result) (c .before .before .statement-tag .ensures) (c .enum-told8 .given .1)

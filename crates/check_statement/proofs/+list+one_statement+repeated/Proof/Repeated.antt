@@ -12,7 +12,7 @@ use Rattle.language.specs.Check.{checkStatements, inLoop}
 use Rattle.fields.specs.Header.{fieldsAt}
 use Rattle.check_index.specs.Answers.{checkedPart}
 use Rattle.check_operand.specs.Tables.{tabulated, kindsAt, scopeWith}
-use Rattle.check_call.specs.Calls.{scopeFull, signatureAt}
+use Rattle.check_call.specs.Calls.{knownIn, scopeFull}
 use mathlib.Core.List.{List}
 use lib.ListN.{length}
 use Rattle.language.specs.Form.{Loop}
@@ -28,7 +28,6 @@ module _ (t : ℕ) where
       let a = c .before .before .before .args in
       let program = now (a .program) in
       let s = scopeFull (a .s) (now (a .families)) (now (a .kinds)) (now (a .sizes)) (now (a .lows)) (now (a .highs)) in
-      let fs = tabulated (signatureAt (now (a .families)) (now (a .kinds)) (now (a .sizes))) (a .s .families) 0 in
       let n = a .s .loops in
       let long = length-loops n (now (a .lows)) (now (a .highs)) in
       for-many (readStatement (a .levels)) s program (a .at) (a .at + 3) (a .next) (let z = c .if1 .taken in omega arith)
@@ -66,9 +65,10 @@ module _ (t : ℕ) where
       let a = c .before .before .before .before .before .before .before .before .before .args in
       let program = now (a .program) in
       let s = scopeFull (a .s) (now (a .families)) (now (a .kinds)) (now (a .sizes)) (now (a .lows)) (now (a .highs)) in
-      let fs = tabulated (signatureAt (now (a .families)) (now (a .kinds)) (now (a .sizes))) (a .s .families) 0 in
+      let known = knownIn (now (a .families)) (now (a .kinds)) (now (a .sizes)) in
+      let fs = tabulated (known .declared) (a .s .families) 0 in
       let n = a .s .loops in
-      let ks = kindsAt (a .s .count) (a .s .first) (now (a .kinds)) (now (a .sizes)) in
+      let ks = kindsAt (known .formals) (a .s .count) (a .s .first) (now (a .kinds)) (now (a .sizes)) in
       let long = length-loops n (now (a .lows)) (now (a .highs)) in
       let l = c .before .before .two-indexes .last .1 .1 .1 .1 .1 .0 in
       let h = c .before .before .two-indexes .last .1 .1 .1 .1 .1 .1 .0 in
@@ -96,15 +96,9 @@ module _ (t : ℕ) where
   list-requires c κs =
       let a = c .before .before .before .before .before .before .before .before .before .before .before .before .before .before .args in
       let program = now (a .program) in
-      let s = scopeFull (a .s) (now (a .families)) (now (a .kinds)) (now (a .sizes)) (now (a .lows)) (now (a .highs)) in
-      let fs = tabulated (signatureAt (now (a .families)) (now (a .kinds)) (now (a .sizes))) (a .s .families) 0 in
       let n = a .s .loops in
-      let ks = kindsAt (a .s .count) (a .s .first) (now (a .kinds)) (now (a .sizes)) in
-      let long = length-loops n (now (a .lows)) (now (a .highs)) in
       let l = c .before .before .before .before .before .before .before .two-indexes .last .1 .1 .1 .1 .1 .0 in
       let h = c .before .before .before .before .before .before .before .two-indexes .last .1 .1 .1 .1 .1 .1 .0 in
-      let e = c .before .before .before .before .before .before .before .two-indexes .ensures .0 ∙ bounds-same fs ks (a .s .variables) n (now (a .lows)) (now (a .highs)) (a .at) (fieldsAt program (a .at + 3) (a .next)) in
-      let few : length (loopsOf n (now (a .lows)) (now (a .highs))) < 8 = (let z = c .before .before .before .before .before .before .before .before .before .before .before .if1 .left in omega arith) in
       let mid = c .before .before .before .before .before .r .given .0 .0 in
       let v = bounds-upto program (a .at + 3) (a .next) (c .before .before .before .before .before .before .before .two-indexes .result) l h mid (c .before .before .before .before .before .r .given .1) (c .before .before .before .before .before .before .before .two-indexes .ensures .1) in
       let r = c .before .before .before .before .before .before .before .before .before .before .before .before .before .before .pre .1 .1 .0 in
@@ -115,7 +109,7 @@ module _ (t : ℕ) where
           c .before .before .before .before .before .before .before .before .before .before .before .before .before .before .pre .1 .0 .1,
           (
             record { few = r .few; nested = omega arith; kindRows = r .kindRows; sizeRows = r .sizeRows; named = r .named; lowRows = rows-set (now (a .lows)) 8 n l (r .lowRows) (v .1); highRows = rows-set (now (a .highs)) 8 n h (r .highRows) (v .2) },
-            record { enough = d .enough; each = d .each },
+            record { few = d .few; rows = d .rows },
           ),
         ),
       )
@@ -126,9 +120,10 @@ module _ (t : ℕ) where
       let a = c .before .before .before .before .before .before .before .before .before .before .before .before .before .before .before .args in
       let program = now (a .program) in
       let s = scopeFull (a .s) (now (a .families)) (now (a .kinds)) (now (a .sizes)) (now (a .lows)) (now (a .highs)) in
-      let fs = tabulated (signatureAt (now (a .families)) (now (a .kinds)) (now (a .sizes))) (a .s .families) 0 in
+      let known = knownIn (now (a .families)) (now (a .kinds)) (now (a .sizes)) in
+      let fs = tabulated (known .declared) (a .s .families) 0 in
       let n = a .s .loops in
-      let ks = kindsAt (a .s .count) (a .s .first) (now (a .kinds)) (now (a .sizes)) in
+      let ks = kindsAt (known .formals) (a .s .count) (a .s .first) (now (a .kinds)) (now (a .sizes)) in
       let long = length-loops n (now (a .lows)) (now (a .highs)) in
       let l = c .before .before .before .before .before .before .before .before .two-indexes .last .1 .1 .1 .1 .1 .0 in
       let h = c .before .before .before .before .before .before .before .before .two-indexes .last .1 .1 .1 .1 .1 .1 .0 in

@@ -3,7 +3,7 @@ use Prim.Native.Nat.{ℕ, _-_, _<_}
 use Rattle.unroller.proofs.+run_call+run_list+run_rounds+run_statement.Lts-run_call as lts
 use Rattle.unroller.proofs.run_call.Reads.{Post}
 use Rattle.unroller.proofs.+run_call+run_list+run_rounds+run_statement.Proof.Shared.{run-call-calls as calls, run-call-at as at}
-use mathlib.Core.Path.{_≡_, refl, ap, _∙_, sym}
+use mathlib.Core.Path.{_≡_, refl, ap, _∙_}
 use mathlib.Core.List.{List}
 use native.Mathlib.Omega.{arith}
 use borrow.Author.Needs.{needs}
@@ -20,15 +20,12 @@ use Rattle.calls.specs.Arguments.{Arguments}
 use Rattle.calls.proofs.CallByNumber.{head-of}
 use Rattle.calls.proofs.FamilyTable.{tabled-fewer}
 use Rattle.unroller.specs.Runs.{Often, oneRun}
-use Rattle.language.proofs.Integers.{clash}
-use Rattle.fields.specs.declared.Named.the-variants.{Family}
-use Rattle.fields.specs.CallNumber.{namedIn}
-use Rattle.gates.proofs.CallNames.{nameless-bad}
-use Rattle.unroller.proofs.Bodies.{call-none, call-over, call-stuck, call-begins, call-all}
+use Rattle.unroller.specs.CalledFamilies.{CallsFamily}
+use Rattle.unroller.proofs.Bodies.{calls-family, calls-none, call-nothing, call-none, call-over, call-stuck, call-begins, call-all}
 
 module _ (t : ℕ) where
-  pub family-named-requires : lts.Need-family-named-requires (calls t) (at t) Post
-  family-named-requires c κs =
+  pub called-family-requires : lts.Need-called-family-requires (calls t) (at t) Post
+  called-family-requires c κs =
       (c .before .before .before .pre .1 .0 .order, c .before .before .before .pre .1 .0 .within)
 
   pub enum-known-number : lts.Need-enum-known-number (calls t) (at t) Post
@@ -46,7 +43,11 @@ module _ (t : ℕ) where
       let ready = c .before .before .before .before .before .before .pre .1 .0 in
       let en = c .before .before .before .before .before .before .pre .1 .1 .1 .1 .0 in
       let is = c .before .before .before .before .before .before .pre .1 .1 .1 .1 .1 in
-      (λ s q. absurd (clash (sym (nameless-bad (a .tag) (slice (a .from) (a .to) l) is (a .from) _ (sym (c .before .before .family-named .ensures) ∙ c .enum-told .given .1)) ∙ en .named)))
+      let g = now (a .program) in
+      let vs = take (a .mode .variables) (now (a .vars)) in
+      let room = length (now (a .out)) in
+      let none = calls-none (a .tag) (a .from) (slice (a .from) (a .to) l) (operandsOf (a .scope) (now (a .regs))) (c .before .before .called-family .result) (c .before .before .called-family .ensures) (c .enum-told .given .1) in
+      (λ s q. does-as _ _ _ _ _ (oneRun (a .mode) room (a .place) (a .tag) (slice (a .from) (a .to) l) g (frameIn (a .mode) vs (a .scope) (now (a .regs)))) (call-nothing (a .mode) room (a .base) (a .from) (a .to) (a .place) (a .tag) l g vs (a .scope) (now (a .regs)) ready (en .deep) is (en .named) none) (step-taken (a .mode .limit) room (now (a .out)) s (a .st) (a .place) _ _ _ (q .step .left) (q .step .same) (q .step .more) (does-stuck (now (a .out)) (a .st) _)))
 
   pub returns-2 : lts.Need-returns-2 (calls t) (at t) Post
   returns-2 c =
@@ -61,7 +62,7 @@ module _ (t : ℕ) where
       let tb = c .before .before .before .before .before .before .before .before .before .pre .1 .1 .1 .0 in
       let k = c .before .before .before .number .given .0 .0 in
       let first = c .before .before .before .number .given .0 .1 .0 in
-      let named : namedIn (a .tag) (a .from) (slice (a .from) (a .to) l) ≡ Family k first = sym (c .before .before .before .before .before .family-named .ensures) ∙ c .before .before .before .number .given .1 in
+      let named : CallsFamily (a .tag) (a .from) (slice (a .from) (a .to) l) (operandsOf (a .scope) (now (a .regs))) k first = calls-family _ _ _ _ (c .before .before .before .before .before .called-family .result) (c .before .before .before .before .before .called-family .ensures) k first (c .before .before .before .number .given .1) in
       (λ s q. does-as _ _ _ _ _ (oneRun (a .mode) room (a .place) (a .tag) (slice (a .from) (a .to) l) g (frameIn (a .mode) vs (a .scope) (now (a .regs)))) (call-none (a .mode) room (a .base) (a .from) (a .to) (a .place) (a .tag) l g vs (a .scope) (now (a .regs)) ready (en .deep) is k first named (c .if1 .taken)) (step-taken (a .mode .limit) room (now (a .out)) s (a .st) (a .place) _ _ _ (q .step .left) (q .step .same) (q .step .more) (does-stuck (now (a .out)) (a .st) _)))
 
   pub listed-requires : lts.Need-listed-requires (calls t) (at t) Post
@@ -110,7 +111,7 @@ module _ (t : ℕ) where
       let tb = c .before .before .before .before .before .before .before .before .before .before .before .before .before .before .before .before .before .before .pre .1 .1 .1 .0 in
       let k = c .before .before .before .before .before .before .before .before .before .before .before .before .number .given .0 .0 in
       let first = c .before .before .before .before .before .before .before .before .before .before .before .before .number .given .0 .1 .0 in
-      let named : namedIn (a .tag) (a .from) (slice (a .from) (a .to) l) ≡ Family k first = sym (c .before .before .before .before .before .before .before .before .before .before .before .before .before .before .family-named .ensures) ∙ c .before .before .before .before .before .before .before .before .before .before .before .before .number .given .1 in
+      let named : CallsFamily (a .tag) (a .from) (slice (a .from) (a .to) l) (operandsOf (a .scope) (now (a .regs))) k first = calls-family _ _ _ _ (c .before .before .before .before .before .before .before .before .before .before .before .before .before .before .called-family .result) (c .before .before .before .before .before .before .before .before .before .before .before .before .before .before .called-family .ensures) k first (c .before .before .before .before .before .before .before .before .before .before .before .before .number .given .1) in
       let below : k < a .mode .«families_visible» = c .before .before .before .before .before .before .before .before .before .if1 .left in
       let at = c .before .before .before .before .before .before .before .listed .result in
       let e : Entry g k at = rw (c .before .before .before .before .before .before .before .listed .ensures) (tb .each k below) in
@@ -160,7 +161,7 @@ module _ (t : ℕ) where
       let tb = c .before .before .before .before .before .before .before .before .before .before .before .before .before .before .before .before .before .before .before .before .before .before .before .before .before .pre .1 .1 .1 .0 in
       let k = c .before .before .before .before .before .before .before .before .before .before .before .before .before .before .before .before .before .before .before .number .given .0 .0 in
       let first = c .before .before .before .before .before .before .before .before .before .before .before .before .before .before .before .before .before .before .before .number .given .0 .1 .0 in
-      let named : namedIn (a .tag) (a .from) (slice (a .from) (a .to) l) ≡ Family k first = sym (c .before .before .before .before .before .before .before .before .before .before .before .before .before .before .before .before .before .before .before .before .before .family-named .ensures) ∙ c .before .before .before .before .before .before .before .before .before .before .before .before .before .before .before .before .before .before .before .number .given .1 in
+      let named : CallsFamily (a .tag) (a .from) (slice (a .from) (a .to) l) (operandsOf (a .scope) (now (a .regs))) k first = calls-family _ _ _ _ (c .before .before .before .before .before .before .before .before .before .before .before .before .before .before .before .before .before .before .before .before .before .called-family .result) (c .before .before .before .before .before .before .before .before .before .before .before .before .before .before .before .before .before .before .before .before .before .called-family .ensures) k first (c .before .before .before .before .before .before .before .before .before .before .before .before .before .before .before .before .before .before .before .number .given .1) in
       let below : k < a .mode .«families_visible» = c .before .before .before .before .before .before .before .before .before .before .before .before .before .before .before .before .if1 .left in
       let at = c .before .before .before .before .before .before .before .before .before .before .before .before .before .before .listed .result in
       let e : Entry g k at = rw (c .before .before .before .before .before .before .before .before .before .before .before .before .before .before .listed .ensures) (tb .each k below) in
@@ -185,7 +186,7 @@ module _ (t : ℕ) where
       let tb = c .before .before .before .before .before .before .before .before .before .before .before .before .before .before .before .before .before .pre .1 .1 .1 .0 in
       let k = c .before .before .before .before .before .before .before .before .before .before .before .number .given .0 .0 in
       let first = c .before .before .before .before .before .before .before .before .before .before .before .number .given .0 .1 .0 in
-      let named : namedIn (a .tag) (a .from) (slice (a .from) (a .to) l) ≡ Family k first = sym (c .before .before .before .before .before .before .before .before .before .before .before .before .before .family-named .ensures) ∙ c .before .before .before .before .before .before .before .before .before .before .before .number .given .1 in
+      let named : CallsFamily (a .tag) (a .from) (slice (a .from) (a .to) l) (operandsOf (a .scope) (now (a .regs))) k first = calls-family _ _ _ _ (c .before .before .before .before .before .before .before .before .before .before .before .before .before .called-family .result) (c .before .before .before .before .before .before .before .before .before .before .before .before .before .called-family .ensures) k first (c .before .before .before .before .before .before .before .before .before .before .before .number .given .1) in
       let below : k < a .mode .«families_visible» = c .before .before .before .before .before .before .before .before .if1 .left in
       let at = c .before .before .before .before .before .before .listed .result in
       let e : Entry g k at = rw (c .before .before .before .before .before .before .listed .ensures) (tb .each k below) in
@@ -205,7 +206,7 @@ module _ (t : ℕ) where
       let tb = c .before .before .before .before .before .before .before .before .before .before .before .before .before .before .before .before .before .pre .1 .1 .1 .0 in
       let k = c .before .before .before .before .before .before .before .before .before .before .before .number .given .0 .0 in
       let first = c .before .before .before .before .before .before .before .before .before .before .before .number .given .0 .1 .0 in
-      let named : namedIn (a .tag) (a .from) (slice (a .from) (a .to) l) ≡ Family k first = sym (c .before .before .before .before .before .before .before .before .before .before .before .before .before .family-named .ensures) ∙ c .before .before .before .before .before .before .before .before .before .before .before .number .given .1 in
+      let named : CallsFamily (a .tag) (a .from) (slice (a .from) (a .to) l) (operandsOf (a .scope) (now (a .regs))) k first = calls-family _ _ _ _ (c .before .before .before .before .before .before .before .before .before .before .before .before .before .called-family .result) (c .before .before .before .before .before .before .before .before .before .before .before .before .before .called-family .ensures) k first (c .before .before .before .before .before .before .before .before .before .before .before .number .given .1) in
       let below : k < a .mode .«families_visible» = c .before .before .before .before .before .before .before .before .if1 .left in
       let at = c .before .before .before .before .before .before .listed .result in
       let e : Entry g k at = rw (c .before .before .before .before .before .before .listed .ensures) (tb .each k below) in
@@ -229,7 +230,7 @@ module _ (t : ℕ) where
       let tb = c .before .before .before .before .before .before .before .before .before .before .before .before .before .before .before .before .before .before .before .before .before .before .before .before .before .before .before .before .pre .1 .1 .1 .0 in
       let k = c .before .before .before .before .before .before .before .before .before .before .before .before .before .before .before .before .before .before .before .before .before .before .number .given .0 .0 in
       let first = c .before .before .before .before .before .before .before .before .before .before .before .before .before .before .before .before .before .before .before .before .before .before .number .given .0 .1 .0 in
-      let named : namedIn (a .tag) (a .from) (slice (a .from) (a .to) l) ≡ Family k first = sym (c .before .before .before .before .before .before .before .before .before .before .before .before .before .before .before .before .before .before .before .before .before .before .before .before .family-named .ensures) ∙ c .before .before .before .before .before .before .before .before .before .before .before .before .before .before .before .before .before .before .before .before .before .before .number .given .1 in
+      let named : CallsFamily (a .tag) (a .from) (slice (a .from) (a .to) l) (operandsOf (a .scope) (now (a .regs))) k first = calls-family _ _ _ _ (c .before .before .before .before .before .before .before .before .before .before .before .before .before .before .before .before .before .before .before .before .before .before .before .before .called-family .result) (c .before .before .before .before .before .before .before .before .before .before .before .before .before .before .before .before .before .before .before .before .before .before .before .before .called-family .ensures) k first (c .before .before .before .before .before .before .before .before .before .before .before .before .before .before .before .before .before .before .before .before .before .before .number .given .1) in
       let below : k < a .mode .«families_visible» = c .before .before .before .before .before .before .before .before .before .before .before .before .before .before .before .before .before .before .before .if1 .left in
       let at = c .before .before .before .before .before .before .before .before .before .before .before .before .before .before .before .before .before .listed .result in
       let e : Entry g k at = rw (c .before .before .before .before .before .before .before .before .before .before .before .before .before .before .before .before .before .listed .ensures) (tb .each k below) in

@@ -64,7 +64,7 @@ module _ (t : ℕ) where
       let s = c .before .before .before .before .before .before .before .before .r .given .0 .0 in
       let q : StepTaken (a .mode) (a .tag) l (a .st) s = one-steps (a .mode) (a .tag) l (a .place) (a .st) s (c .before .before .before .before .before .before .before .before .before .before .enter .result) (c .before .before .before .before .before .before .before .before .before .before .enter .ensures) (c .before .before .before .before .before .before .before .before .r .given .1) in
       let w = q .enterable in (
-        does-as _ _ _ _ _ (oneRun (a .mode) room (a .place) (a .tag) l g f) (one-acts (a .mode) room (a .place) (a .tag) l g f (w .deep) (w .low) (w .high) (sym (c .before .before .before .before .before .before .is-action .ensures) ∙ c .before .before .before .before .before .if1 .taken))
+        does-as _ _ _ _ _ (oneRun (a .mode) room (a .place) (a .tag) l g f) (one-acts (a .mode) room (a .place) (a .tag) l g f (w .deep) (w .low) (sym (c .before .before .before .before .before .before .is-action .ensures) ∙ c .before .before .before .before .before .if1 .taken))
             (step-taken (a .mode .limit) room (now (a .out)) (a .st) s (a .place) _ _ _ (q .step .left) (q .step .same) (q .step .more) (c .before .before .act .ensures)),
         refl,
       )
@@ -114,7 +114,7 @@ module _ (t : ℕ) where
       let s = c .before .before .before .before .before .before .before .r .given .0 .0 in
       let q : StepTaken (a .mode) (a .tag) l (a .st) s = one-steps (a .mode) (a .tag) l (a .place) (a .st) s (c .before .before .before .before .before .before .before .before .before .enter .result) (c .before .before .before .before .before .before .before .before .before .enter .ensures) (c .before .before .before .before .before .before .before .r .given .1) in
       let w = q .enterable in
-      (omega (arith, c .before .before .before .before .before .before .before .before .before .before .before .before .before .pre .0), (ready, (c .before .before .before .before .before .before .before .before .before .before .before .before .before .pre .1 .1 .0, (c .before .before .before .before .before .before .before .before .before .before .before .before .before .pre .1 .1 .1, (w, has-body (a .tag) (sym (c .before .before .before .before .before .is-action .ensures) ∙ c .before .before .before .before .if1 .left) (sym (c .before .before .before .is-call .ensures) ∙ c .before .before .if2 .left))))))
+      (omega (arith, c .before .before .before .before .before .before .before .before .before .before .before .before .before .pre .0), (ready, (c .before .before .before .before .before .before .before .before .before .before .before .before .before .pre .1 .1 .0, (c .before .before .before .before .before .before .before .before .before .before .before .before .before .pre .1 .1 .1, (w, has-body (a .tag) (w .high) (sym (c .before .before .before .before .before .is-action .ensures) ∙ c .before .before .before .before .if1 .left) (sym (c .before .before .before .is-call .ensures) ∙ c .before .before .if2 .left))))))
 
   pub same-length-3 : lts.Need-same-length-3 (calls t) (at t) Post
   same-length-3 c =

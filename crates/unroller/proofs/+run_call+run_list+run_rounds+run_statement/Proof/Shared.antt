@@ -21,7 +21,6 @@ use Rattle.field_walk.proofs.begin.Reads as begin-reads
 use Rattle.field_walk.proofs.passed.Reads as passed-reads
 use Rattle.field_walk.proofs.seek.Reads as seek-reads
 use Rattle.field_walk.proofs.whole.Reads as whole-reads
-use Rattle.fields.proofs.family_named.Reads as family-named-reads
 use Rattle.fields.proofs.header_at.Reads as header-at-reads
 use Rattle.fields.proofs.is_call.Reads as is-call-reads
 use Rattle.fields.proofs.wide.Reads as wide-reads
@@ -32,6 +31,7 @@ use Rattle.gates.proofs.repeats_of.Reads as repeats-of-reads
 use Rattle.phases.proofs.act.Reads as act-reads
 use Rattle.phases.proofs.is_action.Reads as is-action-reads
 use Rattle.unroller.proofs.begin_round.Reads as begin-round-reads
+use Rattle.unroller.proofs.called_family.Reads as called-family-reads
 use Rattle.unroller.proofs.inmost.Reads as inmost-reads
 use Rattle.unroller.proofs.listed.Reads as listed-reads
 
@@ -81,7 +81,7 @@ run-statement-below t = and
 
 -- what the calls of `run-call` ask and tell
 abbrev pub run-call-calls : ℕ → run-call-lts.Claims
-run-call-calls t = (family-named-reads.Asked, family-named-reads.Learnt, listed-reads.Asked, listed-reads.Learnt, wide-reads.Asked, wide-reads.Learnt, arguments-reads.Asked, arguments-reads.Learnt, body-of-reads.Asked, body-of-reads.Learnt, entered-reads.Asked, entered-reads.Learnt, scope-of-reads.Asked, scope-of-reads.Learnt, run-list-below t, run-list.Post)
+run-call-calls t = (called-family-reads.Asked, called-family-reads.Learnt, listed-reads.Asked, listed-reads.Learnt, wide-reads.Asked, wide-reads.Learnt, arguments-reads.Asked, arguments-reads.Learnt, body-of-reads.Asked, body-of-reads.Learnt, entered-reads.Asked, entered-reads.Learnt, scope-of-reads.Asked, scope-of-reads.Learnt, run-list-below t, run-list.Post)
 
 -- what the calls of `run-list` ask and tell
 abbrev pub run-list-calls : ℕ → run-list-lts.Claims

@@ -53,7 +53,7 @@ fn headers() -> Vec<Recorded> {
         row("one byte of a slice", "32", 2, SLICE_AT),
         row("two bytes of a slice", "32 0b", 2, SLICE_AT),
         row("a slice past the end", "32 0c 00 00", 2, SLICE_AT),
-        row("tag 51 for a slice", "33 01 00 00", 3, SLICE_AT),
+        row("tag 52 for a slice", "34 01 00 00", 3, SLICE_AT),
         row("tag 47 for a slice", "2f 01 00 00", 3, SLICE_AT),
         row("one byte of the first index", "32 02 00 00 40", 2, FIRST_AT),
         row(
