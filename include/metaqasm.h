@@ -74,11 +74,11 @@ extern "C" {
 /* The stack that a call needs at most, in KiB, for every program within the limits and beside what the host has in use there;
  * and what a check alone needs. On less, a deep program may end the process at the guard page below the stack. (The first
  * thread of a process usually has 8,192 KiB, as `ulimit -s` says; where that is not enough, calls are made on a thread that
- * is given more.) Both are measured with the deepest programs, which need 8,232 KiB, and 304 KiB for a check (`cargo run
+ * is given more.) Both are measured with the deepest programs, which need 8,232 KiB, and 400 KiB for a check (`cargo run
  * --release -p compare --bin stack` in tests prints the need beside these figures, and a test holds the library to them). The
- * check's tables lie there, too: 252 KiB, or 41 KiB for a program of at most 4,096 bytes. */
+ * check's tables lie there, too: 350 KiB, or 48 KiB for a program of at most 4,096 bytes. */
 #define METAQASM_STACK_KIB 8704
-#define METAQASM_CHECK_STACK_KIB 320
+#define METAQASM_CHECK_STACK_KIB 432
 
 /* Limits of a program; what goes past one is refused. A call names families 0 to 255 by one byte, and all others by two. */
 #define METAQASM_MOST_PROGRAM_BYTES 65535

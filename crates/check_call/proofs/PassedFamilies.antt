@@ -10,14 +10,13 @@ use lib.Dec.{eqb, ltb}
 use lib.IntN.{ℤ}
 use lib.ListN.{length, getD, getElem?}
 use lib.Seq.{slice}
-use borrow.Author.Tests.{eqb-true, eq-eqb, ne-eqb, lt-ltb, le-ltb}
+use borrow.Author.Tests.{eq-eqb, ne-eqb, lt-ltb, le-ltb}
 use types.Run.{OneOf, miss}
 use denote.Enum.Declared.{tagOf}
 use Rattle.language.specs.Tree.{Operand, whole, element, slice as sliceOperand, passed, badOperand}
-use Rattle.language.specs.Read.{Field, field, badHeader, twoBytes, choose, due, readWhole, readElement, elementOf, readSlice, sliceOf, readPassed, readOperand}
+use Rattle.language.specs.Read.{field, twoBytes, choose, due, readWhole, readElement, elementOf, readSlice, sliceOf, readPassed, readOperand}
 use Rattle.language.specs.Form.{Form, differenceOf}
-use Rattle.language.specs.Check.{Checked, good, refused, fine, require, inScope, _>>=_, _>>_, Formal, Kind, qubit, quantum, Signature, fitting, mustShow, sizeScope, taken, plainOf, signatureOf, plainSize, sameKind, sameKinds, sizeFits, sizesFit, familyFits, declaredBefore, checkOperand}
-use Rattle.language.proofs.Integers.{clash}
+use Rattle.language.specs.Check.{Checked, refused, fine, require, inScope, _>>=_, _>>_, Formal, Kind, Signature, fitting, mustShow, sizeScope, taken, plainOf, signatureOf, plainSize, sameKind, sameKinds, sizeFits, sizesFit, familyFits, declaredBefore, checkOperand}
 use Rattle.kinds.proofs.Kind.{the-type}
 use Rattle.kinds.specs.declared.Kind.the-variants.{Qubit, Quantum, Classical, Family}
 use Rattle.fields.specs.Header.{fieldsAt, headerOf, taggedIn}
@@ -29,9 +28,8 @@ use Rattle.check_operand.specs.Tables.{Formals, kindIn, kindOfRow, sizeOfRow, k
 use Rattle.check_operand.specs.Operands.{NoFamily, Answerable}
 use Rattle.check_operand.specs.declared.Wanted.{Wanted}
 use Rattle.check_operand.specs.declared.Wanted.the-variants.{Wire, Bit, Register, Family as Due}
-use Rattle.check_operand.proofs.Passed.{passed-cut, passed-beyond, passed-long, passed-good}
-use Rattle.check_operand.proofs.Tables.{length-rows}
-use Rattle.check_call.specs.Calls.{plainIn, plainBy, plainsAt, formalIn, signatureIn, callOperand, IsPlain}
+use Rattle.check_operand.proofs.Passed.{passed-long, passed-good}
+use Rattle.check_call.specs.Calls.{plainIn, plainsAt, formalIn, signatureIn, callOperand, IsPlain}
 use Rattle.forms.specs.Flat.{widened, asForm}
 use Rattle.kinds.specs.declared.Kind as K
 use Rattle.language.specs.Check as C

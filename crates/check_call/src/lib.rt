@@ -238,11 +238,11 @@ fn passed(
     if next - from < 2 {
         return Read::Refused(4, at);
     }
-    let n = fields::two_bytes(program, from);
-    if s.families <= n {
+    let named = fields::two_bytes(program, from);
+    if s.families <= named {
         return Read::Refused(8, at);
     }
-    if before <= n {
+    if before <= named {
         return Read::Refused(33, at);
     }
     if next - from != 2 {
@@ -252,7 +252,7 @@ fn passed(
         return Read::Refused(9, at);
     };
     let formal = check_operand::size_by(number);
-    family_fits(n, formal, families, kinds, sizes, at, next)
+    family_fits(named, formal, families, kinds, sizes, at, next)
 }
 
 // The operand due at `at` of a call at `parent` of a family with so many before it, for the parameter whose number in the table of
@@ -436,7 +436,18 @@ fn family_call(
         return Read::Refused(8, at);
     }
     call_fits(
-        program, at, from, next, n, n, s, families, kinds, sizes, lows, highs,
+        program,
+        at,
+        from,
+        next,
+        n,
+        n,
+        s,
+        families,
+        kinds,
+        sizes,
+        lows,
+        highs,
     )
 }
 
@@ -469,7 +480,18 @@ fn parameter_call(
     };
     let row = MOST_FAMILIES + check_operand::size_by(number);
     call_fits(
-        program, at, from, next, s.families, row, s, families, kinds, sizes, lows, highs,
+        program,
+        at,
+        from,
+        next,
+        s.families,
+        row,
+        s,
+        families,
+        kinds,
+        sizes,
+        lows,
+        highs,
     )
 }
 
@@ -497,11 +519,31 @@ pub fn call(
             let n = fields::long(number);
             if tag == fields::PARAMETER_CALL {
                 return parameter_call(
-                    program, at, from, next, n, s, families, kinds, sizes, lows, highs,
+                    program,
+                    at,
+                    from,
+                    next,
+                    n,
+                    s,
+                    families,
+                    kinds,
+                    sizes,
+                    lows,
+                    highs,
                 );
             }
             family_call(
-                program, at, from, next, n, s, families, kinds, sizes, lows, highs,
+                program,
+                at,
+                from,
+                next,
+                n,
+                s,
+                families,
+                kinds,
+                sizes,
+                lows,
+                highs,
             )
         }
     }

@@ -12,15 +12,15 @@ use borrow.Author.Tests.{ne-eqb}
 use types.Run.{OneOf, miss}
 use denote.Enum.Declared.{tagOf}
 use Rattle.language.specs.Limits.{mostVariables, mostParameters}
-use Rattle.language.specs.Tree.{Ending, ended, Number, number, missing, badType, plain}
-use Rattle.language.specs.Read.{Field, field, badHeader, fields, choose, due, ending, readPlain, partsOf, familyTypeOf, readFamilyType, readType}
+use Rattle.language.specs.Tree.{Ending, ended, number, missing, badType, plain}
+use Rattle.language.specs.Read.{Field, fields, choose, due, ending, readPlain, partsOf, familyTypeOf, readFamilyType, readType}
 use Rattle.language.specs.Check.{Checked, good, refused, _>>=_, _>>_, require, noLeftover, checkNumber, Formal, Kind, formal, sizeScope, plainSize, plainKind, plainKinds, checkCounts, checkFormal, kindOf}
 use Rattle.fields.specs.Header.{fieldsAt, headerOf, taggedIn}
 use Rattle.fields.proofs.Headers.{Wholly, View, ends, cuts, goes, view, when-not}
 use Rattle.fields.proofs.Tagged.{the-type as tagged-type}
 use Rattle.fields.specs.declared.Tagged.{Tagged}
 use Rattle.fields.specs.declared.Tagged.the-variants.{Upto as Past, Not}
-use Rattle.check_index.specs.Answers.{checkedPart, Beyond}
+use Rattle.check_index.specs.Answers.{Beyond}
 use Rattle.check_index.specs.declared.Read.{Read}
 use Rattle.check_index.specs.declared.Read.the-variants.{Upto, Refused}
 use Rattle.check_index.proofs.Read.{the-type}

@@ -1,5 +1,5 @@
 -- What family parameters take: their rows, those that stay, and one more. Assumes nothing.
-use mathlib.Core.Path.{_≡_, refl, sym, ap, _∙_, subst}
+use mathlib.Core.Path.{_≡_, refl, sym, ap, _∙_}
 use mathlib.Core.List.{List, [], _∷_, map}
 use mathlib.Core.Bool.{Bool, true, false}
 use mathlib.Core.Option.{Option}
@@ -26,8 +26,8 @@ use Rattle.check_index.specs.declared.Read.{Read}
 use Rattle.check_index.specs.declared.Read.the-variants.{Upto, Refused}
 use Rattle.check_index.proofs.Read.{the-type}
 use Rattle.check_index.proofs.Answers.{not-first}
-use Rattle.check_declaration.specs.Types.{sizeRow, plainRow, rowNumber, OperandTable, InUse, InUseAfter, Apart, TypesWithin, PlainRows, PlainAfter, FormalRight, FormalsIn, FormalsAfter, FormalsBefore, FamilyTable, Stays}
-use Rattle.check_declaration.proofs.Tables.{number-kind, number-size, apart-kind}
+use Rattle.check_declaration.specs.Types.{sizeRow, plainRow, rowNumber, OperandTable, InUse, InUseAfter, Apart, TypesWithin, PlainRows, PlainAfter, FormalRight, FormalsIn, FormalsAfter, FormalsBefore, Stays}
+use Rattle.check_declaration.proofs.Tables.{number-kind, apart-kind}
 
 -- ---- plain rows
 

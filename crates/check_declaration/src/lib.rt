@@ -238,7 +238,18 @@ fn family_row(
         Counts::Both(m, count) => {
             let from = at + 5;
             let first = plain_from(kinds.len(), at);
-            let r = plain_rows(program, from, next, at, m, count, first, registers, kinds, sizes);
+            let r = plain_rows(
+                program,
+                from,
+                next,
+                at,
+                m,
+                count,
+                first,
+                registers,
+                kinds,
+                sizes,
+            );
             let Read::Upto(end) = r else {
                 return r;
             };
@@ -318,7 +329,16 @@ pub fn parameter_types(
     for j in 0..count {
         let row = first + j;
         let r = typed_row(
-            program, from, to, parent, m, row, registers, families, kinds, sizes,
+            program,
+            from,
+            to,
+            parent,
+            m,
+            row,
+            registers,
+            families,
+            kinds,
+            sizes,
         );
         let Read::Upto(next) = r else {
             return r;

@@ -1,15 +1,9 @@
+-- `check_call::call` meets its contract. Assumes nothing.
 use borrow.Author.Needs.{needs}
 use Rattle.check_call.proofs.call.Statement.{statement}
 use Rattle.check_call.proofs.call.Tie as tie
-use Rattle.check_call.proofs.call.Reads as reads
-use Rattle.check_call.proofs.call.Lts as lts
-use Rattle.check_call.proofs.family_call.Reads as family-call-reads
-use Rattle.check_call.proofs.parameter_call.Reads as parameter-call-reads
-use Rattle.fields.proofs.called_number.Reads as called-number-reads
-use Rattle.fields.proofs.long.Reads as long-reads
-use borrow.Author.Needs.{needs}
 use mathlib.Core.Path.{sym, ap, _∙_}
-use Prim.Native.Nat.{ℕ, _+_, _-_}
+use Prim.Native.Nat.{ℕ, _+_}
 use native.Mathlib.Omega.{arith}
 use denote.Ref.{now}
 use lib.Seq.{slice}
@@ -24,38 +18,30 @@ use Rattle.check_index.specs.Answers.{checkedPart}
 use Rattle.check_call.specs.Calls.{scopeFull}
 use Rattle.check_call.proofs.Calls.{call-unnamed}
 
-
--- src/lib.rt:494:42
 add-called-number : tie.Need-add-called-number
 add-called-number c =
     search needs
 
--- src/lib.rt:494:11
 called-number-requires : tie.Need-called-number-requires
 called-number-requires c κs =
     search needs
 
--- src/lib.rt:495:20
 enum-known-k : tie.Need-enum-known-k
 enum-known-k c =
     search needs
 
--- src/lib.rt:496:23
 enum-known-number : tie.Need-enum-known-number
 enum-known-number c =
     search needs
 
--- src/lib.rt:497:17
 long-requires : tie.Need-long-requires
 long-requires c κs =
     search needs
 
--- src/lib.rt:499:17
 parameter-call-requires : tie.Need-parameter-call-requires
 parameter-call-requires c κs =
     (c .before .before .before .before .before .before .before .before .pre .0 .1, (c .before .before .before .before .before .before .before .before .pre .1 .0, c .before .before .before .before .before .before .before .before .pre .1 .1))
 
--- src/lib.rt:499:17
 returns : tie.Need-returns
 unfolding fieldsAt
 returns c =
@@ -69,12 +55,10 @@ returns c =
     ∙ ap (λ (b : Bool). checkStatement (callOf (cond b callParameter call) (a .at) n (fieldsAt program from (a .next))) (scopeFull (a .s) (now (a .families)) (now (a .kinds)) (now (a .sizes)) (now (a .lows)) (now (a .highs)))) (sym (eq-eqb (a .tag) 42 (c .before .if1 .taken)))
     ∙ ap (λ (x : Statement). checkStatement x (scopeFull (a .s) (now (a .families)) (now (a .kinds)) (now (a .sizes)) (now (a .lows)) (now (a .highs)))) (sym (w .reads (a .at) from (omega (arith, w .low))))
 
--- src/lib.rt:503:13
 family-call-requires : tie.Need-family-call-requires
 family-call-requires c κs =
     (c .before .before .before .before .before .before .before .before .pre .0 .1, (c .before .before .before .before .before .before .before .before .pre .1 .0, c .before .before .before .before .before .before .before .before .pre .1 .1))
 
--- src/lib.rt:477:1
 returns-2 : tie.Need-returns-2
 unfolding checkedPart
 returns-2 c =
@@ -83,7 +67,6 @@ returns-2 c =
     let content = slice (a .at + 3) (a .next) program in
     call-unnamed (scopeFull (a .s) (now (a .families)) (now (a .kinds)) (now (a .sizes)) (now (a .lows)) (now (a .highs))) (a .at) (c .before .k .given .0 .0) (a .tag) content (named-bad (a .tag) (a .at + 3) content (c .before .k .given .0 .0) (sym (c .before .before .before .called-number .ensures) ∙ c .before .k .given .1) (a .at))
 
--- src/lib.rt:477:1
 returns-3 : tie.Need-returns-3
 unfolding fieldsAt
 returns-3 c =

@@ -1,13 +1,8 @@
+-- `check_call::call_fits` meets its contract. Assumes nothing.
 use borrow.Author.Needs.{needs}
 use Rattle.check_call.proofs.call_fits.Statement.{statement}
 use Rattle.check_call.proofs.call_fits.Tie as tie
-use Rattle.check_call.proofs.call_fits.Reads as reads
-use Rattle.check_call.proofs.call_fits.Lts as lts
-use Rattle.check_call.proofs.call_forms.Reads as call-forms-reads
-use Rattle.check_call.proofs.call_operands.Reads as call-operands-reads
-use Rattle.fields.proofs.long.Reads as long-reads
-use borrow.Author.Needs.{needs}
-use mathlib.Core.Path.{ap, _∙_}
+use mathlib.Core.Path.{_∙_}
 use mathlib.Core.List.{[], map}
 use native.Mathlib.Omega.{arith}
 use denote.Ref.{now}
@@ -22,67 +17,54 @@ use Rattle.check_call.proofs.Calls.{fits-stops, fits-good}
 use Rattle.check_index.proofs.Answers.{count-upto}
 use Rattle.check_call.proofs.Forms.{four-rows}
 
-
--- src/lib.rt:388:18
 mul-family : tie.Need-mul-family
 mul-family c =
     let d = c .before .before .pre .1 .0 in
     omega (arith, c .before .before .good)
 
--- src/lib.rt:388:18
 shared-slice-copy-out-family : tie.Need-shared-slice-copy-out-family
 shared-slice-copy-out-family c =
     let d = c .before .before .pre .1 .0 in
     omega (arith, c .before .before .good)
 
--- src/lib.rt:389:26
 array-read-long : tie.Need-array-read-long
 array-read-long c =
     search needs
 
--- src/lib.rt:389:9
 long-requires : tie.Need-long-requires
 long-requires c κs =
     search needs
 
--- src/lib.rt:390:30
 array-read-long-2 : tie.Need-array-read-long-2
 array-read-long-2 c =
     search needs
 
--- src/lib.rt:390:9
 long-requires-2 : tie.Need-long-requires-2
 long-requires-2 c κs =
     search needs
 
--- src/lib.rt:391:30
 array-read-long-3 : tie.Need-array-read-long-3
 array-read-long-3 c =
     search needs
 
--- src/lib.rt:391:9
 long-requires-3 : tie.Need-long-requires-3
 long-requires-3 c κs =
     search needs
 
--- src/lib.rt:393:9
 call-forms-requires : tie.Need-call-forms-requires
 call-forms-requires c κs =
     let r = c .before .before .before .before .before .before .before .pre .1 .1 .0 in
     let d = c .before .before .before .before .before .before .before .pre .1 .1 .1 .rows .each (c .before .before .before .before .before .before .before .args .row) in
     (c .before .before .before .before .before .before .before .pre .0, (omega (arith, d .few, c .before .before .before .long .ensures .0), (record { few = r .few; nested = r .nested; lowRows = r .lowRows; highRows = r .highRows }, four-rows)))
 
--- src/lib.rt:394:20
 enum-known-r : tie.Need-enum-known-r
 enum-known-r c =
     search needs
 
--- src/lib.rt:395:9
 enum-told : tie.Need-enum-told
 enum-told c =
     search needs
 
--- src/lib.rt:395:9
 returns : tie.Need-returns
 returns c =
     let a = c .before .before .before .before .before .before .before .before .before .before .args in
@@ -93,13 +75,11 @@ returns c =
     let l = c .before .before .call-forms .last .1 .1 .1 .1 .1 .1 .1 .1 .0 in
     fits-stops s (a .at) (a .before) (a .from) program (a .next) (signatureIn (formalAt (now (a .families)) (now (a .kinds)) (now (a .sizes))) (getD (now (a .families)) (a .row) []) (now (a .kinds)) (now (a .sizes))) (c .before .before .call-forms .result) l (c .before .before .before .before .before .before .long .result) (c .before .before .before .before .before .before .long .ensures .0) (c .before .before .call-forms .ensures .0 fs ks) (c .before .match .keys2)
 
--- src/lib.rt:397:5
 call-operands-requires : tie.Need-call-operands-requires
 call-operands-requires c κs =
     let d = c .before .before .before .before .before .before .before .before .before .before .before .before .pre .1 .1 .1 .rows .each (c .before .before .before .before .before .before .before .before .before .before .before .before .args .row) in
     (c .before .before .before .before .before .before .before .before .before .before .before .before .pre .0, (omega (arith, d .few, c .before .before .before .before .before .before .before .before .long .ensures .0), (c .before .before .before .before .call-forms .ensures .1 .1, (omega (arith, d .inside, c .before .before .before .before .before .before .before .long2 .ensures .0, c .before .before .before .before .before .before .long3 .ensures .0), (c .before .before .before .before .before .before .before .before .before .before .before .before .pre .1 .1 .0, c .before .before .before .before .before .before .before .before .before .before .before .before .pre .1 .1 .1)))))
 
--- src/lib.rt:368:1
 returns-2 : tie.Need-returns-2
 returns-2 c =
     let a = c .before .before .before .before .before .before .before .before .before .before .before .before .before .args in

@@ -1,18 +1,9 @@
+-- `check_call::call_operand` meets its contract. Assumes nothing.
 use borrow.Author.Needs.{needs}
 use Rattle.check_call.proofs.call_operand.Statement.{statement}
 use Rattle.check_call.proofs.call_operand.Tie as tie
-use Rattle.check_call.proofs.call_operand.Reads as reads
-use Rattle.check_call.proofs.call_operand.Lts as lts
-use Rattle.check_call.proofs.passed.Reads as passed-reads
-use Rattle.check_call.proofs.taken_by.Reads as taken-by-reads
-use Rattle.check_operand.proofs.kind_by.Reads as kind-by-reads
-use Rattle.check_operand.proofs.operand.Reads as operand-reads
-use Rattle.check_operand.proofs.size_by.Reads as size-by-reads
-use Rattle.fields.proofs.with_tag.Reads as with-tag-reads
-use borrow.Author.Needs.{needs}
-use mathlib.Core.Path.{_≡_, refl, sym, ap, _∙_}
-use mathlib.Core.List.{List, []}
-use Prim.Native.Nat.{ℕ, _+_}
+use mathlib.Core.Path.{sym, ap, _∙_}
+use mathlib.Core.List.{[]}
 use native.Mathlib.Omega.{arith}
 use denote.Ref.{now}
 use lib.ListN.{getD}
@@ -28,18 +19,14 @@ use Rattle.check_operand.specs.Tables.{kindIn, kindBy}
 use Rattle.check_call.specs.Calls.{formalAt, knownIn, scopeFull, callOperand}
 use Rattle.check_call.proofs.PassedFamilies.{plain-operand, no-family, answerable, passed-due, tagged-not}
 
-
--- src/lib.rt:286:33
 with-tag-requires : tie.Need-with-tag-requires
 with-tag-requires c κs =
     search needs
 
--- src/lib.rt:286:25
 enum-known-next : tie.Need-enum-known-next
 enum-known-next c =
     search needs
 
--- src/lib.rt:287:9
 passed-requires : tie.Need-passed-requires
 passed-requires c κs =
     let a = c .before .before .before .before .before .before .args in
@@ -48,7 +35,6 @@ passed-requires c κs =
     let f = c .before .before .before .before .before .before .pre .1 .1 .1 .1 .1 .1 in
     ((w .low, let h = w .high in let k = c .before .before .before .before .before .before .pre .0 in omega arith), (f .rows, (f .few, (record { rows = t .sizeRows; named = t .named }, c .before .before .before .before .before .before .pre .1 .1 .1 .1 .0))))
 
--- src/lib.rt:287:9
 returns : tie.Need-returns
 returns c =
     let a = c .before .before .before .before .before .before .before .args in
@@ -61,50 +47,45 @@ enum-told : tie.Need-enum-told
 enum-told c =
     search needs
 
--- src/lib.rt:290:9
 kind-by-requires : tie.Need-kind-by-requires
 kind-by-requires c κs =
     search needs
 
--- src/lib.rt:291:9
 size-by-requires : tie.Need-size-by-requires
 size-by-requires c κs =
     search needs
 
--- src/lib.rt:292:33
 mul-taken-by : tie.Need-mul-taken-by
 mul-taken-by c =
     omega (arith, c .before .before .before .before .before .before .before .good, c .size-by .ensures, c .before .before .before .before .before .before .before .pre .1 .1 .1 .0)
 
--- src/lib.rt:292:33
 shared-slice-element-taken-by : tie.Need-shared-slice-element-taken-by
 shared-slice-element-taken-by c =
     omega (arith, c .before .before .before .before .before .before .before .good, c .size-by .ensures, c .before .before .before .before .before .before .before .pre .1 .1 .1 .0)
 
--- src/lib.rt:292:9
 taken-by-requires : tie.Need-taken-by-requires
 taken-by-requires c κs =
     let t = c .before .before .before .before .before .before .before .before .before .pre .1 .1 .1 .1 .1 .0 in
     (t .sizeRows .each (c .before .before .size-by .result) (omega (arith, c .before .before .size-by .ensures, c .before .before .before .before .before .before .before .before .before .pre .1 .1 .1 .0)), (c .before .before .before .before .before .before .before .before .before .pre .1 .0, c .before .before .before .before .before .before .before .before .before .pre .1 .1 .0))
 
--- src/lib.rt:293:5
 operand-requires : tie.Need-operand-requires
 operand-requires c κs =
     let a = c .before .before .before .before .before .before .before .before .before .before .before .args in
     let none = no-family (now (a .program)) (a .at) (a .to) (a .parent) (c .before .before .before .before .before .before .before .before .before .before .before .pre .0) (sym (c .before .before .before .before .before .before .before .before .with-tag .ensures) ∙ tagged-not (c .before .before .before .before .before .before .before .before .with-tag .result) (c .before .before .before .before .before .before .before .match .keys2)) in
     (c .before .before .before .before .before .before .before .before .before .before .before .pre .0, (c .before .taken-by .ensures .1, (answerable (c .before .taken-by .result) _ none, c .before .before .before .before .before .before .before .before .before .before .before .pre .1 .1 .1 .1 .1 .0)))
 
--- src/lib.rt:260:1
 returns-2 : tie.Need-returns-2
 returns-2 c =
     let a = c .before .before .before .before .before .before .before .before .before .before .before .before .args in
     let program = now (a .program) in
     let gs = formsOf (a .m) (now (a .forms)) in
     let o = due readOperand (badOperand 4 (a .parent)) (fieldsAt program (a .at) (a .to)) in
-    let none = no-family program (a .at) (a .to) (a .parent) (c .before .before .before .before .before .before .before .before .before .before .before .before .pre .0) (sym (c .before .before .before .before .before .before .before .before .before .with-tag .ensures) ∙ tagged-not (c .before .before .before .before .before .before .before .before .before .with-tag .result) (c .before .before .before .before .before .before .before .before .match .keys2)) in
-    (c .operand .ensures .0 (knownIn (now (a .families)) (now (a .kinds)) (now (a .sizes)))
-        ∙ ap (λ (d : Due). checkOperand (scopeFull (a .s) (now (a .families)) (now (a .kinds)) (now (a .sizes)) (now (a .lows)) (now (a .highs))) d o) (c .before .before .taken-by .ensures .0 (knownIn (now (a .families)) (now (a .kinds)) (now (a .sizes))) ∙ (λ z. taken gs (kindIn (c .before .before .before .before .before .before .kind-by .ensures z) (asForm (widened (getD (now (a .sizes)) (c .before .before .before .before .before .size-by .ensures z) []))) (formalAt (now (a .families)) (now (a .kinds)) (now (a .sizes)) (c .before .before .before .before .before .size-by .ensures z)))))
-        ∙ plain-operand (scopeFull (a .s) (now (a .families)) (now (a .kinds)) (now (a .sizes)) (now (a .lows)) (now (a .highs))) (a .before) gs (kindBy (formalAt (now (a .families)) (now (a .kinds)) (now (a .sizes))) (a .number) (now (a .sizes))) o none, c .operand .ensures .1)
+    let none = no-family program (a .at) (a .to) (a .parent) (c .before .before .before .before .before .before .before .before .before .before .before .before .pre .0) (sym (c .before .before .before .before .before .before .before .before .before .with-tag .ensures) ∙ tagged-not (c .before .before .before .before .before .before .before .before .before .with-tag .result) (c .before .before .before .before .before .before .before .before .match .keys2)) in (
+      c .operand .ensures .0 (knownIn (now (a .families)) (now (a .kinds)) (now (a .sizes)))
+          ∙ ap (λ (d : Due). checkOperand (scopeFull (a .s) (now (a .families)) (now (a .kinds)) (now (a .sizes)) (now (a .lows)) (now (a .highs))) d o) (c .before .before .taken-by .ensures .0 (knownIn (now (a .families)) (now (a .kinds)) (now (a .sizes))) ∙ (λ z. taken gs (kindIn (c .before .before .before .before .before .before .kind-by .ensures z) (asForm (widened (getD (now (a .sizes)) (c .before .before .before .before .before .size-by .ensures z) []))) (formalAt (now (a .families)) (now (a .kinds)) (now (a .sizes)) (c .before .before .before .before .before .size-by .ensures z)))))
+          ∙ plain-operand (scopeFull (a .s) (now (a .families)) (now (a .kinds)) (now (a .sizes)) (now (a .lows)) (now (a .highs))) (a .before) gs (kindBy (formalAt (now (a .families)) (now (a .kinds)) (now (a .sizes))) (a .number) (now (a .sizes))) o none,
+      c .operand .ensures .1,
+    )
 
 pub call-operand-spec : {M : Type 1} → statement M
 call-operand-spec =

@@ -1,10 +1,8 @@
+-- `check_call::call_operands` meets its contract. Assumes nothing.
 use Rattle.check_call.proofs.call_operands.Statement.{statement}
 use Rattle.check_call.proofs.call_operands.Tie as tie
-use Rattle.check_call.proofs.call_operands.Reads as reads
-use Rattle.check_call.proofs.call_operands.Lts as lts
-use Rattle.check_call.proofs.call_operand.Reads as call-operand-reads
 use mathlib.Core.Path.{_≡_, refl, sym, ap, _∙_}
-use mathlib.Core.List.{List, [], map}
+use mathlib.Core.List.{List, map}
 use Prim.Native.Nat.{ℕ, suc, _+_, _-_, _≤_}
 use native.Mathlib.Omega.{arith}
 use native.Mathlib.Numerals.{add-one}
@@ -23,7 +21,6 @@ use Rattle.check_index.proofs.Answers.{ends-stops, part-goes, part-stops, passe
 use Rattle.check_call.proofs.Calls.{operand-first, operands-over, operands-left, drop-end}
 use Rattle.check_call.specs.Calls.{formalAt, scopeFull, callOperand}
 
-
 abbrev Inv-loop : tie.InvT-loop
 Inv-loop program at to parent before first count forms m s families kinds sizes lows highs from₀ j₀ from j =
     (j ≤ count) × (callOperands (scopeFull s families kinds sizes lows highs) parent before (formsOf m forms) (kindsAt (formalAt families kinds sizes) count first kinds sizes) (map readArgument (fieldsAt program at to)) ≡ callOperands (scopeFull s families kinds sizes lows highs) parent before (formsOf m forms) (drop j (kindsAt (formalAt families kinds sizes) count first kinds sizes)) (map readArgument (fieldsAt program from to)))
@@ -32,12 +29,10 @@ abbrev μ-loop : tie.MeasureT-loop
 μ-loop program at to parent before first count forms m s families kinds sizes lows highs from₀ j₀ from j =
     count - j
 
--- src/lib.rt:337:5
 loop-holds : tie.Need-loop-holds Inv-loop μ-loop
 loop-holds c =
     (omega arith, refl)
 
--- src/lib.rt:338:19
 add-row : tie.Need-add-row Inv-loop μ-loop
 add-row c =
     let h = c .loop-test .taken in
@@ -45,7 +40,6 @@ add-row c =
     let r = c .before .before .before .before .pre .1 .1 .1 .1 .0 .kindRows in
     omega (arith, c .before .before .before .before .good)
 
--- src/lib.rt:339:22
 mul-number : tie.Need-mul-number Inv-loop μ-loop
 mul-number c =
     let h = c .loop-test .taken in
@@ -53,7 +47,6 @@ mul-number c =
     let r = c .before .before .before .before .pre .1 .1 .1 .1 .0 .kindRows in
     omega (arith, c .before .before .before .before .good)
 
--- src/lib.rt:339:22
 shared-slice-read-number : tie.Need-shared-slice-read-number Inv-loop μ-loop
 shared-slice-read-number c =
     let h = c .before .loop-test .taken in
@@ -61,7 +54,6 @@ shared-slice-read-number c =
     let r = c .before .before .before .before .before .pre .1 .1 .1 .1 .0 .kindRows in
     omega (arith, c .before .before .before .before .before .good)
 
--- src/lib.rt:340:13
 call-operand-requires : tie.Need-call-operand-requires Inv-loop μ-loop
 call-operand-requires c κs =
     let a = c .before .before .before .before .before .args in
@@ -69,17 +61,14 @@ call-operand-requires c κs =
     let f = c .before .before .before .before .before .pre .1 .1 .1 .1 .1 in
     (c .before .before .before .before .before .pre .0, (c .before .before .before .before .before .pre .1 .0, (c .before .before .before .before .before .pre .1 .1 .0, (t .named (a .first + c .before .before .loop .j), (f .rows .formals (a .first + c .before .before .loop .j), (t, f))))))
 
--- src/lib.rt:356:24
 enum-known-r : tie.Need-enum-known-r Inv-loop μ-loop
 enum-known-r c =
     search needs
 
--- src/lib.rt:357:13
 enum-told : tie.Need-enum-told Inv-loop μ-loop
 enum-told c =
     search needs
 
--- src/lib.rt:357:13
 returns : tie.Need-returns Inv-loop μ-loop
 returns c =
     let a = c .before .before .before .before .before .before .before .before .args in
@@ -100,17 +89,14 @@ returns c =
       ends-stops (c .before .before .call-operand .result) (a .to) (c .before .match .keys2),
     )
 
--- src/lib.rt:337:9
 add-j : tie.Need-add-j Inv-loop μ-loop
 add-j c =
     search needs
 
--- src/lib.rt:337:5
 loop-less : tie.Need-loop-less Inv-loop μ-loop
 loop-less c =
     search needs
 
--- src/lib.rt:337:5
 loop-again : tie.Need-loop-again Inv-loop μ-loop
 loop-again c =
     let a = c .before .before .before .before .before .before .before .before .before .args in
@@ -135,7 +121,6 @@ loop-again c =
           ∙ rw add-one (ap (λ (l : List Field). callOperands s (a .parent) (a .before) gs (drop (suc (i .j)) ks) (map readArgument l)) (v .rest))),
     )
 
--- src/lib.rt:362:9
 returns-2 : tie.Need-returns-2 Inv-loop μ-loop
 unfolding checkedPart
 returns-2 c =
@@ -148,7 +133,6 @@ returns-2 c =
     let e = drop-end (λ (x : ℕ). kindAt (formalAt (now (a .families)) (now (a .kinds)) (now (a .sizes))) x (now (a .kinds)) (now (a .sizes))) (a .count) (a .first) (i .j) (c .before .loop-test .left) in
     (sym (i .inv .1 ∙ ap (λ (l : List Kind). callOperands s (a .parent) (a .before) gs l (map readArgument (fieldsAt program (i .from) (a .to)))) e ∙ operands-left s (a .parent) (a .before) gs program (i .from) (a .to) (c .if1 .taken) (c .before .before .before .before .before .pre .0)), tt)
 
--- src/lib.rt:310:1
 returns-3 : tie.Need-returns-3 Inv-loop μ-loop
 unfolding checkedPart
 returns-3 c =

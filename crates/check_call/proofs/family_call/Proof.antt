@@ -1,9 +1,6 @@
+-- `check_call::family_call` meets its contract. Assumes nothing.
 use Rattle.check_call.proofs.family_call.Statement.{statement}
 use Rattle.check_call.proofs.family_call.Tie as tie
-use Rattle.check_call.proofs.family_call.Reads as reads
-use Rattle.check_call.proofs.family_call.Lts as lts
-use Rattle.check_call.proofs.call_fits.Reads as call-fits-reads
-use borrow.Author.Needs.{needs}
 use mathlib.Core.Path.{ap, _∙_}
 use mathlib.Core.Option.{some}
 use Prim.Native.Nat.{ℕ}
@@ -16,22 +13,18 @@ use Rattle.check_operand.proofs.Tables.{row-get, row-none}
 use Rattle.check_call.specs.Calls.{signatureAt, scopeFull}
 use Rattle.check_call.proofs.Calls.{call-beyond, call-found}
 
-
--- src/lib.rt:436:9
 returns : tie.Need-returns
 unfolding checkedPart
 returns c =
     let a = c .before .before .before .before .args in
     call-beyond (scopeFull (a .s) (now (a .families)) (now (a .kinds)) (now (a .sizes)) (now (a .lows)) (now (a .highs))) (a .at) (a .n) (fieldsAt (now (a .program)) (a .from) (a .next)) (row-none (signatureAt (now (a .families)) (now (a .kinds)) (now (a .sizes))) (a .s .families) 0 (a .n) (c .if1 .taken))
 
--- src/lib.rt:438:5
 call-fits-requires : tie.Need-call-fits-requires
 call-fits-requires c κs =
     let f = c .before .before .before .before .pre .1 .1 in
     let h = c .if1 .left in
     (c .before .before .before .before .pre .0, (omega (arith, f .few, f .rows .enough), (c .before .before .before .before .pre .1 .0, f)))
 
--- src/lib.rt:417:1
 returns-2 : tie.Need-returns-2
 returns-2 c =
     let a = c .before .before .before .before .before .args in

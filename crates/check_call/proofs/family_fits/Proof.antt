@@ -1,29 +1,21 @@
+-- `check_call::family_fits` meets its contract. Assumes nothing.
 use borrow.Author.Needs.{needs}
 use Rattle.check_call.proofs.family_fits.Statement.{statement}
 use Rattle.check_call.proofs.family_fits.Tie as tie
-use Rattle.check_call.proofs.family_fits.Reads as reads
-use Rattle.check_call.proofs.family_fits.Lts as lts
-use Rattle.check_call.proofs.same_kinds.Reads as same-kinds-reads
-use Rattle.check_call.proofs.sizes_fit.Reads as sizes-fit-reads
-use Rattle.fields.proofs.long.Reads as long-reads
-use borrow.Author.Needs.{needs}
-use mathlib.Core.Path.{_≡_, refl, sym, ap, _∙_}
-use mathlib.Core.List.{List, []}
-use mathlib.Core.Bool.{false}
+use mathlib.Core.Path.{sym, _∙_}
+use mathlib.Core.List.{[]}
 use Prim.Native.Nat.{ℕ, _+_}
 use native.Mathlib.Omega.{arith}
 use denote.Ref.{now}
 use lib.ListN.{getD}
 use borrow.Author.Tests.{not-true, not-false}
-use Rattle.language.specs.Check.{sameKinds, sizesFit, familyFits}
+use Rattle.language.specs.Check.{sameKinds, sizesFit}
 use Rattle.check_index.specs.Answers.{checkedPart}
 use Rattle.check_operand.specs.Tables.{kindAt, kindsAt}
 use Rattle.check_operand.proofs.Tables.{length-rows}
 use Rattle.check_call.specs.Calls.{plainBy, plainsAt, formalAt, signatureAt}
 use Rattle.check_call.proofs.PassedFamilies.{fits-counts, fits-kinds, fits-sizes, many-alike}
 
-
--- src/lib.rt:198:15
 add-row : tie.Need-add-row
 add-row c =
     let n = c .before .pre .0 in
@@ -31,7 +23,6 @@ add-row c =
     let e = c .before .pre .1 .1 .0 .enough in
     omega (arith, c .before .good)
 
--- src/lib.rt:199:18
 mul-wanted : tie.Need-mul-wanted
 mul-wanted c =
     let n = c .before .pre .0 in
@@ -39,7 +30,6 @@ mul-wanted c =
     let e = c .before .pre .1 .1 .0 .enough in
     omega (arith, c .before .good)
 
--- src/lib.rt:199:18
 shared-slice-copy-out-wanted : tie.Need-shared-slice-copy-out-wanted
 shared-slice-copy-out-wanted c =
     let n = c .before .pre .0 in
@@ -47,7 +37,6 @@ shared-slice-copy-out-wanted c =
     let e = c .before .pre .1 .1 .0 .enough in
     omega (arith, c .before .good)
 
--- src/lib.rt:200:17
 mul-given : tie.Need-mul-given
 mul-given c =
     let n = c .before .before .pre .0 in
@@ -55,7 +44,6 @@ mul-given c =
     let e = c .before .before .pre .1 .1 .0 .enough in
     omega (arith, c .before .before .good)
 
--- src/lib.rt:200:17
 shared-slice-copy-out-given : tie.Need-shared-slice-copy-out-given
 shared-slice-copy-out-given c =
     let n = c .before .before .pre .0 in
@@ -63,34 +51,28 @@ shared-slice-copy-out-given c =
     let e = c .before .before .pre .1 .1 .0 .enough in
     omega (arith, c .before .before .good)
 
--- src/lib.rt:201:8
 array-read-if1 : tie.Need-array-read-if1
 array-read-if1 c =
     search needs
 
--- src/lib.rt:201:21
 array-read-if1-2 : tie.Need-array-read-if1-2
 array-read-if1-2 c =
     search needs
 
--- src/lib.rt:202:9
 returns : tie.Need-returns
 unfolding checkedPart
 returns c =
     let a = c .before .before .before .before .args in
     (fits-counts (a .at) (formalAt (now (a .families)) (now (a .kinds)) (now (a .sizes)) (a .formal)) (signatureAt (now (a .families)) (now (a .kinds)) (now (a .sizes)) (a .n)) (c .if1 .taken), tt)
 
--- src/lib.rt:204:8
 array-read-if2 : tie.Need-array-read-if2
 array-read-if2 c =
     search needs
 
--- src/lib.rt:204:21
 array-read-if2-2 : tie.Need-array-read-if2-2
 array-read-if2-2 c =
     search needs
 
--- src/lib.rt:205:9
 returns-2 : tie.Need-returns-2
 unfolding checkedPart
 returns-2 c =
@@ -100,37 +82,30 @@ returns-2 c =
     let t = c .if2 .taken in
     (fits-kinds (a .at) (formalAt (now (a .families)) (now (a .kinds)) (now (a .sizes)) (a .formal)) (signatureAt (now (a .families)) (now (a .kinds)) (now (a .sizes)) (a .n)) (c .before .if1 .left) (many-alike _ _ λ e. t (sym (length-rows (λ (j : ℕ). plainBy (getD (now (a .kinds)) j 0) (now (a .sizes))) (getD row 1 0) (getD row 2 0)) ∙ e ∙ length-rows (λ (j : ℕ). kindAt (formalAt (now (a .families)) (now (a .kinds)) (now (a .sizes))) j (now (a .kinds)) (now (a .sizes))) (getD given 1 0) (getD given 2 0))), tt)
 
--- src/lib.rt:207:30
 array-read-long : tie.Need-array-read-long
 array-read-long c =
     search needs
 
--- src/lib.rt:207:9
 long-requires : tie.Need-long-requires
 long-requires c κs =
     search needs
 
--- src/lib.rt:208:26
 array-read-long-2 : tie.Need-array-read-long-2
 array-read-long-2 c =
     search needs
 
--- src/lib.rt:208:9
 long-requires-2 : tie.Need-long-requires-2
 long-requires-2 c κs =
     search needs
 
--- src/lib.rt:209:26
 array-read-long-3 : tie.Need-array-read-long-3
 array-read-long-3 c =
     search needs
 
--- src/lib.rt:209:9
 long-requires-3 : tie.Need-long-requires-3
 long-requires-3 c κs =
     search needs
 
--- src/lib.rt:210:9
 same-kinds-requires : tie.Need-same-kinds-requires
 same-kinds-requires c κs =
     let a = c .before .before .before .before .before .before .before .before .args in
@@ -138,7 +113,6 @@ same-kinds-requires c κs =
     let e = c .before .before .before .if2 .left in
     (omega (arith, r .each (4096 + a .formal) .inside, c .before .before .long .ensures .0, c .before .long2 .ensures .0), omega (arith, r .each (a .n) .inside, c .before .before .long .ensures .0, c .long3 .ensures .0))
 
--- src/lib.rt:211:9
 returns-3 : tie.Need-returns-3
 unfolding checkedPart
 returns-3 c =
@@ -147,17 +121,14 @@ returns-3 c =
     let same = sym (λ z. sameKinds (plainsAt (c .before .before .before .before .long .ensures .0 z) (c .before .before .before .long2 .ensures .0 z) (now (a .kinds)) (now (a .sizes))) (kindsAt (formalAt (now (a .families)) (now (a .kinds)) (now (a .sizes))) ((c .before .before .before .before .long .ensures .0 ∙ e) z) (c .before .before .long3 .ensures .0 z) (now (a .kinds)) (now (a .sizes)))) ∙ sym (c .before .same-kinds .ensures (formalAt (now (a .families)) (now (a .kinds)) (now (a .sizes))) (now (a .sizes))) in
     (fits-kinds (a .at) (formalAt (now (a .families)) (now (a .kinds)) (now (a .sizes)) (a .formal)) (signatureAt (now (a .families)) (now (a .kinds)) (now (a .sizes)) (a .n)) (c .before .before .before .before .before .before .if1 .left) (same ∙ not-true (c .before .same-kinds .result) (c .if3 .taken)), tt)
 
--- src/lib.rt:213:55
 array-read-long-4 : tie.Need-array-read-long-4
 array-read-long-4 c =
     search needs
 
--- src/lib.rt:213:42
 long-requires-4 : tie.Need-long-requires-4
 long-requires-4 c κs =
     search needs
 
--- src/lib.rt:213:5
 sizes-fit-requires : tie.Need-sizes-fit-requires
 sizes-fit-requires c κs =
     let a = c .before .before .before .before .before .before .before .before .before .before .before .args in
@@ -165,14 +136,15 @@ sizes-fit-requires c κs =
     let e = c .before .before .before .before .before .before .if2 .left in
     (omega (arith, r .each (4096 + a .formal) .inside, c .before .before .before .before .before .long .ensures .0, c .before .before .before .before .long2 .ensures .0), (omega (arith, r .each (a .n) .inside, c .before .before .before .before .before .long .ensures .0, c .before .before .before .long3 .ensures .0), (omega (arith, r .each (4096 + a .formal) .few, c .long4 .ensures .0), c .before .before .before .before .before .before .before .before .before .before .before .pre .1 .1 .1)))
 
--- src/lib.rt:182:1
 returns-4 : tie.Need-returns-4
 returns-4 c =
     let a = c .before .before .before .before .before .before .before .before .before .before .before .before .args in
     let e = c .before .before .before .before .before .before .before .if2 .left in
-    let same = sym (λ z. sameKinds (plainsAt (c .before .before .before .before .before .before .long .ensures .0 z) (c .before .before .before .before .before .long2 .ensures .0 z) (now (a .kinds)) (now (a .sizes))) (kindsAt (formalAt (now (a .families)) (now (a .kinds)) (now (a .sizes))) ((c .before .before .before .before .before .before .long .ensures .0 ∙ e) z) (c .before .before .before .before .long3 .ensures .0 z) (now (a .kinds)) (now (a .sizes)))) ∙ sym (c .before .before .before .same-kinds .ensures (formalAt (now (a .families)) (now (a .kinds)) (now (a .sizes))) (now (a .sizes))) in
-    (c .sizes-fit .ensures .0 (formalAt (now (a .families)) (now (a .kinds)) (now (a .sizes))) ∙ (λ z. sizesFit (a .at) (c .before .long4 .ensures .0 z) (plainsAt (c .before .before .before .before .before .before .long .ensures .0 z) (c .before .before .before .before .before .long2 .ensures .0 z) (now (a .kinds)) (now (a .sizes))) (kindsAt (formalAt (now (a .families)) (now (a .kinds)) (now (a .sizes))) ((c .before .before .before .before .before .before .long .ensures .0 ∙ e) z) (c .before .before .before .before .long3 .ensures .0 z) (now (a .kinds)) (now (a .sizes))))
-        ∙ fits-sizes (a .at) (formalAt (now (a .families)) (now (a .kinds)) (now (a .sizes)) (a .formal)) (signatureAt (now (a .families)) (now (a .kinds)) (now (a .sizes)) (a .n)) (c .before .before .before .before .before .before .before .before .if1 .left) (same ∙ not-false (c .before .before .before .same-kinds .result) (c .before .before .if3 .left)), c .sizes-fit .ensures .1)
+    let same = sym (λ z. sameKinds (plainsAt (c .before .before .before .before .before .before .long .ensures .0 z) (c .before .before .before .before .before .long2 .ensures .0 z) (now (a .kinds)) (now (a .sizes))) (kindsAt (formalAt (now (a .families)) (now (a .kinds)) (now (a .sizes))) ((c .before .before .before .before .before .before .long .ensures .0 ∙ e) z) (c .before .before .before .before .long3 .ensures .0 z) (now (a .kinds)) (now (a .sizes)))) ∙ sym (c .before .before .before .same-kinds .ensures (formalAt (now (a .families)) (now (a .kinds)) (now (a .sizes))) (now (a .sizes))) in (
+      c .sizes-fit .ensures .0 (formalAt (now (a .families)) (now (a .kinds)) (now (a .sizes))) ∙ (λ z. sizesFit (a .at) (c .before .long4 .ensures .0 z) (plainsAt (c .before .before .before .before .before .before .long .ensures .0 z) (c .before .before .before .before .before .long2 .ensures .0 z) (now (a .kinds)) (now (a .sizes))) (kindsAt (formalAt (now (a .families)) (now (a .kinds)) (now (a .sizes))) ((c .before .before .before .before .before .before .long .ensures .0 ∙ e) z) (c .before .before .before .before .long3 .ensures .0 z) (now (a .kinds)) (now (a .sizes))))
+          ∙ fits-sizes (a .at) (formalAt (now (a .families)) (now (a .kinds)) (now (a .sizes)) (a .formal)) (signatureAt (now (a .families)) (now (a .kinds)) (now (a .sizes)) (a .n)) (c .before .before .before .before .before .before .before .before .if1 .left) (same ∙ not-false (c .before .before .before .same-kinds .result) (c .before .before .if3 .left)),
+      c .sizes-fit .ensures .1,
+    )
 
 pub family-fits-spec : {M : Type 1} → statement M
 family-fits-spec =

@@ -1,61 +1,50 @@
+-- `check_call::parameter_call` meets its contract. Assumes nothing.
 use borrow.Author.Needs.{needs}
 use Rattle.check_call.proofs.parameter_call.Statement.{statement}
 use Rattle.check_call.proofs.parameter_call.Tie as tie
-use Rattle.check_call.proofs.parameter_call.Reads as reads
-use Rattle.check_call.proofs.parameter_call.Lts as lts
-use Rattle.check_call.proofs.call_fits.Reads as call-fits-reads
-use Rattle.check_operand.proofs.kind_by.Reads as kind-by-reads
-use Rattle.check_operand.proofs.size_by.Reads as size-by-reads
-use borrow.Author.Needs.{needs}
-use mathlib.Core.Path.{_≡_, sym, ap, _∙_}
-use mathlib.Core.List.{List, [], map}
+use mathlib.Core.Path.{sym, ap, _∙_}
+use mathlib.Core.List.{[], map}
 use mathlib.Core.Option.{some}
 use Prim.Native.Nat.{ℕ, _+_}
 use native.Mathlib.Omega.{arith}
 use denote.Ref.{now}
 use lib.ListN.{getD}
 use Rattle.language.specs.Read.{readArgument}
-use Rattle.language.specs.Check.{Kind, Formal, Signature, callFits, signatureOf}
+use Rattle.language.specs.Check.{Kind, callFits}
 use Rattle.fields.specs.Header.{fieldsAt}
 use Rattle.forms.specs.Flat.{widened, asForm}
 use Rattle.kinds.specs.declared.Kind as K
 use Rattle.check_index.specs.Answers.{checkedPart}
-use Rattle.check_operand.specs.Tables.{kindIn, sizeOfRow, kindAt}
+use Rattle.check_operand.specs.Tables.{kindIn, sizeOfRow}
 use Rattle.check_operand.proofs.Tables.{kinds-get, kinds-none, length-rows}
 use Rattle.check_call.specs.Calls.{formalAt, signatureIn, signatureAt, scopeFull}
 use Rattle.check_call.proofs.Calls.{parameter-beyond, parameter-other, parameter-found}
 use Rattle.check_call.proofs.PassedFamilies.{formal-kind, formal-signature}
 
-
--- src/lib.rt:463:9
 returns : tie.Need-returns
 unfolding checkedPart
 returns c =
     let a = c .before .before .before .before .args in
     parameter-beyond (scopeFull (a .s) (now (a .families)) (now (a .kinds)) (now (a .sizes)) (now (a .lows)) (now (a .highs))) (a .at) (a .n) (fieldsAt (now (a .program)) (a .from) (a .next)) (kinds-none (formalAt (now (a .families)) (now (a .kinds)) (now (a .sizes))) (a .s .count) (a .s .first) (a .n) (now (a .kinds)) (now (a .sizes)) (c .if1 .taken))
 
--- src/lib.rt:465:17
 add-place : tie.Need-add-place
 add-place c =
     let t = c .before .before .before .before .before .pre .1 .0 .kindRows in
     let h = c .before .if1 .left in
     omega (arith, c .before .before .before .before .before .good)
 
--- src/lib.rt:466:18
 mul-number : tie.Need-mul-number
 mul-number c =
     let t = c .before .before .before .before .before .pre .1 .0 .kindRows in
     let h = c .before .if1 .left in
     omega (arith, c .before .before .before .before .before .good)
 
--- src/lib.rt:466:18
 shared-slice-read-number : tie.Need-shared-slice-read-number
 shared-slice-read-number c =
     let t = c .before .before .before .before .before .before .pre .1 .0 .kindRows in
     let h = c .before .before .if1 .left in
     omega (arith, c .before .before .before .before .before .before .good)
 
--- src/lib.rt:467:31
 kind-by-requires : tie.Need-kind-by-requires
 kind-by-requires c κs =
     search needs
@@ -64,7 +53,6 @@ enum-told : tie.Need-enum-told
 enum-told c =
     search needs
 
--- src/lib.rt:468:9
 returns-2 : tie.Need-returns-2
 unfolding checkedPart
 returns-2 c =
@@ -74,24 +62,20 @@ returns-2 c =
     let g = formalAt (now (a .families)) (now (a .kinds)) (now (a .sizes)) (sizeOfRow number) in
     parameter-other (scopeFull (a .s) (now (a .families)) (now (a .kinds)) (now (a .sizes)) (now (a .lows)) (now (a .highs))) (a .at) (a .n) (fieldsAt (now (a .program)) (a .from) (a .next)) (c .before .kind-by .result) size g (kinds-get (formalAt (now (a .families)) (now (a .kinds)) (now (a .sizes))) (a .s .count) (a .s .first) (a .n) (now (a .kinds)) (now (a .sizes)) (c .before .before .before .before .if1 .left) ∙ ap (λ (k : K.Kind). some (kindIn k size g)) (sym (c .before .kind-by .ensures))) (c .match .keys2)
 
--- src/lib.rt:470:31
 size-by-requires : tie.Need-size-by-requires
 size-by-requires c κs =
     search needs
 
--- src/lib.rt:470:15
 add-row : tie.Need-add-row
 add-row c =
     let f = c .before .before .before .before .before .before .before .before .before .before .pre .1 .1 .rows .formals (c .before .before .before .before .before .before .before .before .before .before .args .s .first + c .before .before .before .before .before .before .before .before .before .before .args .n) in
     omega (arith, c .before .before .before .before .before .before .before .before .before .before .good, c .size-by .ensures)
 
--- src/lib.rt:471:5
 call-fits-requires : tie.Need-call-fits-requires
 call-fits-requires c κs =
     let f = c .before .before .before .before .before .before .before .before .before .before .pre .1 .1 in
     (c .before .before .before .before .before .before .before .before .before .before .pre .0, (omega (arith, c .size-by .ensures, f .rows .formals (c .before .before .before .before .before .before .before .before .before .before .args .s .first + c .before .before .before .before .before .before .before .before .before .before .args .n)), (c .before .before .before .before .before .before .before .before .before .before .pre .1 .0, f)))
 
--- src/lib.rt:444:1
 returns-3 : tie.Need-returns-3
 returns-3 c =
     let a = c .before .before .before .before .before .before .before .before .before .before .before .args in

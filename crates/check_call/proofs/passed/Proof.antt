@@ -1,16 +1,10 @@
+-- `check_call::passed` meets its contract. Assumes nothing.
 use borrow.Author.Needs.{needs}
 use Rattle.check_call.proofs.passed.Statement.{statement}
 use Rattle.check_call.proofs.passed.Tie as tie
-use Rattle.check_call.proofs.passed.Reads as reads
-use Rattle.check_call.proofs.passed.Lts as lts
-use Rattle.check_call.proofs.family_fits.Reads as family-fits-reads
-use Rattle.check_operand.proofs.kind_by.Reads as kind-by-reads
-use Rattle.check_operand.proofs.size_by.Reads as size-by-reads
-use Rattle.fields.proofs.two_bytes.Reads as two-bytes-reads
-use borrow.Author.Needs.{needs}
-use mathlib.Core.Path.{_≡_, refl, sym, ap, _∙_}
-use mathlib.Core.List.{List, []}
-use Prim.Native.Nat.{ℕ, _+_}
+use mathlib.Core.Path.{sym, ap, _∙_}
+use mathlib.Core.List.{[]}
+use Prim.Native.Nat.{_+_}
 use native.Mathlib.Omega.{arith}
 use native.Mathlib.Nat.{zero-add}
 use denote.Ref.{now}
@@ -28,18 +22,14 @@ use Rattle.check_operand.proofs.Passed.{two-first}
 use Rattle.check_call.specs.Calls.{formalAt, signatureAt, scopeFull}
 use Rattle.check_call.proofs.PassedFamilies.{late-cut, late-beyond, late, late-long, late-good, not-due, family-due}
 
-
--- src/lib.rt:237:16
 add-from : tie.Need-add-from
 add-from c =
     search needs
 
--- src/lib.rt:238:8
 sub-if1 : tie.Need-sub-if1
 sub-if1 c =
     search needs
 
--- src/lib.rt:239:9
 returns : tie.Need-returns
 unfolding checkedPart
 returns c =
@@ -50,12 +40,10 @@ returns c =
     let q = c .if1 .taken in
     (λ forms lows highs. late-cut (scopeFull (a .s) (now (a .families)) (now (a .kinds)) (now (a .sizes)) lows highs) (a .before) forms (kindBy (formalAt (now (a .families)) (now (a .kinds)) (now (a .sizes))) (a .number) (now (a .sizes))) (a .at) (slice from (a .next) program) (omega arith), tt)
 
--- src/lib.rt:241:9
 two-bytes-requires : tie.Need-two-bytes-requires
 two-bytes-requires c κs =
     search needs
 
--- src/lib.rt:243:9
 returns-2 : tie.Need-returns-2
 unfolding checkedPart
 returns-2 c =
@@ -69,7 +57,6 @@ returns-2 c =
     let b = c .if2 .taken in
     (λ forms lows highs. late-beyond (scopeFull (a .s) (now (a .families)) (now (a .kinds)) (now (a .sizes)) lows highs) (a .before) forms (kindBy (formalAt (now (a .families)) (now (a .kinds)) (now (a .sizes))) (a .number) (now (a .sizes))) (a .at) (slice from (a .next) program) (getD program from 0) (getD program (from + 1) 0) (slice (from + 2) (a .next) program) e (row-none (signatureAt (now (a .families)) (now (a .kinds)) (now (a .sizes))) (a .s .families) 0 n (omega arith)), tt)
 
--- src/lib.rt:246:9
 returns-3 : tie.Need-returns-3
 unfolding checkedPart
 returns-3 c =
@@ -84,12 +71,10 @@ returns-3 c =
     let l = c .if3 .taken in
     (λ forms lows highs. late (scopeFull (a .s) (now (a .families)) (now (a .kinds)) (now (a .sizes)) lows highs) (a .before) forms (kindBy (formalAt (now (a .families)) (now (a .kinds)) (now (a .sizes))) (a .number) (now (a .sizes))) (a .at) (slice from (a .next) program) (getD program from 0) (getD program (from + 1) 0) (slice (from + 2) (a .next) program) e (signatureAt (now (a .families)) (now (a .kinds)) (now (a .sizes)) (0 + n)) (row-get (signatureAt (now (a .families)) (now (a .kinds)) (now (a .sizes))) (a .s .families) 0 n (omega arith)) (omega arith), tt)
 
--- src/lib.rt:248:8
 sub-if4 : tie.Need-sub-if4
 sub-if4 c =
     search needs
 
--- src/lib.rt:249:9
 returns-4 : tie.Need-returns-4
 unfolding checkedPart
 returns-4 c =
@@ -106,7 +91,6 @@ returns-4 c =
     let t = c .if4 .taken in
     (λ forms lows highs. late-long (scopeFull (a .s) (now (a .families)) (now (a .kinds)) (now (a .sizes)) lows highs) (a .before) forms (kindBy (formalAt (now (a .families)) (now (a .kinds)) (now (a .sizes))) (a .number) (now (a .sizes))) (a .at) (slice from (a .next) program) (getD program from 0) (getD program (from + 1) 0) (slice (from + 2) (a .next) program) e (signatureAt (now (a .families)) (now (a .kinds)) (now (a .sizes)) (0 + n)) (row-get (signatureAt (now (a .families)) (now (a .kinds)) (now (a .sizes))) (a .s .families) 0 n (omega arith)) (omega arith) (λ z. t (omega arith)), tt)
 
--- src/lib.rt:251:31
 kind-by-requires : tie.Need-kind-by-requires
 kind-by-requires c κs =
     search needs
@@ -115,7 +99,6 @@ enum-told : tie.Need-enum-told
 enum-told c =
     search needs
 
--- src/lib.rt:252:9
 returns-5 : tie.Need-returns-5
 unfolding checkedPart
 returns-5 c =
@@ -130,24 +113,23 @@ returns-5 c =
     let l = c .before .before .before .if3 .left in
     let y = c .before .before .if4 .left in
     let size = asForm (widened (getD (now (a .sizes)) (sizeOfRow (a .number)) [])) in
-    let g = formalAt (now (a .families)) (now (a .kinds)) (now (a .sizes)) (sizeOfRow (a .number)) in
-    (λ forms lows highs. not-due (a .at) forms (c .before .kind-by .result) size g (signatureAt (now (a .families)) (now (a .kinds)) (now (a .sizes)) (0 + n)) (c .match .keys2)
-        ∙ ap (λ (k : Kind). familyFits (a .at) (taken forms (kindIn k size g)) (signatureAt (now (a .families)) (now (a .kinds)) (now (a .sizes)) (0 + n))) (c .before .kind-by .ensures)
-        ∙ late-good (scopeFull (a .s) (now (a .families)) (now (a .kinds)) (now (a .sizes)) lows highs) (a .before) forms (kindBy (formalAt (now (a .families)) (now (a .kinds)) (now (a .sizes))) (a .number) (now (a .sizes))) (a .at) (slice from (a .next) program) (getD program from 0) (getD program (from + 1) 0) (slice (from + 2) (a .next) program) e (signatureAt (now (a .families)) (now (a .kinds)) (now (a .sizes)) (0 + n)) (row-get (signatureAt (now (a .families)) (now (a .kinds)) (now (a .sizes))) (a .s .families) 0 n (omega arith)) (omega arith) (slice-none (from + 2) (a .next) program (omega arith)), tt)
+    let g = formalAt (now (a .families)) (now (a .kinds)) (now (a .sizes)) (sizeOfRow (a .number)) in (
+      λ forms lows highs. not-due (a .at) forms (c .before .kind-by .result) size g (signatureAt (now (a .families)) (now (a .kinds)) (now (a .sizes)) (0 + n)) (c .match .keys2)
+          ∙ ap (λ (k : Kind). familyFits (a .at) (taken forms (kindIn k size g)) (signatureAt (now (a .families)) (now (a .kinds)) (now (a .sizes)) (0 + n))) (c .before .kind-by .ensures)
+          ∙ late-good (scopeFull (a .s) (now (a .families)) (now (a .kinds)) (now (a .sizes)) lows highs) (a .before) forms (kindBy (formalAt (now (a .families)) (now (a .kinds)) (now (a .sizes))) (a .number) (now (a .sizes))) (a .at) (slice from (a .next) program) (getD program from 0) (getD program (from + 1) 0) (slice (from + 2) (a .next) program) e (signatureAt (now (a .families)) (now (a .kinds)) (now (a .sizes)) (0 + n)) (row-get (signatureAt (now (a .families)) (now (a .kinds)) (now (a .sizes))) (a .s .families) 0 n (omega arith)) (omega arith) (slice-none (from + 2) (a .next) program (omega arith)),
+      tt,
+    )
 
--- src/lib.rt:254:9
 size-by-requires : tie.Need-size-by-requires
 size-by-requires c κs =
     search needs
 
--- src/lib.rt:255:5
 family-fits-requires : tie.Need-family-fits-requires
 family-fits-requires c κs =
     let f = c .before .before .before .before .before .before .before .before .before .before .before .before .pre .1 .1 .0 in
     let b = c .before .before .before .before .before .before .if2 .left in
     (omega arith, (omega (arith, c .before .before .before .before .before .before .before .before .before .before .before .before .pre .1 .1 .1 .1, c .size-by .ensures), (c .before .before .before .before .before .before .before .before .before .before .before .before .pre .1 .0, c .before .before .before .before .before .before .before .before .before .before .before .before .pre .1 .1 .1 .0)))
 
--- src/lib.rt:218:1
 returns-6 : tie.Need-returns-6
 returns-6 c =
     let a = c .before .before .before .before .before .before .before .before .before .before .before .before .before .args in
@@ -161,12 +143,14 @@ returns-6 c =
     let l = c .before .before .before .before .before .before .if3 .left in
     let y = c .before .before .before .before .before .if4 .left in
     let size = asForm (widened (getD (now (a .sizes)) (sizeOfRow (a .number)) [])) in
-    let g = formalAt (now (a .families)) (now (a .kinds)) (now (a .sizes)) (sizeOfRow (a .number)) in
-    (λ forms lows highs. c .family-fits .ensures .0
-        ∙ (λ z. familyFits (a .at) (fitting (formalAt (now (a .families)) (now (a .kinds)) (now (a .sizes)) (c .before .size-by .ensures z))) (signatureAt (now (a .families)) (now (a .kinds)) (now (a .sizes)) ((v ∙ sym (zero-add n)) z)))
-        ∙ family-due (a .at) forms size g (signatureAt (now (a .families)) (now (a .kinds)) (now (a .sizes)) (0 + n))
-        ∙ ap (λ (k : Kind). familyFits (a .at) (taken forms (kindIn k size g)) (signatureAt (now (a .families)) (now (a .kinds)) (now (a .sizes)) (0 + n))) (sym (c .before .before .enum-told .given .1) ∙ c .before .before .before .before .kind-by .ensures)
-        ∙ late-good (scopeFull (a .s) (now (a .families)) (now (a .kinds)) (now (a .sizes)) lows highs) (a .before) forms (kindBy (formalAt (now (a .families)) (now (a .kinds)) (now (a .sizes))) (a .number) (now (a .sizes))) (a .at) (slice from (a .next) program) (getD program from 0) (getD program (from + 1) 0) (slice (from + 2) (a .next) program) e (signatureAt (now (a .families)) (now (a .kinds)) (now (a .sizes)) (0 + n)) (row-get (signatureAt (now (a .families)) (now (a .kinds)) (now (a .sizes))) (a .s .families) 0 n (omega arith)) (omega arith) (slice-none (from + 2) (a .next) program (omega arith)), c .family-fits .ensures .1)
+    let g = formalAt (now (a .families)) (now (a .kinds)) (now (a .sizes)) (sizeOfRow (a .number)) in (
+      λ forms lows highs. c .family-fits .ensures .0
+          ∙ (λ z. familyFits (a .at) (fitting (formalAt (now (a .families)) (now (a .kinds)) (now (a .sizes)) (c .before .size-by .ensures z))) (signatureAt (now (a .families)) (now (a .kinds)) (now (a .sizes)) ((v ∙ sym (zero-add n)) z)))
+          ∙ family-due (a .at) forms size g (signatureAt (now (a .families)) (now (a .kinds)) (now (a .sizes)) (0 + n))
+          ∙ ap (λ (k : Kind). familyFits (a .at) (taken forms (kindIn k size g)) (signatureAt (now (a .families)) (now (a .kinds)) (now (a .sizes)) (0 + n))) (sym (c .before .before .enum-told .given .1) ∙ c .before .before .before .before .kind-by .ensures)
+          ∙ late-good (scopeFull (a .s) (now (a .families)) (now (a .kinds)) (now (a .sizes)) lows highs) (a .before) forms (kindBy (formalAt (now (a .families)) (now (a .kinds)) (now (a .sizes))) (a .number) (now (a .sizes))) (a .at) (slice from (a .next) program) (getD program from 0) (getD program (from + 1) 0) (slice (from + 2) (a .next) program) e (signatureAt (now (a .families)) (now (a .kinds)) (now (a .sizes)) (0 + n)) (row-get (signatureAt (now (a .families)) (now (a .kinds)) (now (a .sizes))) (a .s .families) 0 n (omega arith)) (omega arith) (slice-none (from + 2) (a .next) program (omega arith)),
+      c .family-fits .ensures .1,
+    )
 
 pub passed-spec : {M : Type 1} → statement M
 passed-spec =

@@ -1,25 +1,20 @@
+-- `check_call::sizes_fit` meets its contract. Assumes nothing.
 use Rattle.check_call.proofs.sizes_fit.Statement.{statement}
 use Rattle.check_call.proofs.sizes_fit.Tie as tie
-use Rattle.check_call.proofs.sizes_fit.Reads as reads
-use Rattle.check_call.proofs.sizes_fit.Lts as lts
-use Rattle.check_call.proofs.size_fits.Reads as size-fits-reads
 use borrow.Author.Needs.{needs}
-use mathlib.Core.Path.{_≡_, refl, sym, ap, _∙_}
-use mathlib.Core.List.{List, []}
+use mathlib.Core.Path.{_≡_, refl, sym, _∙_}
 use Prim.Native.Nat.{ℕ, suc, _+_, _-_, _≤_}
 use native.Mathlib.Omega.{arith}
 use native.Mathlib.Numerals.{add-one}
 use denote.Ref.{now}
-use lib.IntN.{ℤ}
 use lib.ListN.{drop, getD}
-use Rattle.language.specs.Check.{Checked, plainSize, sizeFits, sizesFit}
+use Rattle.language.specs.Check.{plainSize, sizeFits, sizesFit}
 use Rattle.check_index.specs.Answers.{checkedPart}
 use Rattle.check_operand.specs.Tables.{Formals, kindAt, kindsAt}
 use Rattle.check_operand.proofs.Tables.{row-drop}
 use Rattle.check_index.proofs.Answers.{part-goes, part-stops, ends-stops}
 use Rattle.check_call.specs.Calls.{plainBy, plainsAt}
 use Rattle.check_call.proofs.Calls.{drop-end}
-
 
 abbrev Inv-loop : tie.InvT-loop
 Inv-loop kinds sizes formal actual count m at next i₀ i =
@@ -29,12 +24,10 @@ abbrev μ-loop : tie.MeasureT-loop
 μ-loop kinds sizes formal actual count m at next i₀ i =
     count - i
 
--- src/lib.rt:170:5
 loop-holds : tie.Need-loop-holds Inv-loop μ-loop
 loop-holds c =
     (omega arith, λ formals. refl)
 
--- src/lib.rt:171:17
 add-f : tie.Need-add-f Inv-loop μ-loop
 add-f c =
     let h = c .loop-test .taken in
@@ -42,7 +35,6 @@ add-f c =
     let a = c .before .before .before .pre .1 .0 in
     omega (arith, c .before .before .before .good)
 
--- src/lib.rt:172:17
 add-a : tie.Need-add-a Inv-loop μ-loop
 add-a c =
     let h = c .loop-test .taken in
@@ -50,7 +42,6 @@ add-a c =
     let a = c .before .before .before .pre .1 .0 in
     omega (arith, c .before .before .before .good)
 
--- src/lib.rt:173:27
 mul-size-fits : tie.Need-mul-size-fits Inv-loop μ-loop
 mul-size-fits c =
     let h = c .loop-test .taken in
@@ -58,7 +49,6 @@ mul-size-fits c =
     let a = c .before .before .before .pre .1 .0 in
     omega (arith, c .before .before .before .good)
 
--- src/lib.rt:173:27
 shared-slice-read-size-fits : tie.Need-shared-slice-read-size-fits Inv-loop μ-loop
 shared-slice-read-size-fits c =
     let h = c .before .loop-test .taken in
@@ -66,7 +56,6 @@ shared-slice-read-size-fits c =
     let a = c .before .before .before .before .pre .1 .0 in
     omega (arith, c .before .before .before .before .good)
 
--- src/lib.rt:173:37
 mul-size-fits-2 : tie.Need-mul-size-fits-2 Inv-loop μ-loop
 mul-size-fits-2 c =
     let h = c .before .loop-test .taken in
@@ -74,7 +63,6 @@ mul-size-fits-2 c =
     let a = c .before .before .before .before .pre .1 .0 in
     omega (arith, c .before .before .before .before .good)
 
--- src/lib.rt:173:37
 shared-slice-read-size-fits-2 : tie.Need-shared-slice-read-size-fits-2 Inv-loop μ-loop
 shared-slice-read-size-fits-2 c =
     let h = c .before .before .loop-test .taken in
@@ -82,7 +70,6 @@ shared-slice-read-size-fits-2 c =
     let a = c .before .before .before .before .before .pre .1 .0 in
     omega (arith, c .before .before .before .before .before .good)
 
--- src/lib.rt:173:13
 size-fits-requires : tie.Need-size-fits-requires Inv-loop μ-loop
 size-fits-requires c κs =
     let r = c .before .before .before .before .before .pre .1 .1 .1 in
@@ -92,34 +79,31 @@ enum-told : tie.Need-enum-told Inv-loop μ-loop
 enum-told c =
     search needs
 
--- src/lib.rt:175:13
 enum-told-2 : tie.Need-enum-told-2 Inv-loop μ-loop
 enum-told-2 c =
     search needs
 
--- src/lib.rt:175:13
 returns : tie.Need-returns Inv-loop μ-loop
 unfolding sizesFit
 returns c =
     let a = c .before .before .before .before .before .before .before .before .args in
     let ks = now (a .kinds) in
     let sizes = now (a .sizes) in
-    let i = c .before .before .before .before .before .before .loop in
-    (λ formals. part-stops (c .before .before .size-fits .result) (sizeFits (a .at) (a .m) (plainBy (getD ks (a .formal + i .i) 0) sizes) (plainSize (kindAt formals (a .actual + i .i) ks sizes))) (sizesFit (a .at) (a .m) (drop (suc (i .i)) (plainsAt (a .count) (a .formal) ks sizes)) (drop (suc (i .i)) (kindsAt formals (a .count) (a .actual) ks sizes))) (c .before .before .size-fits .ensures .0 formals) (c .before .match .keys2)
-        ∙ sym (i .inv .1 formals
-        ∙ (λ z. sizesFit (a .at) (a .m) (row-drop (λ (j : ℕ). plainBy (getD ks j 0) sizes) (a .count) (a .formal) (i .i) (c .before .before .before .before .before .loop-test .taken) z) (row-drop (λ (j : ℕ). kindAt formals j ks sizes) (a .count) (a .actual) (i .i) (c .before .before .before .before .before .loop-test .taken) z))), ends-stops (c .before .before .size-fits .result) (a .next) (c .before .match .keys2))
+    let i = c .before .before .before .before .before .before .loop in (
+      λ formals. part-stops (c .before .before .size-fits .result) (sizeFits (a .at) (a .m) (plainBy (getD ks (a .formal + i .i) 0) sizes) (plainSize (kindAt formals (a .actual + i .i) ks sizes))) (sizesFit (a .at) (a .m) (drop (suc (i .i)) (plainsAt (a .count) (a .formal) ks sizes)) (drop (suc (i .i)) (kindsAt formals (a .count) (a .actual) ks sizes))) (c .before .before .size-fits .ensures .0 formals) (c .before .match .keys2)
+          ∙ sym (i .inv .1 formals
+          ∙ (λ z. sizesFit (a .at) (a .m) (row-drop (λ (j : ℕ). plainBy (getD ks j 0) sizes) (a .count) (a .formal) (i .i) (c .before .before .before .before .before .loop-test .taken) z) (row-drop (λ (j : ℕ). kindAt formals j ks sizes) (a .count) (a .actual) (i .i) (c .before .before .before .before .before .loop-test .taken) z))),
+      ends-stops (c .before .before .size-fits .result) (a .next) (c .before .match .keys2),
+    )
 
--- src/lib.rt:170:9
 add-i : tie.Need-add-i Inv-loop μ-loop
 add-i c =
     search needs
 
--- src/lib.rt:170:5
 loop-less : tie.Need-loop-less Inv-loop μ-loop
 loop-less c =
     search needs
 
--- src/lib.rt:170:5
 loop-again : tie.Need-loop-again Inv-loop μ-loop
 unfolding sizesFit
 loop-again c =
@@ -127,22 +111,25 @@ loop-again c =
     let ks = now (a .kinds) in
     let sizes = now (a .sizes) in
     let i = c .before .before .before .before .before .before .loop in
-    let h = c .before .before .before .before .before .loop-test .taken in
-    (omega arith, λ formals. i .inv .1 formals
-        ∙ (λ z. sizesFit (a .at) (a .m) (row-drop (λ (j : ℕ). plainBy (getD ks j 0) sizes) (a .count) (a .formal) (i .i) (c .before .before .before .before .before .loop-test .taken) z) (row-drop (λ (j : ℕ). kindAt formals j ks sizes) (a .count) (a .actual) (i .i) (c .before .before .before .before .before .loop-test .taken) z))
-        ∙ part-goes (c .before .before .size-fits .result) (sizeFits (a .at) (a .m) (plainBy (getD ks (a .formal + i .i) 0) sizes) (plainSize (kindAt formals (a .actual + i .i) ks sizes))) (c .before .before .size-fits .ensures .0 formals) (c .enum-told .given .0 .0) (sizesFit (a .at) (a .m) (drop (suc (i .i)) (plainsAt (a .count) (a .formal) ks sizes)) (drop (suc (i .i)) (kindsAt formals (a .count) (a .actual) ks sizes))) (c .enum-told .given .1)
-        ∙ rw add-one refl)
+    let h = c .before .before .before .before .before .loop-test .taken in (
+      omega arith,
+      λ formals. i .inv .1 formals
+          ∙ (λ z. sizesFit (a .at) (a .m) (row-drop (λ (j : ℕ). plainBy (getD ks j 0) sizes) (a .count) (a .formal) (i .i) (c .before .before .before .before .before .loop-test .taken) z) (row-drop (λ (j : ℕ). kindAt formals j ks sizes) (a .count) (a .actual) (i .i) (c .before .before .before .before .before .loop-test .taken) z))
+          ∙ part-goes (c .before .before .size-fits .result) (sizeFits (a .at) (a .m) (plainBy (getD ks (a .formal + i .i) 0) sizes) (plainSize (kindAt formals (a .actual + i .i) ks sizes))) (c .before .before .size-fits .ensures .0 formals) (c .enum-told .given .0 .0) (sizesFit (a .at) (a .m) (drop (suc (i .i)) (plainsAt (a .count) (a .formal) ks sizes)) (drop (suc (i .i)) (kindsAt formals (a .count) (a .actual) ks sizes))) (c .enum-told .given .1)
+          ∙ rw add-one refl,
+    )
 
--- src/lib.rt:153:1
 returns-2 : tie.Need-returns-2 Inv-loop μ-loop
 unfolding sizesFit checkedPart
 returns-2 c =
     let a = c .before .before .before .args in
     let ks = now (a .kinds) in
     let sizes = now (a .sizes) in
-    let i = c .before .loop in
-    (λ formals. sym (i .inv .1 formals
-        ∙ (λ z. sizesFit (a .at) (a .m) (drop-end (λ (j : ℕ). plainBy (getD ks j 0) sizes) (a .count) (a .formal) (i .i) (c .loop-test .left) z) (drop-end (λ (j : ℕ). kindAt formals j ks sizes) (a .count) (a .actual) (i .i) (c .loop-test .left) z))), refl)
+    let i = c .before .loop in (
+      λ formals. sym (i .inv .1 formals
+          ∙ (λ z. sizesFit (a .at) (a .m) (drop-end (λ (j : ℕ). plainBy (getD ks j 0) sizes) (a .count) (a .formal) (i .i) (c .loop-test .left) z) (drop-end (λ (j : ℕ). kindAt formals j ks sizes) (a .count) (a .actual) (i .i) (c .loop-test .left) z))),
+      refl,
+    )
 
 pub sizes-fit-spec : {M : Type 1} → statement M
 sizes-fit-spec =

@@ -1,10 +1,7 @@
+-- `check_call::taken_by` meets its contract. Assumes nothing.
 use borrow.Author.Needs.{needs}
 use Rattle.check_call.proofs.taken_by.Statement.{statement}
 use Rattle.check_call.proofs.taken_by.Tie as tie
-use Rattle.check_call.proofs.taken_by.Reads as reads
-use Rattle.check_call.proofs.taken_by.Lts as lts
-use Rattle.forms.proofs.put_in.Reads as put-in-reads
-use borrow.Author.Needs.{needs}
 use mathlib.Core.Path.{sym, ap, _∙_}
 use denote.Ref.{now}
 use Rattle.language.specs.Check.{register, taken}
@@ -15,54 +12,44 @@ use Rattle.forms.proofs.Laws.{fewer}
 use Rattle.check_operand.specs.Operands.{wantedOf}
 use Rattle.check_operand.specs.Tables.{kindIn}
 
-
--- src/lib.rt:92:31
 enum-told : tie.Need-enum-told
 enum-told c =
     search needs
 
--- src/lib.rt:93:64
 enum-told-2 : tie.Need-enum-told-2
 enum-told-2 c =
     search needs
 
--- src/lib.rt:93:50
 put-in-requires : tie.Need-put-in-requires
 put-in-requires c κs =
     (c .before .before .before .before .pre .0, (c .before .before .before .before .pre .1 .0, fewer (c .before .before .before .before .pre .1 .1) (c .before .before .before .before .pre .1 .0)))
 
--- src/lib.rt:94:35
 enum-told-3 : tie.Need-enum-told-3
 enum-told-3 c =
     search needs
 
--- src/lib.rt:95:32
 enum-told-4 : tie.Need-enum-told-4
 enum-told-4 c =
     search needs
 
--- src/lib.rt:77:1
 returns : tie.Need-returns
 unfolding wantedOf taken kindIn
 returns c =
     let a = c .before .before .args in
     (λ h. sym (ap (λ (k : Kind). taken (formsOf (a .m) (now (a .forms))) (kindIn k (asForm (widened (now (a .own)))) (h .formals (a .formal)))) (c .enum-told .given .1)), tt)
 
--- src/lib.rt:77:1
 returns-2 : tie.Need-returns-2
 unfolding wantedOf taken kindIn
 returns-2 c =
     let a = c .before .before .before .before .before .args in
     (λ h. ap register (c .put-in .ensures .0) ∙ sym (ap (λ (k : Kind). taken (formsOf (a .m) (now (a .forms))) (kindIn k (asForm (widened (now (a .own)))) (h .formals (a .formal)))) (c .before .before .before .enum-told2 .given .1)), c .put-in .ensures .1)
 
--- src/lib.rt:77:1
 returns-3 : tie.Need-returns-3
 unfolding wantedOf taken kindIn
 returns-3 c =
     let a = c .before .before .args in
     (λ h. sym (ap (λ (k : Kind). taken (formsOf (a .m) (now (a .forms))) (kindIn k (asForm (widened (now (a .own)))) (h .formals (a .formal)))) (c .enum-told3 .given .1)), tt)
 
--- src/lib.rt:77:1
 returns-4 : tie.Need-returns-4
 unfolding wantedOf taken kindIn
 returns-4 c =

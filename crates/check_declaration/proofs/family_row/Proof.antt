@@ -1,17 +1,10 @@
+-- `check_declaration::family_row` meets its contract. Assumes nothing.
 use borrow.Author.Needs.{needs}
 use Rattle.check_declaration.proofs.family_row.Statement.{statement}
 use Rattle.check_declaration.proofs.family_row.Tie as tie
-use Rattle.check_declaration.proofs.family_row.Reads as reads
-use Rattle.check_declaration.proofs.family_row.Lts as lts
-use Rattle.check_declaration.proofs.plain_from.Reads as plain-from-reads
-use Rattle.check_declaration.proofs.plain_rows.Reads as plain-rows-reads
-use Rattle.check_declaration.proofs.row_number.Reads as row-number-reads
-use Rattle.check_declaration.proofs.size_row.Reads as size-row-reads
-use Rattle.check_declaration.proofs.two_counts.Reads as two-counts-reads
-use borrow.Author.Needs.{needs}
-use mathlib.Core.Path.{_≡_, refl, sym, ap, _∙_}
-use mathlib.Core.List.{List, [], _∷_, map}
-use Prim.Native.Nat.{ℕ, _+_, _*_, _/_, _≤_, _<_}
+use mathlib.Core.Path.{refl, ap, _∙_}
+use mathlib.Core.List.{[], _∷_}
+use Prim.Native.Nat.{_+_, _*_, _/_, _≤_, _<_}
 use native.Mathlib.Omega.{arith}
 use denote.Ref.{now}
 use lib.ListN.{length, getD, set}
@@ -26,28 +19,22 @@ use Rattle.check_declaration.proofs.Tables.{number-size, number-kind, r
 use Rattle.check_declaration.proofs.FamilyTypes.{both-right, counts-bad, plain-refused, plain-left, plain-all}
 use Rattle.check_declaration.proofs.Formals.{within-upto, plain-upto, after-stops, formals-refused, stays-none, stays-upper, stays-family, formals-family, family-takes}
 
-
--- src/lib.rt:236:11
 two-counts-requires : tie.Need-two-counts-requires
 two-counts-requires c κs =
     search needs
 
--- src/lib.rt:237:21
 enum-known-k : tie.Need-enum-known-k
 enum-known-k c =
     search needs
 
--- src/lib.rt:238:22
 enum-known-m : tie.Need-enum-known-m
 enum-known-m c =
     search needs
 
--- src/lib.rt:239:24
 add-from : tie.Need-add-from
 add-from c =
     search needs
 
--- src/lib.rt:240:17
 plain-from-requires : tie.Need-plain-from-requires
 plain-from-requires c κs =
     let h = c .before .before .before .before .before .before .pre .0 .0 in
@@ -55,7 +42,6 @@ plain-from-requires c κs =
     let l = c .before .before .before .before .before .before .pre .1 .0 .0 in
     (c .before .before .before .before .before .before .pre .1 .0 .1, omega arith)
 
--- src/lib.rt:241:17
 plain-rows-requires : tie.Need-plain-rows-requires
 plain-rows-requires c κs =
     let a = c .before .before .before .before .before .before .before .before .before .args in
@@ -77,27 +63,22 @@ plain-rows-requires c κs =
     let starts = c .before .before .plain-from .ensures in
     (c .before .before .before .before .before .before .before .before .before .pre .0 .1, (few, ((five, c .before .before .before .before .before .before .before .before .before .pre .1 .0 .0), (omega (arith, t .kindsLong, c .before .before .before .before .before .before .before .before .before .pre .0 .0, c .before .before .before .before .before .before .before .before .before .pre .0 .1), (in-use-later (a .row) 0 (a .registers) (a .at) (a .at + 5) kinds used (omega arith) (omega arith), t)))))
 
--- src/lib.rt:242:28
 enum-known-r : tie.Need-enum-known-r
 enum-known-r c =
     search needs
 
--- src/lib.rt:243:17
 enum-told : tie.Need-enum-told
 enum-told c =
     search needs
 
--- src/lib.rt:243:17
 same-length : tie.Need-same-length
 same-length c =
     c .before .before .before .before .before .plain-rows .ensures .1 .1 .1 .1 .1 .kindsSame
 
--- src/lib.rt:243:17
 same-length-2 : tie.Need-same-length-2
 same-length-2 c =
     c .before .before .before .before .before .plain-rows .ensures .1 .1 .1 .1 .1 .sizesSame
 
--- src/lib.rt:243:17
 returns : tie.Need-returns
 returns c =
     let a = c .before .before .before .before .before .before .before .before .before .before .before .before .before .before .before .args in
@@ -123,17 +104,14 @@ returns c =
     let apart = c .before .before .before .before .before .plain-rows .ensures .1 .1 .1 .1 .1 in
     (λ fs ks n. plain-refused (scopeWith fs ks n []) program (a .at) (a .next) (c .before .before .before .before .before .before .before .before .before .before .before .before .two-counts .result) (c .before .before .before .before .before .before .before .before .before .before .before .before .two-counts .ensures .0) m count (c .before .before .before .before .before .before .before .before .before .before .m .given .1) (formalAt families k₁ s₁) (c .before .before .before .before .before .plain-rows .result) first k₁ s₁ (c .before .before .before .before .before .plain-rows .ensures .0 [] [] (formalAt families k₁ s₁)) (c .before .match2 .keys2) (formalAt families k₁ s₁) (a .row) k₁ s₁, (ends-stops (c .before .before .before .before .before .plain-rows .result) (a .next) (c .before .match2 .keys2), (after-stops (a .row + 1) (a .registers) (c .before .before .before .before .before .plain-rows .result) k₁ (c .before .match2 .keys2), (formals-refused (c .before .before .before .before .before .plain-rows .result) families k₁ (c .before .match2 .keys2), stays-upper bytes (a .row) first count (a .at) (a .registers) families f apart (omega arith) half))))
 
--- src/lib.rt:246:17
 same-length-3 : tie.Need-same-length-3
 same-length-3 c =
     c .before .before .before .before .before .before .before .plain-rows .ensures .1 .1 .1 .1 .1 .kindsSame
 
--- src/lib.rt:246:17
 same-length-4 : tie.Need-same-length-4
 same-length-4 c =
     c .before .before .before .before .before .before .before .plain-rows .ensures .1 .1 .1 .1 .1 .sizesSame
 
--- src/lib.rt:246:17
 returns-2 : tie.Need-returns-2
 unfolding checkedRow
 returns-2 c =
@@ -167,7 +145,6 @@ returns-2 c =
     let plains = plain-upto (c .before .before .before .before .before .before .before .plain-rows .result) end count first k₁ (c .before .before .r .given .1) (c .before .before .before .before .before .before .before .plain-rows .ensures .1 .1 .1 .1 .0) in
     (λ fs ks n. plain-left (scopeWith fs ks n []) program (a .at) (a .next) (c .before .before .before .before .before .before .before .before .before .before .before .before .before .before .two-counts .result) (c .before .before .before .before .before .before .before .before .before .before .before .before .before .before .two-counts .ensures .0) m count (c .before .before .before .before .before .before .before .before .before .before .before .before .m .given .1) (formalAt families k₁ s₁) (c .before .before .before .before .before .before .before .plain-rows .result) first k₁ s₁ (c .before .before .before .before .before .before .before .plain-rows .ensures .0 [] [] (formalAt families k₁ s₁)) end (c .before .before .r .given .1) beyond (c .if1 .taken) (c .before .before .before .before .before .before .before .before .before .before .before .before .before .before .before .before .before .pre .0 .1), (tt, (tt, (tt, stays-upper bytes (a .row) first count (a .at) (a .registers) families f apart (omega arith) half))))
 
--- src/lib.rt:248:17
 size-row-requires : tie.Need-size-row-requires
 size-row-requires c κs =
     let h = c .before .before .before .before .before .before .before .before .before .before .before .before .before .before .before .before .before .pre .0 .0 in
@@ -175,7 +152,6 @@ size-row-requires c κs =
     let l = c .before .before .before .before .before .before .before .before .before .before .before .before .before .before .before .before .before .pre .1 .0 .0 in
     (omega arith, c .before .before .before .before .before .before .before .before .before .before .before .before .before .before .before .before .before .pre .1 .1 .0 .fewRegisters)
 
--- src/lib.rt:249:26
 row-number-requires : tie.Need-row-number-requires
 row-number-requires c κs =
     let h = c .before .before .before .before .before .before .before .before .before .before .before .before .before .before .before .before .before .before .pre .0 .0 in
@@ -183,7 +159,6 @@ row-number-requires c κs =
     let l = c .before .before .before .before .before .before .before .before .before .before .before .before .before .before .before .before .before .before .pre .1 .0 .0 in
     omega (arith, c .size-row .ensures, c .before .before .before .before .before .before .before .before .before .before .before .before .before .before .before .before .before .before .pre .1 .1 .0 .fewRegisters)
 
--- src/lib.rt:249:13
 mul-kinds : tie.Need-mul-kinds
 mul-kinds c =
     let a = c .before .before .before .before .before .before .before .before .before .before .before .before .before .before .before .before .before .before .before .args in
@@ -209,7 +184,6 @@ mul-kinds c =
     let apart = c .before .before .before .before .before .before .before .before .before .plain-rows .ensures .1 .1 .1 .1 .1 in
     omega (arith, c .before .before .before .before .before .before .before .before .before .before .before .before .before .before .before .before .before .before .before .good, apart .kindsSame)
 
--- src/lib.rt:249:13
 slice-write-kinds : tie.Need-slice-write-kinds
 slice-write-kinds c =
     let a = c .before .before .before .before .before .before .before .before .before .before .before .before .before .before .before .before .before .before .before .args in
@@ -235,7 +209,6 @@ slice-write-kinds c =
     let apart = c .before .before .before .before .before .before .before .before .before .plain-rows .ensures .1 .1 .1 .1 .1 in
     omega (arith, c .before .before .before .before .before .before .before .before .before .before .before .before .before .before .before .before .before .before .before .good, apart .kindsSame)
 
--- src/lib.rt:250:26
 cast-t28 : tie.Need-cast-t28
 cast-t28 c =
     let a = c .before .before .before .before .before .before .before .before .before .before .before .before .before .before .before .before .before .before .before .args in
@@ -261,7 +234,6 @@ cast-t28 c =
     let apart = c .before .before .before .before .before .before .before .before .before .plain-rows .ensures .1 .1 .1 .1 .1 in
     omega (arith, c .before .before .before .before .before .before .before .before .before .before .before .before .before .before .before .before .before .before .before .pre .1 .0 .1, t .kindsLong, c .before .before .before .before .before .before .before .before .before .before .before .before .before .before .before .before .before .before .before .pre .0 .0, c .before .before .before .before .before .before .before .before .before .before .before .before .before .before .before .before .before .before .before .pre .0 .1, c .before .before .before .before .before .before .before .before .before .before .before .before .before .before .before .before .before .before .before .good)
 
--- src/lib.rt:250:36
 cast-t31 : tie.Need-cast-t31
 cast-t31 c =
     let a = c .before .before .before .before .before .before .before .before .before .before .before .before .before .before .before .before .before .before .before .args in
@@ -287,7 +259,6 @@ cast-t31 c =
     let apart = c .before .before .before .before .before .before .before .before .before .plain-rows .ensures .1 .1 .1 .1 .1 in
     omega (arith, c .before .before .before .before .before .before .before .before .before .before .before .before .before .before .before .before .before .before .before .pre .1 .0 .1, t .kindsLong, c .before .before .before .before .before .before .before .before .before .before .before .before .before .before .before .before .before .before .before .pre .0 .0, c .before .before .before .before .before .before .before .before .before .before .before .before .before .before .before .before .before .before .before .pre .0 .1, c .before .before .before .before .before .before .before .before .before .before .before .before .before .before .before .before .before .before .before .good)
 
--- src/lib.rt:250:50
 cast-t32 : tie.Need-cast-t32
 cast-t32 c =
     let a = c .before .before .before .before .before .before .before .before .before .before .before .before .before .before .before .before .before .before .before .args in
@@ -313,7 +284,6 @@ cast-t32 c =
     let apart = c .before .before .before .before .before .before .before .before .before .plain-rows .ensures .1 .1 .1 .1 .1 in
     omega (arith, c .before .before .before .before .before .before .before .before .before .before .before .before .before .before .before .before .before .before .before .pre .1 .0 .1, t .kindsLong, c .before .before .before .before .before .before .before .before .before .before .before .before .before .before .before .before .before .before .before .pre .0 .0, c .before .before .before .before .before .before .before .before .before .before .before .before .before .before .before .before .before .before .before .pre .0 .1, c .before .before .before .before .before .before .before .before .before .before .before .before .before .before .before .before .before .before .before .good)
 
--- src/lib.rt:251:26
 add-formal : tie.Need-add-formal
 add-formal c =
     let a = c .before .before .before .before .before .before .before .before .before .before .before .before .before .before .before .before .before .before .before .args in
@@ -355,7 +325,6 @@ add-formal c =
     let far : a .at + 3 * count + 5 ≤ a .next = omega arith in
     omega (arith, c .before .before .before .before .before .before .before .before .before .before .before .before .before .before .before .before .before .before .before .good)
 
--- src/lib.rt:252:13
 mul-entry : tie.Need-mul-entry
 mul-entry c =
     let a = c .before .before .before .before .before .before .before .before .before .before .before .before .before .before .before .before .before .before .before .args in
@@ -397,7 +366,6 @@ mul-entry c =
     let far : a .at + 3 * count + 5 ≤ a .next = omega arith in
     omega (arith, c .before .before .before .before .before .before .before .before .before .before .before .before .before .before .before .before .before .before .before .good)
 
--- src/lib.rt:252:13
 slice-set-from-entry : tie.Need-slice-set-from-entry
 slice-set-from-entry c =
     let a = c .before .before .before .before .before .before .before .before .before .before .before .before .before .before .before .before .before .before .before .args in
@@ -439,7 +407,6 @@ slice-set-from-entry c =
     let far : a .at + 3 * count + 5 ≤ a .next = omega arith in
     omega (arith, c .before .before .before .before .before .before .before .before .before .before .before .before .before .before .before .before .before .before .before .good)
 
--- src/lib.rt:214:1
 returns-3 : tie.Need-returns-3
 unfolding checkedRow
 returns-3 c =
@@ -454,7 +421,6 @@ returns-3 c =
     let half : a .row < length kinds / 2 = omega (arith, used .few, t .kindsLong, c .before .before .before .before .before .before .pre .0 .0, c .before .before .before .before .before .before .pre .0 .1) in
     (λ fs ks n. counts-bad (scopeWith fs ks n []) program (a .at) (a .next) (c .before .before .before .two-counts .result) (c .before .before .before .two-counts .ensures .0) (c .before .k .given .0 .0) (c .before .k .given .0 .1 .0) (c .before .k .given .1), (tt, (tt, (tt, stays-none bytes (a .row) (a .at) (a .registers) families kinds (now (a .sizes)) t))))
 
--- src/lib.rt:214:1
 same-length-5 : tie.Need-same-length-5
 same-length-5 c =
     let a = c .before .before .before .before .before .before .before .before .before .before .before .before .before .before .before .before .before .before .before .args in
@@ -496,7 +462,6 @@ same-length-5 c =
     let far : a .at + 3 * count + 5 ≤ a .next = omega arith in
     stays-family bytes (a .row) first count (a .at) (a .next) (a .registers) families f apart starts half m own b is u inside .familiesSame
 
--- src/lib.rt:214:1
 same-length-6 : tie.Need-same-length-6
 same-length-6 c =
     let a = c .before .before .before .before .before .before .before .before .before .before .before .before .before .before .before .before .before .before .before .args in
@@ -538,12 +503,10 @@ same-length-6 c =
     let far : a .at + 3 * count + 5 ≤ a .next = omega arith in
     stays-family bytes (a .row) first count (a .at) (a .next) (a .registers) families f apart starts half m own b is u inside .kindsSame
 
--- src/lib.rt:214:1
 same-length-7 : tie.Need-same-length-7
 same-length-7 c =
     c .before .before .before .before .before .before .before .before .before .plain-rows .ensures .1 .1 .1 .1 .1 .sizesSame
 
--- src/lib.rt:214:1
 returns-4 : tie.Need-returns-4
 unfolding checkedRow kindIn
 returns-4 c =
@@ -584,9 +547,11 @@ returns-4 c =
     let wide : a .row < length k₁ = omega (arith, apart .kindsSame) in
     let room : first + count ≤ length kinds = omega (arith, t .kindsLong, c .before .before .before .before .before .before .before .before .before .before .before .before .before .before .before .before .before .before .before .pre .0 .0, c .before .before .before .before .before .before .before .before .before .before .before .before .before .before .before .before .before .before .before .pre .0 .1) in
     let far : a .at + 3 * count + 5 ≤ a .next = omega arith in
-    let g = formalAt (set families (4096 + own) (m ∷ count ∷ first ∷ [])) (set k₁ (a .row) b) s₁ in
-    (λ fs ks n. ap good (row-kind bytes (a .row) k₁ s₁ (apart .table) wide b g ∙ (λ i. kindIn (number-kind Family own b u i) (asForm (widened (getD s₁ (sizeOfRow b) []))) (g (names i))) ∙ ap formal (family-takes bytes (a .row) first count (a .at) (a .next) (a .registers) families f apart starts half m own b is u inside (formalAt families k₁ s₁)))
-        ∙ plain-all (scopeWith fs ks n []) program (a .at) (a .next) (c .before .before .before .before .before .before .before .before .before .before .before .before .before .before .before .before .two-counts .result) (c .before .before .before .before .before .before .before .before .before .before .before .before .before .before .before .before .two-counts .ensures .0) m count (c .before .before .before .before .before .before .before .before .before .before .before .before .before .before .m .given .1) (formalAt families k₁ s₁) (c .before .before .before .before .before .before .before .before .before .plain-rows .result) first k₁ s₁ (c .before .before .before .before .before .before .before .before .before .plain-rows .ensures .0 [] [] (formalAt families k₁ s₁)) end (c .before .before .before .before .r .given .1) beyond (c .before .before .if1 .left), (refl, (in-use-set 0 (a .row + 1) (a .registers) (a .registers) end (a .next) k₁ (a .row) b later wide (omega arith) (omega arith) (omega (arith, used .few)) (used .fewRegisters), (formals-family bytes (a .row) first count (a .at) (a .next) (a .registers) families f apart starts half m own b is u inside few room far plains, stays-family bytes (a .row) first count (a .at) (a .next) (a .registers) families f apart starts half m own b is u inside))))
+    let g = formalAt (set families (4096 + own) (m ∷ count ∷ first ∷ [])) (set k₁ (a .row) b) s₁ in (
+      λ fs ks n. ap good (row-kind bytes (a .row) k₁ s₁ (apart .table) wide b g ∙ (λ i. kindIn (number-kind Family own b u i) (asForm (widened (getD s₁ (sizeOfRow b) []))) (g (names i))) ∙ ap formal (family-takes bytes (a .row) first count (a .at) (a .next) (a .registers) families f apart starts half m own b is u inside (formalAt families k₁ s₁)))
+          ∙ plain-all (scopeWith fs ks n []) program (a .at) (a .next) (c .before .before .before .before .before .before .before .before .before .before .before .before .before .before .before .before .two-counts .result) (c .before .before .before .before .before .before .before .before .before .before .before .before .before .before .before .before .two-counts .ensures .0) m count (c .before .before .before .before .before .before .before .before .before .before .before .before .before .before .m .given .1) (formalAt families k₁ s₁) (c .before .before .before .before .before .before .before .before .before .plain-rows .result) first k₁ s₁ (c .before .before .before .before .before .before .before .before .before .plain-rows .ensures .0 [] [] (formalAt families k₁ s₁)) end (c .before .before .before .before .r .given .1) beyond (c .before .before .if1 .left),
+      (refl, (in-use-set 0 (a .row + 1) (a .registers) (a .registers) end (a .next) k₁ (a .row) b later wide (omega arith) (omega arith) (omega (arith, used .few)) (used .fewRegisters), (formals-family bytes (a .row) first count (a .at) (a .next) (a .registers) families f apart starts half m own b is u inside few room far plains, stays-family bytes (a .row) first count (a .at) (a .next) (a .registers) families f apart starts half m own b is u inside))),
+    )
 
 pub family-row-spec : {M : Type 1} → statement M
 family-row-spec =

@@ -1,8 +1,6 @@
+-- `check_declaration::parameter_types` meets its contract. Assumes nothing.
 use Rattle.check_declaration.proofs.parameter_types.Statement.{statement}
 use Rattle.check_declaration.proofs.parameter_types.Tie as tie
-use Rattle.check_declaration.proofs.parameter_types.Reads as reads
-use Rattle.check_declaration.proofs.parameter_types.Lts as lts
-use Rattle.check_declaration.proofs.typed_row.Reads as typed-row-reads
 use mathlib.Core.Path.{_≡_, sym, ap, _∙_}
 use mathlib.Core.List.{List, [], _++_}
 use Prim.Native.Nat.{ℕ, suc, _+_, _-_, _≤_}
@@ -22,7 +20,6 @@ use Rattle.check_declaration.proofs.Tables.{in-use-later, in-use-stops,
 use Rattle.check_declaration.proofs.Types.{typeLevel, rows-stop, types-stop, types-go, more-kinds, no-kinds, all-kinds}
 use Rattle.check_declaration.proofs.Formals.{stays-none, stays-more, kinds-stay, formals-later, formals-upto, formals-stop}
 
-
 abbrev Inv-loop : tie.InvT-loop
 Inv-loop program at to parent m count first registers families₀ kinds₀ sizes₀ from₀ j₀ families kinds sizes from j =
     (j ≤ count) × Stays (length program) first at registers families₀ kinds₀ sizes₀ families kinds sizes × Beyond program at to j from × InUse (first + j) registers from kinds × (from ≤ to) × FormalsIn from families kinds × ((fs : List Signature) (ks : List Kind) → kindsOf (scopeWith fs ks m []) (typesOf parent count (fieldsAt program at to)) ≡ (kindsOf (scopeWith fs ks m []) (typesOf parent (count - j) (fieldsAt program from to)) >>= λ rest. good (kindsAt (formalAt families kinds sizes) j first kinds sizes ++ rest)))
@@ -31,18 +28,15 @@ abbrev μ-loop : tie.MeasureT-loop
 μ-loop program at to parent m count first registers families₀ kinds₀ sizes₀ from₀ j₀ families kinds sizes from j =
     count - j
 
--- src/lib.rt:318:5
 loop-holds : tie.Need-loop-holds Inv-loop μ-loop
 loop-holds c =
     let a = c .before .before .args in
     (omega arith, stays-none (length (now (a .program))) (a .first) (a .at) (a .registers) (now (a .families)) (now (a .kinds)) (now (a .sizes)) (c .before .before .pre .1 .1 .1 .1 .0), beyond-none (now (a .program)) (a .at) (a .to), in-use-later (a .first) (a .first + 0) (a .registers) (a .at) (a .at) (now (a .kinds)) (c .before .before .pre .1 .1 .1 .0) (omega arith) (omega (arith, c .before .before .pre .1 .1 .1 .0 .few)), c .before .before .pre .1 .1 .0 .0, c .before .before .pre .1 .1 .1 .1 .1 .1, (λ fs ks. let z : a .count - 0 ≡ a .count = omega arith in rw z (no-kinds (formalAt (now (a .families)) (now (a .kinds)) (now (a .sizes))) _ (a .first) (now (a .kinds)) (now (a .sizes)))))
 
--- src/lib.rt:319:19
 add-row : tie.Need-add-row Inv-loop μ-loop
 add-row c =
     omega (arith, c .before .loop .inv .3 .few, c .before .loop .inv .4, c .before .before .before .before .pre .0, c .before .before .before .before .pre .1 .1 .0 .1)
 
--- src/lib.rt:320:13
 typed-row-requires : tie.Need-typed-row-requires Inv-loop μ-loop
 typed-row-requires c κs =
     let i = c .before .before .before .before .loop in
@@ -53,32 +47,26 @@ typed-row-requires c κs =
     let table = c .before .before .before .before .before .before .before .pre .1 .1 .1 .1 .1 .0 in
     ((i .inv .4, c .before .before .before .before .before .before .before .pre .0), (c .before .before .before .before .before .before .before .pre .1 .0, ((c .before .before .before .before .before .before .before .pre .1 .1 .0 .1, omega arith), (i .inv .3, (i .inv .1 .table, (omega arith, i .inv .5))))))
 
--- src/lib.rt:323:24
 enum-known-r : tie.Need-enum-known-r Inv-loop μ-loop
 enum-known-r c =
     search needs
 
--- src/lib.rt:324:13
 enum-told : tie.Need-enum-told Inv-loop μ-loop
 enum-told c =
     search needs
 
--- src/lib.rt:324:13
 same-length : tie.Need-same-length Inv-loop μ-loop
 same-length c =
     c .before .before .before .before .before .before .typed-row .ensures .1 .1 .1 .1 .familiesSame ∙ c .before .before .before .before .before .before .before .before .before .before .before .loop .inv .1 .familiesSame
 
--- src/lib.rt:324:13
 same-length-2 : tie.Need-same-length-2 Inv-loop μ-loop
 same-length-2 c =
     c .before .before .before .before .before .before .typed-row .ensures .1 .1 .1 .1 .kindsSame ∙ c .before .before .before .before .before .before .before .before .before .before .before .loop .inv .1 .kindsSame
 
--- src/lib.rt:324:13
 same-length-3 : tie.Need-same-length-3 Inv-loop μ-loop
 same-length-3 c =
     c .before .before .before .before .before .before .typed-row .ensures .1 .1 .1 .1 .sizesSame ∙ c .before .before .before .before .before .before .before .before .before .before .before .loop .inv .1 .sizesSame
 
--- src/lib.rt:324:13
 returns : tie.Need-returns Inv-loop μ-loop
 returns c =
     let a = c .before .before .before .before .before .before .before .before .before .before .before .before .before .before .args in
@@ -92,8 +80,7 @@ returns c =
     let before = formalAt (i .families) (i .kinds) (i .sizes) in
     let sofar : List Kind → Checked (List Kind) = λ rest. good (kindsAt before (i .j) (a .first) (i .kinds) (i .sizes) ++ rest) in
     let step = c .before .before .before .before .before .before .typed-row .ensures .1 .1 .1 .1 in
-    let along = i .inv .2 .low in
-    (
+    let along = i .inv .2 .low in (
       λ fs ks. rows-stop g (c .before .before .before .before .before .before .typed-row .result) (a .count) (a .first) kinds sizes sofar (c .before .match .keys2)
           ∙ ap (λ (c : Checked (List Kind)). c >>= sofar) (types-stop (typeLevel (scopeWith fs ks (a .m) []) (a .parent)) (a .count - (i .j + 1)) program (i .from) (a .to) g (c .before .before .before .before .before .before .typed-row .result) (a .first + i .j) kinds sizes (c .before .before .before .before .before .before .typed-row .ensures .0 fs ks) (a .count) (a .first) (c .before .match .keys2)
           ∙ ap (λ (n : ℕ). kindsOf (scopeWith fs ks (a .m) []) (typesOf (a .parent) n (fieldsAt program (i .from) (a .to)))) (sym e))
@@ -101,17 +88,14 @@ returns c =
       (beyond-stops program (a .at) (a .to) (a .count) (c .before .before .before .before .before .before .typed-row .result) (c .before .match .keys2), (in-use-stops (a .first + a .count) (a .registers) (a .to) (c .before .before .before .before .before .before .typed-row .result) kinds (c .before .match .keys2), (formals-stop (a .to) (c .before .before .before .before .before .before .typed-row .result) families kinds (c .before .match .keys2), stays-more (length program) (a .first) (a .at) (i .from) (a .registers) (i .j) along (i .inv .1) step))),
     )
 
--- src/lib.rt:318:9
 add-j : tie.Need-add-j Inv-loop μ-loop
 add-j c =
     search needs
 
--- src/lib.rt:318:5
 loop-less : tie.Need-loop-less Inv-loop μ-loop
 loop-less c =
     search needs
 
--- src/lib.rt:318:5
 loop-again : tie.Need-loop-again Inv-loop μ-loop
 loop-again c =
     let a = c .before .before .before .before .before .before .before .before .before .before .before .before .before .before .before .args in
@@ -142,22 +126,18 @@ loop-again c =
           ∙ more-kinds (kindsOf (scopeWith fs ks (a .m) []) (typesOf (a .parent) (a .count - (i .j + 1)) (fieldsAt program next (a .to)))) (a .first) (i .j) before g (i .kinds) (i .sizes) kinds sizes (kinds-stay (length program) (a .first + i .j) (a .first + i .j) (i .from) (a .registers) (i .j) (a .first) (i .inv .3) step (omega arith))),
     )
 
--- src/lib.rt:291:1
 same-length-4 : tie.Need-same-length-4 Inv-loop μ-loop
 same-length-4 c =
     c .before .loop .inv .1 .familiesSame
 
--- src/lib.rt:291:1
 same-length-5 : tie.Need-same-length-5 Inv-loop μ-loop
 same-length-5 c =
     c .before .loop .inv .1 .kindsSame
 
--- src/lib.rt:291:1
 same-length-6 : tie.Need-same-length-6 Inv-loop μ-loop
 same-length-6 c =
     c .before .loop .inv .1 .sizesSame
 
--- src/lib.rt:291:1
 returns-2 : tie.Need-returns-2 Inv-loop μ-loop
 unfolding checkedRows
 returns-2 c =

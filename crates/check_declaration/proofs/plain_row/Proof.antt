@@ -1,15 +1,9 @@
+-- `check_declaration::plain_row` meets its contract. Assumes nothing.
 use borrow.Author.Needs.{needs}
 use Rattle.check_declaration.proofs.plain_row.Statement.{statement}
 use Rattle.check_declaration.proofs.plain_row.Tie as tie
-use Rattle.check_declaration.proofs.plain_row.Reads as reads
-use Rattle.check_declaration.proofs.plain_row.Lts as lts
-use Rattle.check_declaration.proofs.plain_type.Reads as plain-type-reads
-use Rattle.check_declaration.proofs.row_number.Reads as row-number-reads
-use Rattle.check_declaration.proofs.size_row.Reads as size-row-reads
-use Rattle.forms.proofs.store.Reads as store-reads
-use borrow.Author.Needs.{needs}
 use mathlib.Core.Path.{_≡_, _∙_}
-use Prim.Native.Nat.{ℕ, _+_, _<_}
+use Prim.Native.Nat.{ℕ, _<_}
 use denote.Ref.{now}
 use lib.ListN.{length, getD}
 use Rattle.check_declaration.specs.Types.{sizeRow}
@@ -25,23 +19,18 @@ use Rattle.check_operand.specs.Tables.{scopeWith, sizeOfRow}
 use Rattle.check_declaration.proofs.Sizes.{narrow}
 use Rattle.check_declaration.proofs.Formals.{set-plain}
 
-
--- src/lib.rt:149:11
 plain-type-requires : tie.Need-plain-type-requires
 plain-type-requires c κs =
     search needs
 
--- src/lib.rt:150:26
 enum-known-next : tie.Need-enum-known-next
 enum-known-next c =
     search needs
 
--- src/lib.rt:151:26
 row-number-requires : tie.Need-row-number-requires
 row-number-requires c κs =
     search needs
 
--- src/lib.rt:151:13
 mul-kinds : tie.Need-mul-kinds
 mul-kinds c =
     let a = c .before .before .before .before .before .before .before .before .args in
@@ -57,7 +46,6 @@ mul-kinds c =
     let h : a .row < length kinds = c .before .before .before .before .before .before .before .before .pre .1 .1 .1 .0 in
     omega (arith, c .before .before .before .before .before .before .before .before .good)
 
--- src/lib.rt:151:13
 slice-write-kinds : tie.Need-slice-write-kinds
 slice-write-kinds c =
     let a = c .before .before .before .before .before .before .before .before .args in
@@ -73,12 +61,10 @@ slice-write-kinds c =
     let h : a .row < length kinds = c .before .before .before .before .before .before .before .before .pre .1 .1 .1 .0 in
     omega (arith, c .before .before .before .before .before .before .before .before .good)
 
--- src/lib.rt:154:24
 enum-known-next-2 : tie.Need-enum-known-next-2
 enum-known-next-2 c =
     search needs
 
--- src/lib.rt:156:13
 store-requires : tie.Need-store-requires
 store-requires c κs =
     let a = c .before .before .before .before .before .before .before .before .before .args in
@@ -95,7 +81,6 @@ store-requires c κs =
     let few = c .before .before .before .before .before .before .before .before .before .pre .1 .0 in
     (u .1, narrow (c .before .before .before .before .before .plain-type .result) next l (scopeWith [] [] (a .m) []) (due readPlain (badType 4 (a .parent)) (fieldsAt program (a .at) (a .to))) (c .before .before .before .next2 .given .1) (u .1) (c .before .before .before .before .before .plain-type .ensures .0 [] []) (omega arith))
 
--- src/lib.rt:157:17
 size-row-requires : tie.Need-size-row-requires
 size-row-requires c κs =
     let a = c .before .before .before .before .before .before .before .before .before .before .args in
@@ -111,7 +96,6 @@ size-row-requires c κs =
     let h : a .row < length kinds = c .before .before .before .before .before .before .before .before .before .before .pre .1 .1 .1 .0 in
     (omega (arith, u .0 .low, u .0 .high, c .before .before .before .before .before .before .before .before .before .before .pre .0, c .before .before .before .before .before .before .before .before .before .before .pre .1 .1 .0), before .fewRegisters)
 
--- src/lib.rt:158:26
 row-number-requires-2 : tie.Need-row-number-requires-2
 row-number-requires-2 c κs =
     let a = c .before .before .before .before .before .before .before .before .before .before .before .args in
@@ -127,7 +111,6 @@ row-number-requires-2 c κs =
     let h : a .row < length kinds = c .before .before .before .before .before .before .before .before .before .before .before .pre .1 .1 .1 .0 in
     omega (arith, c .size-row .ensures, before .fewRegisters, u .0 .low, u .0 .high, c .before .before .before .before .before .before .before .before .before .before .before .pre .0, c .before .before .before .before .before .before .before .before .before .before .before .pre .1 .1 .0)
 
--- src/lib.rt:158:13
 mul-kinds-2 : tie.Need-mul-kinds-2
 mul-kinds-2 c =
     let a = c .before .before .before .before .before .before .before .before .before .before .before .before .args in
@@ -143,7 +126,6 @@ mul-kinds-2 c =
     let h : a .row < length kinds = c .before .before .before .before .before .before .before .before .before .before .before .before .pre .1 .1 .1 .0 in
     omega (arith, c .before .before .before .before .before .before .before .before .before .before .before .before .good)
 
--- src/lib.rt:158:13
 slice-write-kinds-2 : tie.Need-slice-write-kinds-2
 slice-write-kinds-2 c =
     let a = c .before .before .before .before .before .before .before .before .before .before .before .before .args in
@@ -159,7 +141,6 @@ slice-write-kinds-2 c =
     let h : a .row < length kinds = c .before .before .before .before .before .before .before .before .before .before .before .before .pre .1 .1 .1 .0 in
     omega (arith, c .before .before .before .before .before .before .before .before .before .before .before .before .good)
 
--- src/lib.rt:159:13
 mul-t29 : tie.Need-mul-t29
 mul-t29 c =
     let a = c .before .before .before .before .before .before .before .before .before .before .before .before .args in
@@ -178,7 +159,6 @@ mul-t29 c =
     let f : own < length sizes = omega (arith, u .0 .low, u .0 .high, c .before .before .before .before .before .before .before .before .before .before .before .before .pre .0, t .sizesLong, before .fewRegisters) in
     omega (arith, c .before .before .before .before .before .before .before .before .before .before .before .before .good)
 
--- src/lib.rt:159:13
 slice-set-from-sizes : tie.Need-slice-set-from-sizes
 slice-set-from-sizes c =
     let a = c .before .before .before .before .before .before .before .before .before .before .before .before .args in
@@ -197,17 +177,14 @@ slice-set-from-sizes c =
     let f : own < length sizes = omega (arith, u .0 .low, u .0 .high, c .before .before .before .before .before .before .before .before .before .before .before .before .pre .0, t .sizesLong, before .fewRegisters) in
     omega (arith, c .before .before .before .before .before .before .before .before .before .before .before .before .good)
 
--- src/lib.rt:162:23
 enum-known-n : tie.Need-enum-known-n
 enum-known-n c =
     search needs
 
--- src/lib.rt:125:1
 same-length : tie.Need-same-length
 same-length c =
     search needs
 
--- src/lib.rt:125:1
 returns : tie.Need-returns
 returns c =
     let a = c .before .before .before .before .before .before .before .before .args in
@@ -230,17 +207,14 @@ returns c =
       ),
     )
 
--- src/lib.rt:125:1
 same-length-2 : tie.Need-same-length-2
 same-length-2 c =
     search needs
 
--- src/lib.rt:125:1
 same-length-3 : tie.Need-same-length-3
 same-length-3 c =
     search needs
 
--- src/lib.rt:125:1
 returns-2 : tie.Need-returns-2
 returns-2 c =
     let a = c .before .before .before .before .before .before .before .before .before .before .before .before .args in
@@ -268,7 +242,6 @@ returns-2 c =
       ),
     )
 
--- src/lib.rt:125:1
 returns-3 : tie.Need-returns-3
 returns-3 c =
     let a = c .before .before .before .before .before .before .before .args in

@@ -1,8 +1,6 @@
+-- `check_declaration::plain_rows` meets its contract. Assumes nothing.
 use Rattle.check_declaration.proofs.plain_rows.Statement.{statement}
 use Rattle.check_declaration.proofs.plain_rows.Tie as tie
-use Rattle.check_declaration.proofs.plain_rows.Reads as reads
-use Rattle.check_declaration.proofs.plain_rows.Lts as lts
-use Rattle.check_declaration.proofs.plain_row.Reads as plain-row-reads
 use mathlib.Core.Path.{_≡_, sym, ap, _∙_}
 use mathlib.Core.List.{List, [], _++_}
 use Prim.Native.Nat.{ℕ, suc, _+_, _*_, _-_, _≤_}
@@ -22,7 +20,6 @@ use Rattle.check_declaration.proofs.Tables.{apart-none, apart-more, in-
 use Rattle.check_declaration.proofs.Types.{plainLevel, rows-stop, types-stop, types-go, more-kinds, no-kinds, all-kinds}
 use Rattle.check_declaration.proofs.Formals.{no-plain, more-plain, plain-upto, within-stops, after-stops, plain-stops}
 
-
 abbrev Inv-loop : tie.InvT-loop
 Inv-loop program at to parent m count first registers kinds₀ sizes₀ from₀ j₀ kinds sizes from j =
     (j ≤ count) × Apart (length program) first count kinds₀ sizes₀ kinds sizes × Beyond program at to j from × InUse 0 registers from kinds × (from ≤ to) × (at + 3 * j ≤ from) × PlainRows j first kinds × ((fs : List Signature) (ks : List Kind) (g : Formals) → plainKinds (scopeWith fs ks m []) (partsOf readPlain (badType 4 parent) count (fieldsAt program at to)) ≡ (plainKinds (scopeWith fs ks m []) (partsOf readPlain (badType 4 parent) (count - j) (fieldsAt program from to)) >>= λ rest. good (kindsAt g j first kinds sizes ++ rest)))
@@ -31,47 +28,39 @@ abbrev μ-loop : tie.MeasureT-loop
 μ-loop program at to parent m count first registers kinds₀ sizes₀ from₀ j₀ kinds sizes from j =
     count - j
 
--- src/lib.rt:193:5
 loop-holds : tie.Need-loop-holds Inv-loop μ-loop
 loop-holds c =
     let a = c .before .before .args in
     (omega arith, apart-none (length (now (a .program))) (a .first) (a .count) (now (a .kinds)) (now (a .sizes)) (c .before .before .pre .1 .1 .1 .1 .1), beyond-none (now (a .program)) (a .at) (a .to), c .before .before .pre .1 .1 .1 .1 .0, c .before .before .pre .1 .1 .0 .0, omega arith, no-plain (a .first) (now (a .kinds)), (λ fs ks g. let z : a .count - 0 ≡ a .count = omega arith in rw z (no-kinds g _ (a .first) (now (a .kinds)) (now (a .sizes)))))
 
--- src/lib.rt:194:19
 add-row : tie.Need-add-row Inv-loop μ-loop
 add-row c =
     let h = c .loop-test .taken in
     let r = c .before .before .before .before .pre .1 .1 .1 .0 in
     omega (arith, c .before .before .before .before .good, c .before .loop .inv .1 .kindsSame)
 
--- src/lib.rt:195:13
 plain-row-requires : tie.Need-plain-row-requires Inv-loop μ-loop
 plain-row-requires c κs =
     let h = c .before .before .loop-test .taken in
     let r = c .before .before .before .before .before .before .pre .1 .1 .1 .0 in
     (c .before .before .before .before .before .before .pre .0, (c .before .before .before .before .before .before .pre .1 .0, (c .before .before .before .before .before .before .pre .1 .1 .0 .1, (omega (arith, c .before .before .before .loop .inv .1 .kindsSame), (c .before .before .before .loop .inv .3, c .before .before .before .loop .inv .1 .table)))))
 
--- src/lib.rt:196:24
 enum-known-r : tie.Need-enum-known-r Inv-loop μ-loop
 enum-known-r c =
     search needs
 
--- src/lib.rt:197:13
 enum-told : tie.Need-enum-told Inv-loop μ-loop
 enum-told c =
     search needs
 
--- src/lib.rt:197:13
 same-length : tie.Need-same-length Inv-loop μ-loop
 same-length c =
     c .before .before .before .before .before .plain-row .ensures .1 .1 .1 .1 .kindsSame ∙ c .before .before .before .before .before .before .before .before .before .loop .inv .1 .kindsSame
 
--- src/lib.rt:197:13
 same-length-2 : tie.Need-same-length-2 Inv-loop μ-loop
 same-length-2 c =
     c .before .before .before .before .before .plain-row .ensures .1 .1 .1 .1 .sizesSame ∙ c .before .before .before .before .before .before .before .before .before .loop .inv .1 .sizesSame
 
--- src/lib.rt:197:13
 returns : tie.Need-returns Inv-loop μ-loop
 returns c =
     let a = c .before .before .before .before .before .before .before .before .before .before .before .before .args in
@@ -89,17 +78,14 @@ returns c =
       (beyond-stops program (a .at) (a .to) (a .count) (c .before .before .before .before .before .plain-row .result) (c .before .match .keys2), (within-stops (a .at) (a .to) (a .count) (c .before .before .before .before .before .plain-row .result) (c .before .match .keys2), (after-stops 0 (a .registers) (c .before .before .before .before .before .plain-row .result) kinds (c .before .match .keys2), (plain-stops (c .before .before .before .before .before .plain-row .result) (a .count) (a .first) kinds (c .before .match .keys2), last)))),
     )
 
--- src/lib.rt:193:9
 add-j : tie.Need-add-j Inv-loop μ-loop
 add-j c =
     search needs
 
--- src/lib.rt:193:5
 loop-less : tie.Need-loop-less Inv-loop μ-loop
 loop-less c =
     search needs
 
--- src/lib.rt:193:5
 loop-again : tie.Need-loop-again Inv-loop μ-loop
 loop-again c =
     let a = c .before .before .before .before .before .before .before .before .before .before .before .before .before .args in
@@ -128,17 +114,14 @@ loop-again c =
           ∙ more-kinds (plainKinds (scopeWith fs ks (a .m) []) (partsOf readPlain (badType 4 (a .parent)) (a .count - (i .j + 1)) (fieldsAt program next (a .to)))) (a .first) (i .j) g g (i .kinds) (i .sizes) kinds sizes (rows-below (length program) (a .first + i .j) 1 (i .j) (a .first) (c .before .before .before .before .before .before .plain-row .ensures .1 .1 .1 .1) (omega arith) g)),
     )
 
--- src/lib.rt:167:1
 same-length-3 : tie.Need-same-length-3 Inv-loop μ-loop
 same-length-3 c =
     c .before .loop .inv .1 .kindsSame
 
--- src/lib.rt:167:1
 same-length-4 : tie.Need-same-length-4 Inv-loop μ-loop
 same-length-4 c =
     c .before .loop .inv .1 .sizesSame
 
--- src/lib.rt:167:1
 returns-2 : tie.Need-returns-2 Inv-loop μ-loop
 unfolding checkedRows
 returns-2 c =

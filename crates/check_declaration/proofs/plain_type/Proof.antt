@@ -1,11 +1,7 @@
+-- `check_declaration::plain_type` meets its contract. Assumes nothing.
 use borrow.Author.Needs.{needs}
 use Rattle.check_declaration.proofs.plain_type.Statement.{statement}
 use Rattle.check_declaration.proofs.plain_type.Tie as tie
-use Rattle.check_declaration.proofs.plain_type.Reads as reads
-use Rattle.check_declaration.proofs.plain_type.Lts as lts
-use Rattle.check_declaration.proofs.sized_type.Reads as sized-type-reads
-use Rattle.fields.proofs.header_at.Reads as header-at-reads
-use borrow.Author.Needs.{needs}
 use mathlib.Core.Path.{sym, _∙_}
 use mathlib.Core.List.{[]}
 use native.Mathlib.Omega.{arith}
@@ -16,28 +12,22 @@ use Rattle.check_declaration.specs.Types.{checkedType}
 use Rattle.check_index.proofs.Answers.{passed}
 use Rattle.check_declaration.proofs.Types.{type-none, type-cut, type-seven, type-single, type-more, type-many, type-other, ends-kept, size-many, size-refused}
 
-
--- src/lib.rt:83:11
 header-at-requires : tie.Need-header-at-requires
 header-at-requires c κs =
     search needs
 
--- src/lib.rt:84:24
 enum-told : tie.Need-enum-told
 enum-told c =
     search needs
 
--- src/lib.rt:85:24
 enum-told-2 : tie.Need-enum-told-2
 enum-told-2 c =
     search needs
 
--- src/lib.rt:86:23
 enum-known-tag : tie.Need-enum-known-tag
 enum-known-tag c =
     search needs
 
--- src/lib.rt:87:24
 add-from : tie.Need-add-from
 add-from c =
     let a = c .before .before .before .before .before .args in
@@ -50,7 +40,6 @@ add-from c =
     let k = c .before .before .before .before .before .pre .0 in
     omega arith
 
--- src/lib.rt:91:25
 returns : tie.Need-returns
 unfolding checkedType
 returns c =
@@ -64,7 +53,6 @@ returns c =
     let k = c .before .before .before .before .before .before .before .pre .0 in
     (λ fs ks. type-more (scopeWith fs ks (a .m) []) program (a .at) (a .to) (a .parent) tag next w (c .before .match2 .keys1) (c .if1 .taken) (omega arith), tt)
 
--- src/lib.rt:95:29
 sized-type-requires : tie.Need-sized-type-requires
 sized-type-requires c κs =
     let a = c .before .before .before .before .before .before .before .args in
@@ -77,17 +65,14 @@ sized-type-requires c κs =
     let k = c .before .before .before .before .before .before .before .pre .0 in
     ((w .low, omega arith), c .before .before .before .before .before .before .before .pre .1)
 
--- src/lib.rt:96:38
 enum-told-3 : tie.Need-enum-told-3
 enum-told-3 c =
     search needs
 
--- src/lib.rt:97:35
 enum-known-n : tie.Need-enum-known-n
 enum-known-n c =
     search needs
 
--- src/lib.rt:70:1
 returns-2 : tie.Need-returns-2
 unfolding checkedType
 returns-2 c =
@@ -95,7 +80,6 @@ returns-2 c =
     let program = now (a .program) in
     (λ fs ks. type-none (scopeWith fs ks (a .m) []) program (a .at) (a .to) (a .parent) (when-end program (a .at) (a .to) (c .before .before .before .before .pre .0) (sym (c .before .before .header-at .ensures) ∙ c .enum-told .given .1)), tt)
 
--- src/lib.rt:70:1
 returns-3 : tie.Need-returns-3
 unfolding checkedType
 returns-3 c =
@@ -103,7 +87,6 @@ returns-3 c =
     let program = now (a .program) in
     (λ fs ks. type-cut (scopeWith fs ks (a .m) []) program (a .at) (a .to) (a .parent) (when-cut program (a .at) (a .to) (c .before .before .before .before .pre .0) (sym (c .before .before .header-at .ensures) ∙ c .enum-told2 .given .1)), tt)
 
--- src/lib.rt:70:1
 returns-4 : tie.Need-returns-4
 unfolding checkedType
 returns-4 c =
@@ -117,7 +100,6 @@ returns-4 c =
     let k = c .before .before .before .before .before .before .before .pre .0 in
     (λ fs ks. type-single (scopeWith fs ks (a .m) []) program (a .at) (a .to) (a .parent) tag next w (c .before .match2 .keys1) (c .if1 .left), passed program (a .at) (a .to) tag next w)
 
--- src/lib.rt:70:1
 returns-5 : tie.Need-returns-5
 unfolding checkedType
 returns-5 c =
@@ -132,7 +114,6 @@ returns-5 c =
     let l = c .before .before .sized-type .last .1 .1 .1 .1 .0 in
     (λ fs ks. size-many next (c .before .before .sized-type .result) l (c .before .match3 .keys1) ∙ c .before .before .sized-type .ensures .0 fs ks ∙ type-many (scopeWith fs ks (a .m) []) program (a .at) (a .to) (a .parent) tag next w (c .before .before .before .before .match2 .keys2), (passed program (a .at) (a .to) tag next w, ends-kept next (c .before .before .sized-type .result) l (c .before .match3 .keys1) (c .before .before .sized-type .ensures .1), type-seven (scopeWith [] [] (a .m) []) program (a .at) next _ (omega arith) (sym (size-many next (c .before .before .sized-type .result) l (c .before .match3 .keys1) ∙ c .before .before .sized-type .ensures .0 [] []))))
 
--- src/lib.rt:70:1
 returns-6 : tie.Need-returns-6
 unfolding checkedType
 returns-6 c =
@@ -147,7 +128,6 @@ returns-6 c =
     let l = c .before .before .before .sized-type .last .1 .1 .1 .1 .0 in
     (λ fs ks. size-refused (c .before .n .given .0 .0) (c .before .n .given .0 .1 .0) (c .before .before .before .sized-type .result) l (c .before .n .given .1) ∙ c .before .before .before .sized-type .ensures .0 fs ks ∙ type-many (scopeWith fs ks (a .m) []) program (a .at) (a .to) (a .parent) tag next w (c .before .before .before .before .before .match2 .keys2), tt)
 
--- src/lib.rt:70:1
 returns-7 : tie.Need-returns-7
 unfolding checkedType
 returns-7 c =

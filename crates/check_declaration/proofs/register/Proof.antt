@@ -1,14 +1,7 @@
+-- `check_declaration::register` meets its contract. Assumes nothing.
 use borrow.Author.Needs.{needs}
 use Rattle.check_declaration.proofs.register.Statement.{statement}
 use Rattle.check_declaration.proofs.register.Tie as tie
-use Rattle.check_declaration.proofs.register.Reads as reads
-use Rattle.check_declaration.proofs.register.Lts as lts
-use Rattle.check_declaration.proofs.register_size.Reads as register-size-reads
-use Rattle.check_declaration.proofs.row_number.Reads as row-number-reads
-use Rattle.check_declaration.proofs.size_row.Reads as size-row-reads
-use Rattle.forms.proofs.set_constant.Reads as set-constant-reads
-use Rattle.forms.proofs.store.Reads as store-reads
-use borrow.Author.Needs.{needs}
 use mathlib.Core.Path.{_≡_, sym, ap, _∙_}
 use Prim.Native.Nat.{ℕ, _+_, _≤_, _<_}
 use native.Mathlib.Omega.{arith}
@@ -26,30 +19,24 @@ use Rattle.check_declaration.specs.Registers.{checkedRegister}
 use Rattle.check_declaration.proofs.Registers.{size-fits, size-two, register-stops}
 use Rattle.check_declaration.proofs.Tables.{apart-both, row-both, in-use-set, number-size}
 
-
--- src/lib.rt:411:9
 register-size-requires : tie.Need-register-size-requires
 register-size-requires c κs =
     search needs
 
--- src/lib.rt:412:20
 enum-known-r : tie.Need-enum-known-r
 enum-known-r c =
     search needs
 
--- src/lib.rt:413:9
 enum-told : tie.Need-enum-told
 enum-told c =
     search needs
 
--- src/lib.rt:413:9
 returns : tie.Need-returns
 returns c =
     let a = c .before .before .before .before .before .args in
     let program = now (a .program) in
     (c .before .before .register-size .ensures, register-stops (length program) (a .next) (c .before .before .register-size .result) (a .kind) (a .count) (a .total) (a .most) (now (a .kinds)) (now (a .sizes)) (now (a .kinds)) (now (a .sizes)) (c .before .match .keys2))
 
--- src/lib.rt:416:33
 cast-set-constant : tie.Need-cast-set-constant
 cast-set-constant c =
     let a = c .before .before .before .before .before .before .before .args in
@@ -64,7 +51,6 @@ cast-set-constant c =
     let long = c .before .before .before .before .before .before .before .pre .1 .1 .1 .0 in
     search needs
 
--- src/lib.rt:416:5
 set-constant-requires : tie.Need-set-constant-requires
 set-constant-requires c κs =
     let a = c .before .before .before .before .before .before .before .args in
@@ -81,13 +67,11 @@ set-constant-requires c κs =
     let fine = range-yes (pos n) (omega arith) in
     rw (range-back fine) fine
 
--- src/lib.rt:418:5
 store-requires : tie.Need-store-requires
 unfolding asForm
 store-requires c κs =
     (c .before .before .set-constant .ensures .1, constant-narrow (c .before .before .set-constant .last .0) _ (c .before .before .set-constant .ensures .0) (c .before .before .set-constant .ensures .1))
 
--- src/lib.rt:419:9
 size-row-requires : tie.Need-size-row-requires
 size-row-requires c κs =
     let a = c .before .before .before .before .before .before .before .before .before .before .before .args in
@@ -102,7 +86,6 @@ size-row-requires c κs =
     let long = c .before .before .before .before .before .before .before .before .before .before .before .pre .1 .1 .1 .0 in
     (omega (arith, c .before .before .before .before .before .before .before .before .before .before .before .pre .0 .0, c .before .before .before .before .before .before .before .before .before .before .before .pre .0 .1), omega arith)
 
--- src/lib.rt:420:20
 row-number-requires : tie.Need-row-number-requires
 row-number-requires c κs =
     let a = c .before .before .before .before .before .before .before .before .before .before .before .before .args in
@@ -117,7 +100,6 @@ row-number-requires c κs =
     let long = c .before .before .before .before .before .before .before .before .before .before .before .before .pre .1 .1 .1 .0 in
     omega (arith, c .size-row .ensures, c .before .before .before .before .before .before .before .before .before .before .before .before .pre .0 .0, c .before .before .before .before .before .before .before .before .before .before .before .before .pre .0 .1)
 
--- src/lib.rt:420:5
 mul-kinds : tie.Need-mul-kinds
 mul-kinds c =
     let a = c .before .before .before .before .before .before .before .before .before .before .before .before .before .args in
@@ -132,7 +114,6 @@ mul-kinds c =
     let long = c .before .before .before .before .before .before .before .before .before .before .before .before .before .pre .1 .1 .1 .0 in
     omega (arith, t .kindsLong, c .before .before .before .before .before .before .before .before .before .before .before .before .before .good)
 
--- src/lib.rt:420:5
 slice-write-kinds : tie.Need-slice-write-kinds
 slice-write-kinds c =
     let a = c .before .before .before .before .before .before .before .before .before .before .before .before .before .args in
@@ -147,7 +128,6 @@ slice-write-kinds c =
     let long = c .before .before .before .before .before .before .before .before .before .before .before .before .before .pre .1 .1 .1 .0 in
     omega (arith, t .kindsLong, c .before .before .before .before .before .before .before .before .before .before .before .before .before .good)
 
--- src/lib.rt:421:5
 mul-t21 : tie.Need-mul-t21
 mul-t21 c =
     let a = c .before .before .before .before .before .before .before .before .before .before .before .before .before .args in
@@ -165,7 +145,6 @@ mul-t21 c =
     let inside : own < length (now (a .sizes)) = omega (arith, t .sizesLong, c .before .before .before .before .before .before .before .before .before .before .before .before .before .pre .0 .0, c .before .before .before .before .before .before .before .before .before .before .before .before .before .pre .0 .1) in
     omega (arith, c .before .before .before .before .before .before .before .before .before .before .before .before .before .good)
 
--- src/lib.rt:421:5
 slice-set-from-sizes : tie.Need-slice-set-from-sizes
 slice-set-from-sizes c =
     let a = c .before .before .before .before .before .before .before .before .before .before .before .before .before .args in
@@ -183,17 +162,14 @@ slice-set-from-sizes c =
     let inside : own < length (now (a .sizes)) = omega (arith, t .sizesLong, c .before .before .before .before .before .before .before .before .before .before .before .before .before .pre .0 .0, c .before .before .before .before .before .before .before .before .before .before .before .before .before .pre .0 .1) in
     omega (arith, c .before .before .before .before .before .before .before .before .before .before .before .before .before .good)
 
--- src/lib.rt:391:1
 same-length : tie.Need-same-length
 same-length c =
     search needs
 
--- src/lib.rt:391:1
 same-length-2 : tie.Need-same-length-2
 same-length-2 c =
     search needs
 
--- src/lib.rt:391:1
 returns-2 : tie.Need-returns-2
 returns-2 c =
     let a = c .before .before .before .before .before .before .before .before .before .before .before .before .before .args in

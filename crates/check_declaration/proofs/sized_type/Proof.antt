@@ -1,11 +1,7 @@
+-- `check_declaration::sized_type` meets its contract. Assumes nothing.
 use borrow.Author.Needs.{needs}
 use Rattle.check_declaration.proofs.sized_type.Statement.{statement}
 use Rattle.check_declaration.proofs.sized_type.Tie as tie
-use Rattle.check_declaration.proofs.sized_type.Reads as reads
-use Rattle.check_declaration.proofs.sized_type.Lts as lts
-use Rattle.check_index.proofs.index.Reads as index-reads
-use Rattle.check_operand.proofs.must_show.Reads as must-show-reads
-use borrow.Author.Needs.{needs}
 use mathlib.Core.Path.{refl}
 use Prim.Native.Nat.{_+_}
 use native.Mathlib.Omega.{arith}
@@ -16,28 +12,22 @@ use Rattle.check_index.proofs.Answers.{form-passes-upto, form-ends-stops}
 use Rattle.check_declaration.proofs.Types.{type-stops, type-long, type-not, type-good}
 use Rattle.check_operand.proofs.Tables.{no-rows}
 
-
--- src/lib.rt:53:16
 add-from : tie.Need-add-from
 add-from c =
     search needs
 
--- src/lib.rt:54:9
 index-requires : tie.Need-index-requires
 index-requires c κs =
     search needs
 
--- src/lib.rt:55:20
 enum-known-r : tie.Need-enum-known-r
 enum-known-r c =
     search needs
 
--- src/lib.rt:56:9
 enum-told : tie.Need-enum-told
 enum-told c =
     search needs
 
--- src/lib.rt:56:9
 returns : tie.Need-returns
 returns c =
     let a = c .before .before .before .before .before .args in
@@ -45,7 +35,6 @@ returns c =
     let l = c .before .before .index .last .1 .1 .1 .1 .1 .1 .0 in
     (λ fs ks. type-stops fs ks (a .m) program (a .at) (a .next) (c .before .before .index .result) l (c .before .before .index .ensures .0) l (c .before .match .keys2), form-ends-stops (a .next) (c .before .before .index .result) l (c .before .match .keys2))
 
--- src/lib.rt:59:9
 returns-2 : tie.Need-returns-2
 unfolding checkedSizedType
 returns-2 c =
@@ -56,17 +45,14 @@ returns-2 c =
     let v = form-passes-upto program (a .at + 3) (a .next) (c .before .before .before .before .index .result) l end (c .before .before .r .given .1) (c .before .before .before .before .index .ensures .1) in
     (λ fs ks. type-long fs ks (a .m) program (a .at) (a .next) (c .before .before .before .before .index .result) l (c .before .before .before .before .index .ensures .0) end (c .before .before .r .given .1) (v .0) (c .if1 .taken) (c .before .before .before .before .before .before .before .pre .0 .1), tt)
 
--- src/lib.rt:62:57
 slice-aggregate-must-show : tie.Need-slice-aggregate-must-show
 slice-aggregate-must-show c =
     search needs
 
--- src/lib.rt:62:64
 slice-aggregate-must-show-2 : tie.Need-slice-aggregate-must-show-2
 slice-aggregate-must-show-2 c =
     search needs
 
--- src/lib.rt:62:9
 must-show-requires : tie.Need-must-show-requires
 must-show-requires c κs =
     let a = c .before .before .before .before .before .before .before .before .before .before .args in
@@ -80,12 +66,10 @@ enum-told-2 : tie.Need-enum-told-2
 enum-told-2 c =
     search needs
 
--- src/lib.rt:64:9
 enum-told-3 : tie.Need-enum-told-3
 enum-told-3 c =
     search needs
 
--- src/lib.rt:64:9
 returns-3 : tie.Need-returns-3
 unfolding loopsOf
 returns-3 c =
@@ -96,7 +80,6 @@ returns-3 c =
     let v = form-passes-upto program (a .at + 3) (a .next) (c .before .before .before .before .before .before .before .before .before .before .index .result) l end (c .before .before .before .before .before .before .before .before .r .given .1) (c .before .before .before .before .before .before .before .before .before .before .index .ensures .1) in
     (λ fs ks. type-not fs ks (a .m) program (a .at) (a .next) (c .before .before .before .before .before .before .before .before .before .before .index .result) l (c .before .before .before .before .before .before .before .before .before .before .index .ensures .0) end (c .before .before .before .before .before .before .before .before .r .given .1) (v .0) (c .before .before .before .before .before .before .if1 .left) (c .before .before .must-show .result) (c .before .before .must-show .ensures .0 fs ks) l (c .before .match2 .keys2), form-ends-stops (a .next) (c .before .before .must-show .result) l (c .before .match2 .keys2))
 
--- src/lib.rt:47:1
 returns-4 : tie.Need-returns-4
 unfolding loopsOf
 returns-4 c =

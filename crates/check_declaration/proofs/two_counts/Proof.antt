@@ -1,10 +1,7 @@
+-- `check_declaration::two_counts` meets its contract. Assumes nothing.
 use borrow.Author.Needs.{needs}
 use Rattle.check_declaration.proofs.two_counts.Statement.{statement}
 use Rattle.check_declaration.proofs.two_counts.Tie as tie
-use Rattle.check_declaration.proofs.two_counts.Reads as reads
-use Rattle.check_declaration.proofs.two_counts.Lts as lts
-use Rattle.fields.proofs.wide.Reads as wide-reads
-use borrow.Author.Needs.{needs}
 use mathlib.Core.Path.{_≡_, sym, ap, _∙_}
 use mathlib.Core.List.{_∷_}
 use Prim.Native.Nat.{ℕ, _+_}
@@ -15,13 +12,10 @@ use Rattle.fields.proofs.Headers.{one-byte, slice-none}
 use Rattle.check_declaration.specs.Families.{checkedCounts}
 use Rattle.check_declaration.proofs.Families.{counts-none, counts-over, counts-one, counts-zero, counts-above, counts-good}
 
-
--- src/lib.rt:337:16
 add-from : tie.Need-add-from
 add-from c =
     search needs
 
--- src/lib.rt:339:9
 returns : tie.Need-returns
 unfolding checkedCounts
 returns c =
@@ -31,17 +25,14 @@ returns c =
     let content = slice from (a .next) program in
     (counts-none (a .at) content (slice-none from (a .next) program (c .if1 .taken)), tt)
 
--- src/lib.rt:341:26
 shared-slice-read-wide : tie.Need-shared-slice-read-wide
 shared-slice-read-wide c =
     search needs
 
--- src/lib.rt:341:9
 wide-requires : tie.Need-wide-requires
 wide-requires c κs =
     search needs
 
--- src/lib.rt:343:9
 returns-2 : tie.Need-returns-2
 unfolding checkedCounts
 returns-2 c =
@@ -55,12 +46,10 @@ returns-2 c =
     let e = one-byte from (a .next) program (c .before .before .before .if1 .left) (c .before .before .before .before .before .pre .1) ∙ (λ i. sym (c .before .wide .ensures .0) i ∷ slice (x i) (a .next) program) in
     (counts-over (a .at) content m more e (c .if2 .taken), tt)
 
--- src/lib.rt:345:18
 add-second : tie.Need-add-second
 add-second c =
     search needs
 
--- src/lib.rt:347:9
 returns-3 : tie.Need-returns-3
 unfolding checkedCounts
 returns-3 c =
@@ -74,17 +63,14 @@ returns-3 c =
     let e = one-byte from (a .next) program (c .before .before .before .before .if1 .left) (c .before .before .before .before .before .before .pre .1) ∙ (λ i. sym (c .before .before .wide .ensures .0) i ∷ slice (x i) (a .next) program) in
     (counts-one (a .at) content m more e (c .before .if2 .left) (slice-none (a .at + 4) (a .next) program (c .if3 .taken)), tt)
 
--- src/lib.rt:349:26
 shared-slice-read-wide-2 : tie.Need-shared-slice-read-wide-2
 shared-slice-read-wide-2 c =
     search needs
 
--- src/lib.rt:349:9
 wide-requires-2 : tie.Need-wide-requires-2
 wide-requires-2 c κs =
     search needs
 
--- src/lib.rt:351:9
 returns-4 : tie.Need-returns-4
 unfolding checkedCounts
 returns-4 c =
@@ -101,7 +87,6 @@ returns-4 c =
     let z = one-byte (a .at + 4) (a .next) program (c .before .before .before .if3 .left) (c .before .before .before .before .before .before .before .before .before .pre .1) ∙ ap (λ (k : ℕ). k ∷ rest) (sym (c .before .wide2 .ensures .0)) in
     (counts-zero (a .at) content m more e (c .before .before .before .before .if2 .left) n rest z (c .if4 .taken), tt)
 
--- src/lib.rt:354:9
 returns-5 : tie.Need-returns-5
 unfolding checkedCounts
 returns-5 c =
@@ -118,7 +103,6 @@ returns-5 c =
     let z = one-byte (a .at + 4) (a .next) program (c .before .before .before .before .if3 .left) (c .before .before .before .before .before .before .before .before .before .before .pre .1) ∙ ap (λ (k : ℕ). k ∷ rest) (sym (c .before .before .wide2 .ensures .0)) in
     (counts-above (a .at) content m more e (c .before .before .before .before .before .if2 .left) n rest z (c .before .if4 .left) (c .if5 .taken), tt)
 
--- src/lib.rt:332:1
 returns-6 : tie.Need-returns-6
 unfolding checkedCounts
 returns-6 c =

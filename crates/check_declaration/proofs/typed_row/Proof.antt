@@ -1,15 +1,10 @@
+-- `check_declaration::typed_row` meets its contract. Assumes nothing.
 use borrow.Author.Needs.{needs}
 use Rattle.check_declaration.proofs.typed_row.Statement.{statement}
 use Rattle.check_declaration.proofs.typed_row.Tie as tie
-use Rattle.check_declaration.proofs.typed_row.Reads as reads
-use Rattle.check_declaration.proofs.typed_row.Lts as lts
-use Rattle.check_declaration.proofs.family_row.Reads as family-row-reads
-use Rattle.check_declaration.proofs.plain_row.Reads as plain-row-reads
-use Rattle.fields.proofs.with_tag.Reads as with-tag-reads
-use borrow.Author.Needs.{needs}
-use mathlib.Core.Path.{_≡_, sym, ap, _∙_}
+use mathlib.Core.Path.{sym, _∙_}
 use mathlib.Core.List.{[]}
-use Prim.Native.Nat.{ℕ, _+_, _*_, _/_, _<_}
+use Prim.Native.Nat.{_/_, _<_}
 use native.Mathlib.Omega.{arith}
 use denote.Ref.{now}
 use lib.ListN.{length}
@@ -19,42 +14,34 @@ use Rattle.check_operand.specs.Tables.{scopeWith}
 use Rattle.check_call.specs.Calls.{formalAt}
 use Rattle.check_declaration.proofs.Tables.{in-use-later}
 use Rattle.check_declaration.proofs.FamilyTypes.{type-family, type-plain, tagged-not}
-use Rattle.check_declaration.proofs.Formals.{formals-lower, stays-plain, plain-after, formals-after}
+use Rattle.check_declaration.proofs.Formals.{stays-plain, plain-after, formals-after}
 
-
--- src/lib.rt:284:33
 with-tag-requires : tie.Need-with-tag-requires
 with-tag-requires c κs =
     search needs
 
--- src/lib.rt:284:25
 enum-known-next : tie.Need-enum-known-next
 enum-known-next c =
     search needs
 
--- src/lib.rt:285:9
 family-row-requires : tie.Need-family-row-requires
 family-row-requires c κs =
     let a = c .before .before .before .before .before .before .before .before .before .args in
     let w = when-tagged (now (a .program)) (a .at) (a .to) 18 (c .before .before .before .before .next .given .0 .0) (c .before .before .before .before .before .before .before .before .before .pre .0 .1) (sym (c .before .before .before .before .before .before .with-tag .ensures) ∙ c .before .before .before .before .next .given .1) in
     ((w .low, let h = w .high in let k = c .before .before .before .before .before .before .before .before .before .pre .0 .1 in omega arith), (c .before .before .before .before .before .before .before .before .before .pre .1 .1 .0, (c .before .before .before .before .before .before .before .before .before .pre .1 .1 .1 .0, (c .before .before .before .before .before .before .before .before .before .pre .1 .1 .1 .1 .0, (c .before .before .before .before .before .before .before .before .before .pre .1 .1 .1 .1 .1 .0, c .before .before .before .before .before .before .before .before .before .pre .1 .1 .1 .1 .1 .1)))))
 
--- src/lib.rt:285:9
 same-length : tie.Need-same-length
 same-length c =
     search needs
 
--- src/lib.rt:285:9
 same-length-2 : tie.Need-same-length-2
 same-length-2 c =
     search needs
 
--- src/lib.rt:285:9
 same-length-3 : tie.Need-same-length-3
 same-length-3 c =
     search needs
 
--- src/lib.rt:285:9
 returns : tie.Need-returns
 returns c =
     let a = c .before .before .before .before .before .before .before .before .before .before .before .before .before .before .args in
@@ -67,7 +54,6 @@ enum-told : tie.Need-enum-told
 enum-told c =
     search needs
 
--- src/lib.rt:287:5
 plain-row-requires : tie.Need-plain-row-requires
 plain-row-requires c κs =
     let a = c .before .before .before .before .before .before .before .args in
@@ -75,17 +61,14 @@ plain-row-requires c κs =
     let t = c .before .before .before .before .before .before .before .pre .1 .1 .1 .1 .0 in
     (c .before .before .before .before .before .before .before .pre .0 .1, (c .before .before .before .before .before .before .before .pre .1 .0, (c .before .before .before .before .before .before .before .pre .1 .1 .0 .0, (omega (arith, u .few, t .kindsLong, c .before .before .before .before .before .before .before .pre .0 .0, c .before .before .before .before .before .before .before .pre .0 .1), (in-use-later (a .row) 0 (a .registers) (a .at) (a .at) (now (a .kinds)) u (omega arith) (omega arith), t)))))
 
--- src/lib.rt:259:1
 same-length-4 : tie.Need-same-length-4
 same-length-4 c =
     search needs
 
--- src/lib.rt:259:1
 same-length-5 : tie.Need-same-length-5
 same-length-5 c =
     search needs
 
--- src/lib.rt:259:1
 returns-2 : tie.Need-returns-2
 returns-2 c =
     let a = c .before .before .before .before .before .before .before .before .before .before .before .args in

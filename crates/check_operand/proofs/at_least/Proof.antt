@@ -1,55 +1,39 @@
+-- `check_operand::at_least` meets its contract. Assumes nothing.
 use borrow.Author.Needs.{needs}
 use Rattle.check_operand.proofs.at_least.Statement.{statement}
 use Rattle.check_operand.proofs.at_least.Tie as tie
-use Rattle.check_operand.proofs.at_least.Reads as reads
-use Rattle.check_operand.proofs.at_least.Lts as lts
-use Rattle.check_operand.proofs.answered.Reads as answered-reads
-use Rattle.check_operand.proofs.large_enough.Reads as large-enough-reads
-use Rattle.forms.proofs.load.Reads as load-reads
-use borrow.Author.Needs.{needs}
-use mathlib.Core.Path.{_≡_, ap, _∙_}
-use mathlib.Core.List.{List, []}
+use mathlib.Core.Path.{ap, _∙_}
 use native.Mathlib.Omega.{arith}
-use denote.Ref.{now}
-use lib.IntN.{ℤ}
 use Rattle.language.specs.Form.{differenceOf, _thenBuild_}
 use Rattle.language.specs.Check.{byShowing, mustShow, sizeScope}
-use Rattle.forms.specs.Flat.{widened, asForm}
+use Rattle.forms.specs.Flat.{asForm}
 use Rattle.forms.specs.Rows.{loopsOf}
 use Rattle.check_operand.proofs.Tables.{no-rows}
 
-
--- src/lib.rt:580:5
 load-requires : tie.Need-load-requires
 load-requires c κs =
     search needs
 
--- src/lib.rt:582:5
 load-requires-2 : tie.Need-load-requires-2
 load-requires-2 c κs =
     search needs
 
--- src/lib.rt:584:56
 slice-aggregate-large-enough : tie.Need-slice-aggregate-large-enough
 slice-aggregate-large-enough c =
     search needs
 
--- src/lib.rt:584:63
 slice-aggregate-large-enough-2 : tie.Need-slice-aggregate-large-enough-2
 slice-aggregate-large-enough-2 c =
     search needs
 
--- src/lib.rt:584:9
 large-enough-requires : tie.Need-large-enough-requires
 large-enough-requires c κs =
     (λ e. c .before .before .before .before .load2 .ensures .1, (c .before .before .before .before .before .before .load .ensures .1, (let q = c .before .before .before .before .before .before .before .before .pre .1 .1 in omega arith, (no-rows _, no-rows _))))
 
--- src/lib.rt:585:5
 answered-requires : tie.Need-answered-requires
 answered-requires c κs =
     search needs
 
--- src/lib.rt:572:1
 returns : tie.Need-returns
 unfolding mustShow _thenBuild_ loopsOf
 returns c =

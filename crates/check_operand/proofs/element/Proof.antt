@@ -1,16 +1,7 @@
+-- `check_operand::element` meets its contract. Assumes nothing.
 use borrow.Author.Needs.{needs}
 use Rattle.check_operand.proofs.element.Statement.{statement}
 use Rattle.check_operand.proofs.element.Tie as tie
-use Rattle.check_operand.proofs.element.Reads as reads
-use Rattle.check_operand.proofs.element.Lts as lts
-use Rattle.check_index.proofs.index.Reads as index-reads
-use Rattle.check_operand.proofs.answered.Reads as answered-reads
-use Rattle.check_operand.proofs.element_kind.Reads as element-kind-reads
-use Rattle.check_operand.proofs.kind_by.Reads as kind-by-reads
-use Rattle.check_operand.proofs.size_by.Reads as size-by-reads
-use Rattle.check_operand.proofs.within.Reads as within-reads
-use Rattle.fields.proofs.wide.Reads as wide-reads
-use borrow.Author.Needs.{needs}
 use mathlib.Core.Path.{_≡_, ap, _∙_}
 use mathlib.Core.List.{List, []}
 use Prim.Native.Nat.{ℕ, _+_}
@@ -20,7 +11,7 @@ use lib.ListN.{getD}
 use lib.Seq.{slice}
 use Rattle.language.specs.Tree.{badIndex}
 use Rattle.language.specs.Read.{due, readIndex, readElement}
-use Rattle.language.specs.Check.{Signature, elementSize, checkWithin, checkOperand, _>>=_, Due}
+use Rattle.language.specs.Check.{elementSize, checkWithin, checkOperand, _>>=_, Due}
 use Rattle.kinds.specs.declared.Kind.{Kind}
 use Rattle.fields.specs.Header.{fieldsAt}
 use Rattle.fields.proofs.Headers.{one-byte, slice-none}
@@ -35,13 +26,10 @@ use Rattle.check_operand.proofs.Operands.{element-none, element-beyond,
 use Rattle.check_operand.proofs.Tables.{scope-forms, kinds-get, kinds-none}
 use Rattle.language.specs.Check as C
 
-
--- src/lib.rt:355:16
 add-from : tie.Need-add-from
 add-from c =
     search needs
 
--- src/lib.rt:357:9
 returns : tie.Need-returns
 unfolding checkedPart
 returns c =
@@ -53,17 +41,14 @@ returns c =
     let d : Known → Due = λ fs. wantedOf fs (a .wanted) (now (a .size)) in
     (λ fs. element-none (scopeAt fs (a .s) (now (a .kinds)) (now (a .sizes)) (now (a .lows)) (now (a .highs))) (d fs) (a .at) (slice from (a .next) program) (slice-none from (a .next) program (c .if1 .taken)), tt)
 
--- src/lib.rt:359:26
 shared-slice-read-wide : tie.Need-shared-slice-read-wide
 shared-slice-read-wide c =
     search needs
 
--- src/lib.rt:359:9
 wide-requires : tie.Need-wide-requires
 wide-requires c κs =
     search needs
 
--- src/lib.rt:361:9
 returns-2 : tie.Need-returns-2
 unfolding checkedPart
 returns-2 c =
@@ -78,37 +63,30 @@ returns-2 c =
     let v : c .before .before .wide .result ≡ n = c .before .before .wide .ensures .0 in
     (λ fs. element-beyond (scopeAt fs (a .s) (now (a .kinds)) (now (a .sizes)) (now (a .lows)) (now (a .highs))) (d fs) (a .at) (slice from (a .next) program) n program (a .next) e (kinds-none (fs .formals) (a .s .count) (a .s .first) n (now (a .kinds)) (now (a .sizes)) (let q = c .if2 .taken in omega arith)), tt)
 
--- src/lib.rt:363:15
 add-row : tie.Need-add-row
 add-row c =
     search needs
 
--- src/lib.rt:364:17
 add-inner : tie.Need-add-inner
 add-inner c =
     search needs
 
--- src/lib.rt:365:21
 add-variables : tie.Need-add-variables
 add-variables c =
     search needs
 
--- src/lib.rt:367:9
 index-requires : tie.Need-index-requires
 index-requires c κs =
     search needs
 
--- src/lib.rt:368:20
 enum-known-r : tie.Need-enum-known-r
 enum-known-r c =
     search needs
 
--- src/lib.rt:369:9
 enum-told : tie.Need-enum-told
 enum-told c =
     search needs
 
--- src/lib.rt:369:9
 returns-3 : tie.Need-returns-3
 returns-3 c =
     let a = c .before .before .before .before .before .before .before .before .before .before .before .before .before .args in
@@ -126,7 +104,6 @@ returns-3 c =
     let i = due (readIndex 16) (badIndex 4 (a .at)) (fieldsAt program (a .at + 4) (a .next)) in
     (λ fs. element-stops (scopeAt fs (a .s) (now (a .kinds)) (now (a .sizes)) (now (a .lows)) (now (a .highs))) (d fs) (a .at) (slice from (a .next) program) n program (a .next) e (k fs) (kinds-get (fs .formals) (a .s .count) (a .s .first) n (now (a .kinds)) (now (a .sizes)) (let q = c .before .before .before .before .before .before .if2 .left in omega arith)) (c .before .before .index .result) l (c .before .before .index .ensures .0 ∙ scope-forms (tabulated (fs .declared) (a .s .families) 0) (ks fs) (a .s .variables) (a .s .loops) (now (a .lows)) (now (a .highs)) i) (c .before .match .keys2), ends-stops (c .before .before .index .result) (a .next) (c .before .match .keys2))
 
--- src/lib.rt:372:9
 returns-4 : tie.Need-returns-4
 unfolding checkedPart
 returns-4 c =
@@ -147,26 +124,22 @@ returns-4 c =
     let u = form-passes-upto program (a .at + 4) (a .next) (c .before .before .before .before .index .result) l end (c .before .before .r .given .1) (c .before .before .before .before .index .ensures .1) in
     (λ fs. element-long (scopeAt fs (a .s) (now (a .kinds)) (now (a .sizes)) (now (a .lows)) (now (a .highs))) (d fs) (a .at) (slice from (a .next) program) n program (a .next) e (k fs) (kinds-get (fs .formals) (a .s .count) (a .s .first) n (now (a .kinds)) (now (a .sizes)) (let q = c .before .before .before .before .before .before .before .before .if2 .left in omega arith)) (c .before .before .before .before .index .result) l (c .before .before .before .before .index .ensures .0 ∙ scope-forms (tabulated (fs .declared) (a .s .families) 0) (ks fs) (a .s .variables) (a .s .loops) (now (a .lows)) (now (a .highs)) i) end (c .before .before .r .given .1) (u .0) (c .if3 .taken) (c .before .before .before .before .before .before .before .before .before .before .before .before .before .before .before .pre .0 .1), tt)
 
--- src/lib.rt:374:18
 mul-number : tie.Need-mul-number
 mul-number c =
     let b = c .before .before .before .before .before .before .before .before .before .before .before .before .before .before .before .pre .1 .kindRows in
     let q = c .before .before .before .before .before .before .before .before .if2 .left in
     omega (arith, c .before .before .before .before .before .before .before .before .before .before .before .before .before .before .before .good)
 
--- src/lib.rt:374:18
 shared-slice-read-number : tie.Need-shared-slice-read-number
 shared-slice-read-number c =
     let b = c .before .before .before .before .before .before .before .before .before .before .before .before .before .before .before .before .pre .1 .kindRows in
     let q = c .before .before .before .before .before .before .before .before .before .if2 .left in
     omega (arith, c .before .before .before .before .before .before .before .before .before .before .before .before .before .before .before .before .good)
 
--- src/lib.rt:375:9
 kind-by-requires : tie.Need-kind-by-requires
 kind-by-requires c κs =
     search needs
 
--- src/lib.rt:376:9
 element-kind-requires : tie.Need-element-kind-requires
 element-kind-requires c κs =
     search needs
@@ -175,12 +148,10 @@ enum-told-2 : tie.Need-enum-told-2
 enum-told-2 c =
     search needs
 
--- src/lib.rt:378:9
 enum-told-3 : tie.Need-enum-told-3
 enum-told-3 c =
     search needs
 
--- src/lib.rt:378:9
 returns-5 : tie.Need-returns-5
 returns-5 c =
     let a = c .before .before .before .before .before .before .before .before .before .before .before .before .before .before .before .before .before .before .before .before .args in
@@ -202,22 +173,18 @@ returns-5 c =
     let good : (fs : Known) → (elementSize (a .at) (d fs) (k fs) >>= λ size. checkWithin (a .at) (scopeAt fs (a .s) (now (a .kinds)) (now (a .sizes)) (now (a .lows)) (now (a .highs))) size (asForm l)) ≡ checkOperand (scopeAt fs (a .s) (now (a .kinds)) (now (a .sizes)) (now (a .lows)) (now (a .highs))) (d fs) (readElement (a .at) (slice from (a .next) program)) = λ fs. element-good (scopeAt fs (a .s) (now (a .kinds)) (now (a .sizes)) (now (a .lows)) (now (a .highs))) (d fs) (a .at) (slice from (a .next) program) n program (a .next) e (k fs) (kinds-get (fs .formals) (a .s .count) (a .s .first) n (now (a .kinds)) (now (a .sizes)) (let q = c .before .before .before .before .before .before .before .before .before .before .before .before .before .if2 .left in omega arith)) (c .before .before .before .before .before .before .before .before .before .index .result) l (c .before .before .before .before .before .before .before .before .before .index .ensures .0 ∙ scope-forms (tabulated (fs .declared) (a .s .families) 0) (ks fs) (a .s .variables) (a .s .loops) (now (a .lows)) (now (a .highs)) i) end (c .before .before .before .before .before .before .before .r .given .1) (u .0) (c .before .before .before .before .before .if3 .left) in
     (λ fs. kind-stops (elementSize (a .at) (d fs) (k fs)) (λ m. checkWithin (a .at) (scopeAt fs (a .s) (now (a .kinds)) (now (a .sizes)) (now (a .lows)) (now (a .highs))) m (asForm l)) size (c .before .before .element-kind .result) (c .before .before .element-kind .ensures .0 size (now (a .size)) fs (fs .formals (sizeOfRow (getD (now (a .kinds)) row 0))) ∙ ap (λ (k : Kind). elementSize (a .at) (d fs) (kindIn k size (fs .formals (sizeOfRow (getD (now (a .kinds)) row 0))))) (c .before .before .before .kind-by .ensures ∙ ap (λ (j : ℕ). kindOfRow (getD (now (a .kinds)) (a .s .first + j) 0)) v)) (c .before .match2 .keys2) ∙ good fs, ends-stops (c .before .before .element-kind .result) (a .next) (c .before .match2 .keys2))
 
--- src/lib.rt:380:9
 size-by-requires : tie.Need-size-by-requires
 size-by-requires c κs =
     search needs
 
--- src/lib.rt:381:24
 mul-within : tie.Need-mul-within
 mul-within c =
     omega (arith, c .before .before .before .before .before .before .before .before .before .before .before .before .before .before .before .before .before .before .before .before .before .before .good, c .before .size-by .ensures, c .before .before .before .before .before .before .before .before .before .before .before .before .before .before .before .before .before .before .before .before .before .before .pre .1 .named (c .before .before .before .before .before .before .before .before .before .before .before .before .before .before .before .before .before .before .before .before .before .before .args .s .first + c .before .before .before .before .before .before .before .before .before .before .before .before .before .before .before .before .before .wide .result))
 
--- src/lib.rt:381:24
 shared-slice-element-within : tie.Need-shared-slice-element-within
 shared-slice-element-within c =
     omega (arith, c .before .before .before .before .before .before .before .before .before .before .before .before .before .before .before .before .before .before .before .before .before .before .good, c .before .size-by .ensures, c .before .before .before .before .before .before .before .before .before .before .before .before .before .before .before .before .before .before .before .before .before .before .pre .1 .named (c .before .before .before .before .before .before .before .before .before .before .before .before .before .before .before .before .before .before .before .before .before .before .args .s .first + c .before .before .before .before .before .before .before .before .before .before .before .before .before .before .before .before .before .wide .result))
 
--- src/lib.rt:381:9
 within-requires : tie.Need-within-requires
 within-requires c κs =
     let a = c .before .before .before .before .before .before .before .before .before .before .before .before .before .before .before .before .before .before .before .before .before .before .before .args in
@@ -241,12 +208,10 @@ within-requires c κs =
     let b = t .kindRows in
     (u .1, (t .sizeRows .each (c .before .before .size-by .result) (omega (arith, c .before .before .size-by .ensures, t .named (a .s .first + c .before .before .before .before .before .before .before .before .before .before .before .before .before .before .before .before .before .before .wide .result))), (omega arith, (fewer (t .lowRows) g, fewer (t .highRows) g))))
 
--- src/lib.rt:382:5
 answered-requires : tie.Need-answered-requires
 answered-requires c κs =
     search needs
 
--- src/lib.rt:338:1
 returns-6 : tie.Need-returns-6
 returns-6 c =
     let a = c .before .before .before .before .before .before .before .before .before .before .before .before .before .before .before .before .before .before .before .before .before .before .before .before .before .args in

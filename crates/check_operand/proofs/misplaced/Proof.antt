@@ -1,12 +1,9 @@
+-- `check_operand::misplaced` meets its contract. Assumes nothing.
 use borrow.Author.Needs.{needs}
 use Rattle.check_operand.proofs.misplaced.Statement.{statement}
 use Rattle.check_operand.proofs.misplaced.Tie as tie
-use Rattle.check_operand.proofs.misplaced.Reads as reads
-use Rattle.check_operand.proofs.misplaced.Lts as lts
-use Rattle.fields.proofs.two_bytes.Reads as two-bytes-reads
-use borrow.Author.Needs.{needs}
-use mathlib.Core.Path.{_≡_, sym, _∙_}
-use Prim.Native.Nat.{ℕ, _+_}
+use mathlib.Core.Path.{_∙_}
+use Prim.Native.Nat.{_+_}
 use native.Mathlib.Omega.{arith}
 use denote.Ref.{now}
 use lib.ListN.{getD}
@@ -14,23 +11,19 @@ use lib.Seq.{slice, length-slice}
 use Rattle.language.specs.Read.{twoBytes}
 use Rattle.fields.proofs.Headers.{slice-none}
 use Rattle.check_index.specs.Answers.{checkedPart}
-use Rattle.check_operand.specs.Tables.{tabulated, scopeAt}
+use Rattle.check_operand.specs.Tables.{scopeAt}
 use Rattle.check_operand.specs.Operands.{wantedOf}
 use Rattle.check_operand.proofs.Tables.{row-get, row-none}
 use Rattle.check_operand.proofs.Passed.{two-first, passed-cut, passed-beyond, passed-long, passed-good, unwanted}
 
-
--- src/lib.rt:489:16
 add-from : tie.Need-add-from
 add-from c =
     search needs
 
--- src/lib.rt:490:8
 sub-if1 : tie.Need-sub-if1
 sub-if1 c =
     search needs
 
--- src/lib.rt:491:9
 returns : tie.Need-returns
 unfolding checkedPart
 returns c =
@@ -41,12 +34,10 @@ returns c =
     let q = c .if1 .taken in
     (λ k l kinds sizes lows highs. passed-cut (scopeAt k (a .s) kinds sizes lows highs) (wantedOf k (a .wanted) l) (a .at) (slice from (a .next) program) (omega arith), tt)
 
--- src/lib.rt:493:9
 two-bytes-requires : tie.Need-two-bytes-requires
 two-bytes-requires c κs =
     search needs
 
--- src/lib.rt:495:9
 returns-2 : tie.Need-returns-2
 unfolding checkedPart
 returns-2 c =
@@ -59,12 +50,10 @@ returns-2 c =
     let b = c .if2 .taken in
     (λ k l kinds sizes lows highs. passed-beyond (scopeAt k (a .s) kinds sizes lows highs) (wantedOf k (a .wanted) l) (a .at) (slice from (a .next) program) (getD program from 0) (getD program (from + 1) 0) (slice (from + 2) (a .next) program) e (row-none (k .declared) (a .s .families) 0 (twoBytes (getD program from 0) (getD program (from + 1) 0)) (omega arith)), tt)
 
--- src/lib.rt:497:8
 sub-if3 : tie.Need-sub-if3
 sub-if3 c =
     search needs
 
--- src/lib.rt:498:9
 returns-3 : tie.Need-returns-3
 unfolding checkedPart
 returns-3 c =
@@ -80,7 +69,6 @@ returns-3 c =
     let t = c .if3 .taken in
     (λ k l kinds sizes lows highs. passed-long (scopeAt k (a .s) kinds sizes lows highs) (wantedOf k (a .wanted) l) (a .at) (slice from (a .next) program) (getD program from 0) (getD program (from + 1) 0) (slice (from + 2) (a .next) program) e (k .declared (0 + n)) (row-get (k .declared) (a .s .families) 0 n (omega arith)) (λ z. t (omega arith)), tt)
 
--- src/lib.rt:483:1
 returns-4 : tie.Need-returns-4
 unfolding checkedPart
 returns-4 c =

@@ -1,14 +1,7 @@
+-- `check_operand::operand` meets its contract. Assumes nothing.
 use borrow.Author.Needs.{needs}
 use Rattle.check_operand.proofs.operand.Statement.{statement}
 use Rattle.check_operand.proofs.operand.Tie as tie
-use Rattle.check_operand.proofs.operand.Reads as reads
-use Rattle.check_operand.proofs.operand.Lts as lts
-use Rattle.check_operand.proofs.element.Reads as element-reads
-use Rattle.check_operand.proofs.misplaced.Reads as misplaced-reads
-use Rattle.check_operand.proofs.part.Reads as part-reads
-use Rattle.check_operand.proofs.whole.Reads as whole-reads
-use Rattle.fields.proofs.header_at.Reads as header-at-reads
-use borrow.Author.Needs.{needs}
 use mathlib.Core.Path.{sym, _∙_}
 use native.Mathlib.Omega.{arith}
 use denote.Ref.{now}
@@ -20,28 +13,22 @@ use Rattle.check_operand.proofs.Operands.{operand-end, operand-cut, ope
 use Rattle.check_index.proofs.Answers.{ends-passes}
 use Rattle.language.specs.Check.{Due}
 
-
--- src/lib.rt:525:11
 header-at-requires : tie.Need-header-at-requires
 header-at-requires c κs =
     search needs
 
--- src/lib.rt:526:24
 enum-told : tie.Need-enum-told
 enum-told c =
     search needs
 
--- src/lib.rt:527:24
 enum-told-2 : tie.Need-enum-told-2
 enum-told-2 c =
     search needs
 
--- src/lib.rt:528:23
 enum-known-tag : tie.Need-enum-known-tag
 enum-known-tag c =
     search needs
 
--- src/lib.rt:529:19
 whole-requires : tie.Need-whole-requires
 whole-requires c κs =
     let a = c .before .before .before .before .before .before .before .args in
@@ -54,7 +41,6 @@ whole-requires c κs =
     let k = c .before .before .before .before .before .before .before .pre .0 in
     ((w .low, omega arith), (c .before .before .before .before .before .before .before .pre .1 .0, c .before .before .before .before .before .before .before .pre .1 .1 .1))
 
--- src/lib.rt:541:19
 element-requires : tie.Need-element-requires
 element-requires c κs =
     let a = c .before .before .before .before .before .before .before .args in
@@ -67,7 +53,6 @@ element-requires c κs =
     let k = c .before .before .before .before .before .before .before .pre .0 in
     ((w .low, omega arith), c .before .before .before .before .before .before .before .pre .1 .1 .1)
 
--- src/lib.rt:553:19
 part-requires : tie.Need-part-requires
 part-requires c κs =
     let a = c .before .before .before .before .before .before .before .args in
@@ -80,7 +65,6 @@ part-requires c κs =
     let k = c .before .before .before .before .before .before .before .pre .0 in
     ((w .low, omega arith), (c .before .before .before .before .before .before .before .pre .1 .0, c .before .before .before .before .before .before .before .pre .1 .1 .1))
 
--- src/lib.rt:565:19
 misplaced-requires : tie.Need-misplaced-requires
 misplaced-requires c κs =
     let a = c .before .before .before .before .before .before .before .args in
@@ -93,7 +77,6 @@ misplaced-requires c κs =
     let k = c .before .before .before .before .before .before .before .pre .0 in
     ((w .low, omega arith), answers-passed (a .wanted) program (a .at) (a .to) (a .parent) tag next w (c .match2 .keys4) (c .before .before .before .before .before .before .before .pre .1 .1 .0))
 
--- src/lib.rt:505:1
 returns : tie.Need-returns
 unfolding checkedPart
 returns c =
@@ -102,7 +85,6 @@ returns c =
     let d : Known → Due = λ fs. wantedOf fs (a .wanted) (now (a .size)) in
     (λ fs. operand-end (scopeAt fs (a .s) (now (a .kinds)) (now (a .sizes)) (now (a .lows)) (now (a .highs))) (d fs) program (a .at) (a .to) (a .parent) (when-end program (a .at) (a .to) (c .before .before .before .before .before .pre .0) (sym (c .before .before .header-at .ensures) ∙ c .enum-told .given .1)), tt)
 
--- src/lib.rt:505:1
 returns-2 : tie.Need-returns-2
 unfolding checkedPart
 returns-2 c =
@@ -111,7 +93,6 @@ returns-2 c =
     let d : Known → Due = λ fs. wantedOf fs (a .wanted) (now (a .size)) in
     (λ fs. operand-cut (scopeAt fs (a .s) (now (a .kinds)) (now (a .sizes)) (now (a .lows)) (now (a .highs))) (d fs) program (a .at) (a .to) (a .parent) (when-cut program (a .at) (a .to) (c .before .before .before .before .before .pre .0) (sym (c .before .before .header-at .ensures) ∙ c .enum-told2 .given .1)), tt)
 
--- src/lib.rt:505:1
 returns-3 : tie.Need-returns-3
 returns-3 c =
     let a = c .before .before .before .before .before .before .before .before .args in
@@ -124,7 +105,6 @@ returns-3 c =
     let k = c .before .before .before .before .before .before .before .before .pre .0 in
     (λ fs. c .whole .ensures .0 fs ∙ operand-whole (scopeAt fs (a .s) (now (a .kinds)) (now (a .sizes)) (now (a .lows)) (now (a .highs))) (d fs) program (a .at) (a .to) (a .parent) tag next w (c .before .match2 .keys1), ends-passes program (a .at) (a .to) tag next (c .whole .result) w (c .whole .ensures .1))
 
--- src/lib.rt:505:1
 returns-4 : tie.Need-returns-4
 returns-4 c =
     let a = c .before .before .before .before .before .before .before .before .args in
@@ -137,7 +117,6 @@ returns-4 c =
     let k = c .before .before .before .before .before .before .before .before .pre .0 in
     (λ fs. c .element .ensures .0 fs ∙ operand-element (scopeAt fs (a .s) (now (a .kinds)) (now (a .sizes)) (now (a .lows)) (now (a .highs))) (d fs) program (a .at) (a .to) (a .parent) tag next w (c .before .match2 .keys2), ends-passes program (a .at) (a .to) tag next (c .element .result) w (c .element .ensures .1))
 
--- src/lib.rt:505:1
 returns-5 : tie.Need-returns-5
 returns-5 c =
     let a = c .before .before .before .before .before .before .before .before .args in
@@ -150,7 +129,6 @@ returns-5 c =
     let k = c .before .before .before .before .before .before .before .before .pre .0 in
     (λ fs. c .part .ensures .0 fs ∙ operand-slice (scopeAt fs (a .s) (now (a .kinds)) (now (a .sizes)) (now (a .lows)) (now (a .highs))) (d fs) program (a .at) (a .to) (a .parent) tag next w (c .before .match2 .keys3), ends-passes program (a .at) (a .to) tag next (c .part .result) w (c .part .ensures .1))
 
--- src/lib.rt:505:1
 returns-6 : tie.Need-returns-6
 returns-6 c =
     let a = c .before .before .before .before .before .before .before .before .args in
@@ -163,7 +141,6 @@ returns-6 c =
     let k = c .before .before .before .before .before .before .before .before .pre .0 in
     (λ fs. c .misplaced .ensures .0 fs (now (a .size)) (now (a .kinds)) (now (a .sizes)) (now (a .lows)) (now (a .highs)) ∙ operand-passed (scopeAt fs (a .s) (now (a .kinds)) (now (a .sizes)) (now (a .lows)) (now (a .highs))) (d fs) program (a .at) (a .to) (a .parent) tag next w (c .before .match2 .keys4), ends-passes program (a .at) (a .to) tag next (c .misplaced .result) w (c .misplaced .ensures .1))
 
--- src/lib.rt:505:1
 returns-7 : tie.Need-returns-7
 unfolding checkedPart
 returns-7 c =

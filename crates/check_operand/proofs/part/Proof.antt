@@ -1,14 +1,7 @@
+-- `check_operand::part` meets its contract. Assumes nothing.
 use borrow.Author.Needs.{needs}
 use Rattle.check_operand.proofs.part.Statement.{statement}
 use Rattle.check_operand.proofs.part.Tie as tie
-use Rattle.check_operand.proofs.part.Reads as reads
-use Rattle.check_operand.proofs.part.Lts as lts
-use Rattle.check_index.proofs.two_indexes.Reads as two-indexes-reads
-use Rattle.check_operand.proofs.kind_by.Reads as kind-by-reads
-use Rattle.check_operand.proofs.size_by.Reads as size-by-reads
-use Rattle.check_operand.proofs.slice_fits.Reads as slice-fits-reads
-use Rattle.fields.proofs.wide.Reads as wide-reads
-use borrow.Author.Needs.{needs}
 use mathlib.Core.Path.{_≡_, ap, _∙_}
 use mathlib.Core.List.{[], List}
 use Prim.Native.Nat.{ℕ, _+_}
@@ -29,13 +22,10 @@ use Rattle.check_index.proofs.TwoBounds.{bounds-upto}
 use Rattle.check_operand.proofs.Slices.{slice-empty, slice-beyond, slice-stops, slice-long, slice-good}
 use Rattle.check_operand.proofs.Tables.{bounds-same, kinds-get, kinds-none}
 
-
--- src/lib.rt:443:16
 add-from : tie.Need-add-from
 add-from c =
     search needs
 
--- src/lib.rt:445:9
 returns : tie.Need-returns
 unfolding checkedPart
 returns c =
@@ -43,17 +33,14 @@ returns c =
     let from = a .at + 3 in
     (λ fs. slice-empty (scopeAt fs (a .s) (now (a .kinds)) (now (a .sizes)) (now (a .lows)) (now (a .highs))) (wantedOf fs (a .wanted) (now (a .size))) (a .at) (slice from (a .next) (now (a .program))) (slice-none from (a .next) (now (a .program)) (c .if1 .taken)), tt)
 
--- src/lib.rt:447:26
 shared-slice-read-wide : tie.Need-shared-slice-read-wide
 shared-slice-read-wide c =
     search needs
 
--- src/lib.rt:447:9
 wide-requires : tie.Need-wide-requires
 wide-requires c κs =
     search needs
 
--- src/lib.rt:449:9
 returns-2 : tie.Need-returns-2
 unfolding checkedPart
 returns-2 c =
@@ -66,37 +53,30 @@ returns-2 c =
     let v : c .before .before .wide .result ≡ n = c .before .before .wide .ensures .0 in
     (λ fs. slice-beyond (scopeAt fs (a .s) (now (a .kinds)) (now (a .sizes)) (now (a .lows)) (now (a .highs))) (d fs) (a .at) (slice from (a .next) program) n program (a .next) e (kinds-none (fs .formals) (a .s .count) (a .s .first) n (now (a .kinds)) (now (a .sizes)) (let q = c .if2 .taken in omega arith)), tt)
 
--- src/lib.rt:451:15
 add-row : tie.Need-add-row
 add-row c =
     search needs
 
--- src/lib.rt:452:17
 add-inner : tie.Need-add-inner
 add-inner c =
     search needs
 
--- src/lib.rt:453:21
 add-variables : tie.Need-add-variables
 add-variables c =
     search needs
 
--- src/lib.rt:456:9
 two-indexes-requires : tie.Need-two-indexes-requires
 two-indexes-requires c κs =
     search needs
 
--- src/lib.rt:457:20
 enum-known-r : tie.Need-enum-known-r
 enum-known-r c =
     search needs
 
--- src/lib.rt:458:9
 enum-told : tie.Need-enum-told
 enum-told c =
     search needs
 
--- src/lib.rt:458:9
 returns-3 : tie.Need-returns-3
 returns-3 c =
     let a = c .before .before .before .before .before .before .before .before .before .before .before .before .before .before .args in
@@ -114,7 +94,6 @@ returns-3 c =
     let inside = fieldsAt program (a .at + 4) (a .next) in
     (λ fs. slice-stops (scopeAt fs (a .s) (now (a .kinds)) (now (a .sizes)) (now (a .lows)) (now (a .highs))) (d fs) (a .at) (slice from (a .next) program) n program (a .next) e (k fs) (kinds-get (fs .formals) (a .s .count) (a .s .first) n (now (a .kinds)) (now (a .sizes)) (let q = c .before .before .before .before .before .before .before .if2 .left in omega arith)) (c .before .before .two-indexes .result) l h (c .before .before .two-indexes .ensures .0 ∙ bounds-same (tabulated (fs .declared) (a .s .families) 0) (ks fs) (a .s .variables) (a .s .loops) (now (a .lows)) (now (a .highs)) (a .at) inside) (c .before .match .keys2), ends-stops (c .before .before .two-indexes .result) (a .next) (c .before .match .keys2))
 
--- src/lib.rt:461:9
 returns-4 : tie.Need-returns-4
 unfolding checkedPart
 returns-4 c =
@@ -135,41 +114,34 @@ returns-4 c =
     let u = bounds-upto program (a .at + 4) (a .next) (c .before .before .before .before .two-indexes .result) l h end (c .before .before .r .given .1) (c .before .before .before .before .two-indexes .ensures .1) in
     (λ fs. slice-long (scopeAt fs (a .s) (now (a .kinds)) (now (a .sizes)) (now (a .lows)) (now (a .highs))) (d fs) (a .at) (slice from (a .next) program) n program (a .next) e (k fs) (kinds-get (fs .formals) (a .s .count) (a .s .first) n (now (a .kinds)) (now (a .sizes)) (let q = c .before .before .before .before .before .before .before .before .before .if2 .left in omega arith)) (c .before .before .before .before .two-indexes .result) l h (c .before .before .before .before .two-indexes .ensures .0 ∙ bounds-same (tabulated (fs .declared) (a .s .families) 0) (ks fs) (a .s .variables) (a .s .loops) (now (a .lows)) (now (a .highs)) (a .at) inside) end (c .before .before .r .given .1) (u .0) (c .if3 .taken) (c .before .before .before .before .before .before .before .before .before .before .before .before .before .before .before .before .pre .0 .1), tt)
 
--- src/lib.rt:463:18
 mul-number : tie.Need-mul-number
 mul-number c =
     let b = c .before .before .before .before .before .before .before .before .before .before .before .before .before .before .before .before .pre .1 .1 .kindRows in
     let q = c .before .before .before .before .before .before .before .before .before .if2 .left in
     omega (arith, c .before .before .before .before .before .before .before .before .before .before .before .before .before .before .before .before .good)
 
--- src/lib.rt:463:18
 shared-slice-read-number : tie.Need-shared-slice-read-number
 shared-slice-read-number c =
     let b = c .before .before .before .before .before .before .before .before .before .before .before .before .before .before .before .before .before .pre .1 .1 .kindRows in
     let q = c .before .before .before .before .before .before .before .before .before .before .if2 .left in
     omega (arith, c .before .before .before .before .before .before .before .before .before .before .before .before .before .before .before .before .before .good)
 
--- src/lib.rt:464:9
 kind-by-requires : tie.Need-kind-by-requires
 kind-by-requires c κs =
     search needs
 
--- src/lib.rt:465:9
 size-by-requires : tie.Need-size-by-requires
 size-by-requires c κs =
     search needs
 
--- src/lib.rt:470:9
 mul-slice-fits : tie.Need-mul-slice-fits
 mul-slice-fits c =
     omega (arith, c .before .before .before .before .before .before .before .before .before .before .before .before .before .before .before .before .before .before .before .good, c .size-by .ensures, c .before .before .before .before .before .before .before .before .before .before .before .before .before .before .before .before .before .before .before .pre .1 .1 .named (c .before .before .before .before .before .before .before .before .before .before .before .before .before .before .before .before .before .before .before .args .s .first + c .before .before .before .before .before .before .before .before .before .before .before .before .before .before .wide .result))
 
--- src/lib.rt:470:9
 shared-slice-element-slice-fits : tie.Need-shared-slice-element-slice-fits
 shared-slice-element-slice-fits c =
     omega (arith, c .before .before .before .before .before .before .before .before .before .before .before .before .before .before .before .before .before .before .before .good, c .size-by .ensures, c .before .before .before .before .before .before .before .before .before .before .before .before .before .before .before .before .before .before .before .pre .1 .1 .named (c .before .before .before .before .before .before .before .before .before .before .before .before .before .before .before .before .before .before .before .args .s .first + c .before .before .before .before .before .before .before .before .before .before .before .before .before .before .wide .result))
 
--- src/lib.rt:466:5
 slice-fits-requires : tie.Need-slice-fits-requires
 slice-fits-requires c κs =
     let a = c .before .before .before .before .before .before .before .before .before .before .before .before .before .before .before .before .before .before .before .before .before .before .args in
@@ -181,7 +153,6 @@ slice-fits-requires c κs =
     let u = bounds-upto (now (a .program)) (a .at + 4) (a .next) (c .before .before .before .before .before .before .before .before .before .before .two-indexes .result) l h (c .before .before .before .before .before .before .before .before .r .given .0 .0) (c .before .before .before .before .before .before .before .before .r .given .1) (c .before .before .before .before .before .before .before .before .before .before .two-indexes .ensures .1) in
     (c .before .before .before .before .before .before .before .before .before .before .before .before .before .before .before .before .before .before .before .before .before .before .pre .1 .0, (t .sizeRows .each (c .before .before .before .size-by .result) (omega (arith, c .before .before .before .size-by .ensures, t .named (a .s .first + c .before .before .before .before .before .before .before .before .before .before .before .before .before .before .before .before .before .wide .result))), (u .1, (u .2, (omega arith, (fewer (t .lowRows) g, fewer (t .highRows) g))))))
 
--- src/lib.rt:425:1
 returns-5 : tie.Need-returns-5
 returns-5 c =
     let a = c .before .before .before .before .before .before .before .before .before .before .before .before .before .before .before .before .before .before .before .before .before .before .before .args in

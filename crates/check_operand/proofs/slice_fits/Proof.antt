@@ -1,12 +1,7 @@
+-- `check_operand::slice_fits` meets its contract. Assumes nothing.
 use borrow.Author.Needs.{needs}
 use Rattle.check_operand.proofs.slice_fits.Statement.{statement}
 use Rattle.check_operand.proofs.slice_fits.Tie as tie
-use Rattle.check_operand.proofs.slice_fits.Reads as reads
-use Rattle.check_operand.proofs.slice_fits.Lts as lts
-use Rattle.check_operand.proofs.answered.Reads as answered-reads
-use Rattle.check_operand.proofs.large_enough.Reads as large-enough-reads
-use Rattle.check_operand.proofs.slice_within.Reads as slice-within-reads
-use borrow.Author.Needs.{needs}
 use mathlib.Core.Path.{sym, ap, _∙_}
 use mathlib.Core.List.{List}
 use denote.Ref.{now}
@@ -22,13 +17,10 @@ use Rattle.check_operand.specs.declared.Wanted.{Wanted}
 use Rattle.check_operand.proofs.OperandKinds.{register-good}
 use Rattle.check_operand.proofs.Slices.{slice-unwanted, slice-no-register, lies-stops, lies-goes}
 
-
--- src/lib.rt:410:26
 enum-known-wanted : tie.Need-enum-known-wanted
 enum-known-wanted c =
     search needs
 
--- src/lib.rt:411:9
 returns : tie.Need-returns
 unfolding checkedPart
 returns c =
@@ -45,7 +37,6 @@ enum-told : tie.Need-enum-told
 enum-told c =
     search needs
 
--- src/lib.rt:414:9
 returns-2 : tie.Need-returns-2
 unfolding checkedPart
 returns-2 c =
@@ -59,7 +50,6 @@ returns-2 c =
     let fits : List Signature → List Kind → Known → Formal → Wanted → K.Kind → Checked (Unit {0}) = λ fs ks known g w k. sliceFits (a .at) (s fs ks) (wantedOf known w m) (kindIn k size g) first last in
     (λ fs ks known g. slice-no-register (a .at) (s fs ks) m size first last known g (c .before .before .wanted .given .0 .0) (a .kind) (c .match2 .keys2) ∙ ap (λ (w : Wanted). fits fs ks known g w (a .kind)) (sym (c .before .before .wanted .given .1)), tt)
 
--- src/lib.rt:416:9
 slice-within-requires : tie.Need-slice-within-requires
 slice-within-requires c κs =
     (c .before .before .before .before .before .before .pre .1 .1 .0, (c .before .before .before .before .before .before .pre .1 .1 .1 .0, (c .before .before .before .before .before .before .pre .1 .0, c .before .before .before .before .before .before .pre .1 .1 .1 .1)))
@@ -68,12 +58,10 @@ enum-told-2 : tie.Need-enum-told-2
 enum-told-2 c =
     search needs
 
--- src/lib.rt:418:9
 answered-requires : tie.Need-answered-requires
 answered-requires c κs =
     search needs
 
--- src/lib.rt:418:9
 returns-3 : tie.Need-returns-3
 unfolding shownForm
 returns-3 c =
@@ -88,17 +76,14 @@ returns-3 c =
     let l = c .before .before .slice-within .last .1 .0 in
     (λ fs ks known g. c .answered .ensures .0 ∙ lies-stops (a .at) (s fs ks) m size first last known g (c .before .before .before .before .before .before .before .wanted .given .0 .0) (shownOf (c .before .before .slice-within .result)) l (c .before .before .slice-within .ensures .0 (a .at) fs ks) (not-shown (c .before .before .slice-within .result) (c .before .match3 .keys2)) ∙ (λ i. fits fs ks known g (sym (c .before .before .before .before .before .before .before .wanted .given .1) i) (sym (c .before .before .before .before .enum-told .given .1) i)), c .answered .ensures .1)
 
--- src/lib.rt:420:9
 large-enough-requires : tie.Need-large-enough-requires
 large-enough-requires c κs =
     (rw (c .before .before .before .before .before .before .before .before .wanted .given .1) at (c .before .before .before .before .before .before .before .before .before .before .pre .0), (c .before .before .before .slice-within .ensures .1 (is-shown (c .before .before .before .slice-within .result) (c .before .before .match3 .keys1)), c .before .before .before .before .before .before .before .before .before .before .pre .1 .1 .1 .1))
 
--- src/lib.rt:421:5
 answered-requires-2 : tie.Need-answered-requires-2
 answered-requires-2 c κs =
     search needs
 
--- src/lib.rt:386:1
 returns-4 : tie.Need-returns-4
 unfolding mustShow shownForm
 returns-4 c =

@@ -1,19 +1,12 @@
-use borrow.Author.Needs.{needs}
+-- `check_operand::two_wires` meets its contract. Assumes nothing.
 use Rattle.check_operand.proofs.two_wires.Statement.{statement}
 use Rattle.check_operand.proofs.two_wires.Tie as tie
-use Rattle.check_operand.proofs.two_wires.Reads as reads
-use Rattle.check_operand.proofs.two_wires.Lts as lts
-use Rattle.check_operand.proofs.two_operands.Reads as two-operands-reads
-use borrow.Author.Needs.{needs}
 use Rattle.check_operand.specs.Operands.{wantedOf}
 
-
--- src/lib.rt:702:5
 two-operands-requires : tie.Need-two-operands-requires
 two-operands-requires c κs =
     (c .before .before .pre .0, ((λ l. tt, λ o. tt), c .before .before .pre .1))
 
--- src/lib.rt:687:1
 returns : tie.Need-returns
 unfolding wantedOf
 returns c =

@@ -1,13 +1,7 @@
+-- `check_operand::whole` meets its contract. Assumes nothing.
 use borrow.Author.Needs.{needs}
 use Rattle.check_operand.proofs.whole.Statement.{statement}
 use Rattle.check_operand.proofs.whole.Tie as tie
-use Rattle.check_operand.proofs.whole.Reads as reads
-use Rattle.check_operand.proofs.whole.Lts as lts
-use Rattle.check_operand.proofs.kind_by.Reads as kind-by-reads
-use Rattle.check_operand.proofs.size_by.Reads as size-by-reads
-use Rattle.check_operand.proofs.whole_fits.Reads as whole-fits-reads
-use Rattle.fields.proofs.wide.Reads as wide-reads
-use borrow.Author.Needs.{needs}
 use mathlib.Core.Path.{_≡_, ap, _∙_}
 use mathlib.Core.List.{[]}
 use Prim.Native.Nat.{ℕ, _+_}
@@ -26,13 +20,10 @@ use Rattle.forms.proofs.Laws.{fewer}
 use Rattle.check_operand.proofs.Operands.{whole-none, whole-beyond, whole-long, whole-good}
 use Rattle.check_operand.proofs.Tables.{kinds-get, kinds-none}
 
-
--- src/lib.rt:308:16
 add-from : tie.Need-add-from
 add-from c =
     search needs
 
--- src/lib.rt:310:9
 returns : tie.Need-returns
 unfolding checkedPart
 returns c =
@@ -43,17 +34,14 @@ returns c =
     let d : Known → Due = λ fs. wantedOf fs (a .wanted) (now (a .size)) in
     (λ fs. whole-none (scopeAt fs (a .s) (now (a .kinds)) (now (a .sizes)) (now (a .lows)) (now (a .highs))) (d fs) (a .at) (slice from (a .next) program) (slice-none from (a .next) program (c .if1 .taken)), tt)
 
--- src/lib.rt:312:26
 shared-slice-read-wide : tie.Need-shared-slice-read-wide
 shared-slice-read-wide c =
     search needs
 
--- src/lib.rt:312:9
 wide-requires : tie.Need-wide-requires
 wide-requires c κs =
     search needs
 
--- src/lib.rt:314:9
 returns-2 : tie.Need-returns-2
 unfolding checkedPart
 returns-2 c =
@@ -69,12 +57,10 @@ returns-2 c =
     let h = length-slice (from + 1) (a .next) program (c .before .before .before .before .before .before .before .pre .0 .1) in
     (λ fs. whole-beyond (scopeAt fs (a .s) (now (a .kinds)) (now (a .sizes)) (now (a .lows)) (now (a .highs))) (d fs) (a .at) (slice from (a .next) program) n more e (kinds-none (fs .formals) (a .s .count) (a .s .first) n (now (a .kinds)) (now (a .sizes)) (let q = c .if2 .taken in omega arith)), tt)
 
--- src/lib.rt:316:8
 sub-if3 : tie.Need-sub-if3
 sub-if3 c =
     search needs
 
--- src/lib.rt:317:9
 returns-3 : tie.Need-returns-3
 unfolding checkedPart
 returns-3 c =
@@ -92,17 +78,14 @@ returns-3 c =
     let t = c .if3 .taken in
     (λ fs. whole-long (scopeAt fs (a .s) (now (a .kinds)) (now (a .sizes)) (now (a .lows)) (now (a .highs))) (d fs) (a .at) (slice from (a .next) program) n more e (k fs) (kinds-get (fs .formals) (a .s .count) (a .s .first) n (now (a .kinds)) (now (a .sizes)) (let q = c .before .if2 .left in omega arith)) (λ z. t (omega arith)), tt)
 
--- src/lib.rt:319:15
 add-row : tie.Need-add-row
 add-row c =
     search needs
 
--- src/lib.rt:320:18
 mul-number : tie.Need-mul-number
 mul-number c =
     search needs
 
--- src/lib.rt:320:18
 shared-slice-read-number : tie.Need-shared-slice-read-number
 shared-slice-read-number c =
     let r = c .before .before .before .before .before .before .before .before .before .before .pre .1 .1 in
@@ -110,29 +93,24 @@ shared-slice-read-number c =
     let q = c .before .before .before .if2 .left in
     omega (arith, c .before .before .before .before .before .before .before .before .before .before .good)
 
--- src/lib.rt:321:9
 kind-by-requires : tie.Need-kind-by-requires
 kind-by-requires c κs =
     search needs
 
--- src/lib.rt:322:9
 size-by-requires : tie.Need-size-by-requires
 size-by-requires c κs =
     search needs
 
--- src/lib.rt:327:9
 mul-whole-fits : tie.Need-mul-whole-fits
 mul-whole-fits c =
     let r = c .before .before .before .before .before .before .before .before .before .before .before .before .pre .1 .1 in
     omega (arith, c .before .before .before .before .before .before .before .before .before .before .before .before .good, c .size-by .ensures, r .named (c .before .before .before .before .before .before .before .before .before .before .before .before .args .s .first + c .before .before .before .before .before .before .before .wide .result))
 
--- src/lib.rt:327:9
 shared-slice-element-whole-fits : tie.Need-shared-slice-element-whole-fits
 shared-slice-element-whole-fits c =
     let r = c .before .before .before .before .before .before .before .before .before .before .before .before .pre .1 .1 in
     omega (arith, c .before .before .before .before .before .before .before .before .before .before .before .before .good, c .size-by .ensures, r .named (c .before .before .before .before .before .before .before .before .before .before .before .before .args .s .first + c .before .before .before .before .before .before .before .wide .result))
 
--- src/lib.rt:323:5
 whole-fits-requires : tie.Need-whole-fits-requires
 whole-fits-requires c κs =
     let r = c .before .before .before .before .before .before .before .before .before .before .before .before .before .pre .1 .1 in
@@ -140,7 +118,6 @@ whole-fits-requires c κs =
     let g = r .nested in
     (c .before .before .before .before .before .before .before .before .before .before .before .before .before .pre .1 .0, (r .sizeRows .each (c .before .size-by .result) (omega (arith, c .before .size-by .ensures, r .named (c .before .before .before .before .before .before .before .before .before .before .before .before .before .args .s .first + c .before .before .before .before .before .before .before .before .wide .result))), (omega arith, (fewer (r .lowRows) g, fewer (r .highRows) g))))
 
--- src/lib.rt:290:1
 returns-4 : tie.Need-returns-4
 returns-4 c =
     let a = c .before .before .before .before .before .before .before .before .before .before .before .before .before .before .args in

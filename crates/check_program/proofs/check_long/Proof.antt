@@ -1,10 +1,7 @@
+-- `check_program::check_long` meets its contract. Assumes nothing.
 use borrow.Author.Needs.{needs}
 use Rattle.check_program.proofs.check_long.Statement.{statement}
 use Rattle.check_program.proofs.check_long.Tie as tie
-use Rattle.check_program.proofs.check_long.Reads as reads
-use Rattle.check_program.proofs.check_long.Lts as lts
-use Rattle.check_program.proofs.top_fields.Reads as top-fields-reads
-use borrow.Author.Needs.{needs}
 use native.Mathlib.Omega.{arith}
 use denote.Ref.{now}
 use Prim.Native.Nat.{_+_, _*_, _/_}
@@ -13,28 +10,22 @@ use Rattle.language.specs.Limits.{longestProgram, mostRegisters}
 use Rattle.check_declaration.specs.Types.{sizeRow}
 use Rattle.check_program.proofs.TopFields.{zeros-hold}
 
-
--- src/lib.rt:385:25
 slice-aggregate-top-fields : tie.Need-slice-aggregate-top-fields
 slice-aggregate-top-fields c =
     search needs
 
--- src/lib.rt:385:40
 slice-aggregate-top-fields-2 : tie.Need-slice-aggregate-top-fields-2
 slice-aggregate-top-fields-2 c =
     search needs
 
--- src/lib.rt:385:52
 slice-aggregate-top-fields-3 : tie.Need-slice-aggregate-top-fields-3
 slice-aggregate-top-fields-3 c =
     search needs
 
--- src/lib.rt:385:5
 top-fields-requires : tie.Need-top-fields-requires
 top-fields-requires c κs =
     zeros-hold (length (now (c .before .before .before .before .args .program))) (2 * (mostRegisters + longestProgram / 3 + 1)) (sizeRow longestProgram mostRegisters + 1) (omega (arith, c .before .before .before .before .pre)) (omega (arith, c .before .before .before .before .pre)) (omega arith) (omega (arith, c .before .before .before .before .pre))
 
--- src/lib.rt:378:1
 returns : tie.Need-returns
 returns c =
     search needs

@@ -2,7 +2,6 @@
 use borrow.Author.Needs.{needs}
 use Rattle.check_program.proofs.check_program.Statement.{statement}
 use Rattle.check_program.proofs.check_program.Tie as tie
-use borrow.Author.Needs.{needs}
 use mathlib.Core.Path.{_∙_}
 use denote.Ref.{now}
 use Rattle.check_program.proofs.TopFields.{program-long, program-short}

@@ -1,10 +1,7 @@
+-- `check_program::check_short` meets its contract. Assumes nothing.
 use borrow.Author.Needs.{needs}
 use Rattle.check_program.proofs.check_short.Statement.{statement}
 use Rattle.check_program.proofs.check_short.Tie as tie
-use Rattle.check_program.proofs.check_short.Reads as reads
-use Rattle.check_program.proofs.check_short.Lts as lts
-use Rattle.check_program.proofs.top_fields.Reads as top-fields-reads
-use borrow.Author.Needs.{needs}
 use native.Mathlib.Omega.{arith}
 use denote.Ref.{now}
 use Prim.Native.Nat.{_+_, _*_, _/_}
@@ -14,28 +11,22 @@ use Rattle.check_program.specs.Declarations.{shortProgram}
 use Rattle.check_declaration.specs.Types.{sizeRow}
 use Rattle.check_program.proofs.TopFields.{zeros-hold}
 
-
--- src/lib.rt:374:25
 slice-aggregate-top-fields : tie.Need-slice-aggregate-top-fields
 slice-aggregate-top-fields c =
     search needs
 
--- src/lib.rt:374:40
 slice-aggregate-top-fields-2 : tie.Need-slice-aggregate-top-fields-2
 slice-aggregate-top-fields-2 c =
     search needs
 
--- src/lib.rt:374:52
 slice-aggregate-top-fields-3 : tie.Need-slice-aggregate-top-fields-3
 slice-aggregate-top-fields-3 c =
     search needs
 
--- src/lib.rt:374:5
 top-fields-requires : tie.Need-top-fields-requires
 top-fields-requires c κs =
     zeros-hold (length (now (c .before .before .before .before .args .program))) (2 * (mostRegisters + shortProgram / 3 + 1)) (sizeRow shortProgram mostRegisters + 1) (omega (arith, c .before .before .before .before .pre)) (omega (arith, c .before .before .before .before .pre)) (omega arith) (omega (arith, c .before .before .before .before .pre))
 
--- src/lib.rt:367:1
 returns : tie.Need-returns
 returns c =
     search needs

@@ -1,11 +1,7 @@
+-- `check_program::family` meets its contract. Assumes nothing.
 use borrow.Author.Needs.{needs}
 use Rattle.check_program.proofs.family.Statement.{statement}
 use Rattle.check_program.proofs.family.Tie as tie
-use Rattle.check_program.proofs.family.Reads as reads
-use Rattle.check_program.proofs.family.Lts as lts
-use Rattle.check_declaration.proofs.two_counts.Reads as two-counts-reads
-use Rattle.check_program.proofs.family_body.Reads as family-body-reads
-use borrow.Author.Needs.{needs}
 use mathlib.Core.Path.{ap, _∙_}
 use mathlib.Core.List.{_∷_, []}
 use native.Mathlib.Omega.{arith}
@@ -19,29 +15,23 @@ use Rattle.check_declaration.proofs.FamilyTypes.{both-right}
 use Rattle.check_program.specs.Declarations.{checkedStep}
 use Rattle.check_program.proofs.Families.{family-many, family-bad, family-stops, family-goes, with-family, holds-family, in-use-goes, formals-goes}
 
-
--- src/lib.rt:151:9
 returns : tie.Need-returns
 returns c =
     let a = c .before .before .before .args in
     (family-many (a .t) (now (a .families)) (now (a .kinds)) (now (a .sizes)) (a .at) (slice (a .at + 3) (a .next) (now (a .program))) (c .if1 .taken), tt)
 
--- src/lib.rt:153:11
 two-counts-requires : tie.Need-two-counts-requires
 two-counts-requires c κs =
     search needs
 
--- src/lib.rt:154:21
 enum-known-k : tie.Need-enum-known-k
 enum-known-k c =
     search needs
 
--- src/lib.rt:155:22
 enum-known-m : tie.Need-enum-known-m
 enum-known-m c =
     search needs
 
--- src/lib.rt:157:19
 family-body-requires : tie.Need-family-body-requires
 family-body-requires c κs =
     let a = c .before .before .before .before .before .before .before .before .before .before .args in
@@ -57,17 +47,14 @@ family-body-requires c κs =
     let w = both-right (a .at) (a .next) (c .before .before .before .before .before .before .two-counts .result) m p u (c .before .before .before .before .before .before .two-counts .ensures .1) in
     ((w .3, c .before .before .before .before .before .before .before .before .before .before .pre .0 .1), (w .0, (w .2, (room, h))))
 
--- src/lib.rt:158:31
 enum-known-k-2 : tie.Need-enum-known-k-2
 enum-known-k-2 c =
     search needs
 
--- src/lib.rt:160:34
 enum-told : tie.Need-enum-told
 enum-told c =
     search needs
 
--- src/lib.rt:160:34
 cast-t30 : tie.Need-cast-t30
 cast-t30 c =
     let a = c .before .before .before .before .before .before .before .before .before .before .before .before .before .before .before .before .before .args in
@@ -85,7 +72,6 @@ cast-t30 c =
     let most = w .2 in
     omega (arith, c .before .before .before .before .before .before .before .before .before .before .before .before .before .before .before .before .before .pre .0 .0, c .before .before .before .before .before .before .before .before .before .before .before .before .before .before .before .before .before .pre .0 .1, h .short, h .used .few, c .before .before .before .before .before .before .before .before .before .before .before .before .before .before .before .before .before .good)
 
--- src/lib.rt:160:44
 cast-t31 : tie.Need-cast-t31
 cast-t31 c =
     let a = c .before .before .before .before .before .before .before .before .before .before .before .before .before .before .before .before .before .args in
@@ -103,7 +89,6 @@ cast-t31 c =
     let most = w .2 in
     omega (arith, c .before .before .before .before .before .before .before .before .before .before .before .before .before .before .before .before .before .pre .0 .0, c .before .before .before .before .before .before .before .before .before .before .before .before .before .before .before .before .before .pre .0 .1, h .short, h .used .few, c .before .before .before .before .before .before .before .before .before .before .before .before .before .before .before .before .before .good)
 
--- src/lib.rt:160:63
 cast-t32 : tie.Need-cast-t32
 cast-t32 c =
     let a = c .before .before .before .before .before .before .before .before .before .before .before .before .before .before .before .before .before .args in
@@ -121,7 +106,6 @@ cast-t32 c =
     let most = w .2 in
     omega (arith, c .before .before .before .before .before .before .before .before .before .before .before .before .before .before .before .before .before .pre .0 .0, c .before .before .before .before .before .before .before .before .before .before .before .before .before .before .before .before .before .pre .0 .1, h .short, h .used .few, c .before .before .before .before .before .before .before .before .before .before .before .before .before .before .before .before .before .good)
 
--- src/lib.rt:161:21
 mul-entry : tie.Need-mul-entry
 mul-entry c =
     let a = c .before .before .before .before .before .before .before .before .before .before .before .before .before .before .before .before .before .args in
@@ -143,7 +127,6 @@ mul-entry c =
     let stays = c .before .before .before .before .before .before .family-body .ensures .1 .1 .1 in
     omega (arith, h .long, stays .familiesSame, c .before .before .before .before .before .before .before .before .before .before .before .before .before .before .before .before .before .good)
 
--- src/lib.rt:161:21
 slice-set-from-entry : tie.Need-slice-set-from-entry
 slice-set-from-entry c =
     let a = c .before .before .before .before .before .before .before .before .before .before .before .before .before .before .before .before .before .args in
@@ -165,12 +148,10 @@ slice-set-from-entry c =
     let stays = c .before .before .before .before .before .before .family-body .ensures .1 .1 .1 in
     omega (arith, h .long, stays .familiesSame, c .before .before .before .before .before .before .before .before .before .before .before .before .before .before .before .before .before .good)
 
--- src/lib.rt:162:33
 add-after : tie.Need-add-after
 add-after c =
     search needs
 
--- src/lib.rt:163:32
 add-rows : tie.Need-add-rows
 add-rows c =
     let a = c .before .before .before .before .before .before .before .before .before .before .before .before .before .before .before .before .before .args in
@@ -187,7 +168,6 @@ add-rows c =
     let most = w .2 in
     omega (arith, c .before .before .before .before .before .before .before .before .before .before .before .before .before .before .before .before .before .pre .0 .0, c .before .before .before .before .before .before .before .before .before .before .before .before .before .before .before .before .before .pre .0 .1, h .short, h .used .few, c .before .before .before .before .before .before .before .before .before .before .before .before .before .before .before .before .before .good)
 
--- src/lib.rt:135:1
 returns-2 : tie.Need-returns-2
 returns-2 c =
     let a = c .before .before .before .before .before .before .before .args in
@@ -195,7 +175,6 @@ returns-2 c =
     let x = now (a .families) in
     (family-bad (a .t) x (now (a .kinds)) (now (a .sizes)) program (a .at) (a .next) (c .before .before .before .before .if1 .left) (c .before .before .before .two-counts .result) (c .before .before .before .two-counts .ensures .0) (c .before .k .given .0 .0) (c .before .k .given .0 .1 .0) x (now (a .kinds)) (now (a .sizes)) (c .before .k .given .1), tt)
 
--- src/lib.rt:135:1
 same-length : tie.Need-same-length
 same-length c =
     let a = c .before .before .before .before .before .before .before .before .before .before .before .before .before .before .before .before .before .before .args in
@@ -217,7 +196,6 @@ same-length c =
     let stays = c .before .before .before .before .before .before .before .family-body .ensures .1 .1 .1 in
     stays .familiesSame
 
--- src/lib.rt:135:1
 same-length-2 : tie.Need-same-length-2
 same-length-2 c =
     let a = c .before .before .before .before .before .before .before .before .before .before .before .before .before .before .before .before .before .before .args in
@@ -239,7 +217,6 @@ same-length-2 c =
     let stays = c .before .before .before .before .before .before .before .family-body .ensures .1 .1 .1 in
     stays .kindsSame
 
--- src/lib.rt:135:1
 same-length-3 : tie.Need-same-length-3
 same-length-3 c =
     let a = c .before .before .before .before .before .before .before .before .before .before .before .before .before .before .before .before .before .before .args in
@@ -261,7 +238,6 @@ same-length-3 c =
     let stays = c .before .before .before .before .before .before .before .family-body .ensures .1 .1 .1 in
     stays .sizesSame
 
--- src/lib.rt:135:1
 returns-3 : tie.Need-returns-3
 returns-3 c =
     let a = c .before .before .before .before .before .before .before .before .before .before .before .before .before .before .before .before .before .before .args in
@@ -283,7 +259,6 @@ returns-3 c =
     let stays = c .before .before .before .before .before .before .before .family-body .ensures .1 .1 .1 in
     (family-stops (a .t) x (now (a .kinds)) (now (a .sizes)) program (a .at) (a .next) room (c .before .before .before .before .before .before .before .before .before .before .before .before .before .before .two-counts .result) e m p u g (c .before .before .before .before .before .before .before .family-body .result) kinds sizes b (c .before .k2 .given .0 .0) (c .before .k2 .given .0 .1 .0) families kinds sizes (c .before .k2 .given .1), tt)
 
--- src/lib.rt:135:1
 same-length-4 : tie.Need-same-length-4
 same-length-4 c =
     let a = c .before .before .before .before .before .before .before .before .before .before .before .before .before .before .before .before .before .args in
@@ -305,7 +280,6 @@ same-length-4 c =
     let stays = c .before .before .before .before .before .before .family-body .ensures .1 .1 .1 in
     length-set families (a .t .families) (m ∷ p ∷ a .t .rows ∷ []) ∙ stays .familiesSame
 
--- src/lib.rt:135:1
 same-length-5 : tie.Need-same-length-5
 same-length-5 c =
     let a = c .before .before .before .before .before .before .before .before .before .before .before .before .before .before .before .before .before .args in
@@ -327,7 +301,6 @@ same-length-5 c =
     let stays = c .before .before .before .before .before .before .family-body .ensures .1 .1 .1 in
     stays .kindsSame
 
--- src/lib.rt:135:1
 same-length-6 : tie.Need-same-length-6
 same-length-6 c =
     let a = c .before .before .before .before .before .before .before .before .before .before .before .before .before .before .before .before .before .args in
@@ -349,7 +322,6 @@ same-length-6 c =
     let stays = c .before .before .before .before .before .before .family-body .ensures .1 .1 .1 in
     stays .sizesSame
 
--- src/lib.rt:135:1
 returns-4 : tie.Need-returns-4
 unfolding checkedStep
 returns-4 c =

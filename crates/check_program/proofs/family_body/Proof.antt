@@ -1,11 +1,7 @@
+-- `check_program::family_body` meets its contract. Assumes nothing.
 use borrow.Author.Needs.{needs}
 use Rattle.check_program.proofs.family_body.Statement.{statement}
 use Rattle.check_program.proofs.family_body.Tie as tie
-use Rattle.check_program.proofs.family_body.Reads as reads
-use Rattle.check_program.proofs.family_body.Lts as lts
-use Rattle.check_declaration.proofs.parameter_types.Reads as parameter-types-reads
-use Rattle.check_statement.proofs.list.Reads as list-reads
-use borrow.Author.Needs.{needs}
 use mathlib.Core.List.{[]}
 use Prim.Native.Nat.{_+_}
 use native.Mathlib.Omega.{arith}
@@ -20,13 +16,10 @@ use Rattle.check_program.proofs.Families.{familyRows, body-stops, body-
 use Rattle.check_declaration.proofs.Tables.{in-use-later, in-use-stops}
 use Rattle.check_declaration.proofs.Formals.{formals-later, formals-stop}
 
-
--- src/lib.rt:94:16
 add-from : tie.Need-add-from
 add-from c =
     search needs
 
--- src/lib.rt:96:9
 parameter-types-requires : tie.Need-parameter-types-requires
 parameter-types-requires c κs =
     let a = c .before .before .before .before .before .args in
@@ -38,32 +31,26 @@ parameter-types-requires c κs =
     let none = replicate 8 (replicate 13 (pos 0)) in
     (long, (few, ((c .before .before .before .before .before .pre .0 .0, h .short, h .wide), (in-use-later (a .t .rows) (a .t .rows) (a .t .registers) (a .at) (a .at + 5) (now (a .kinds)) (h .used) (omega arith) (omega (arith, h .used .few)), (h .table, (h .long, formals-later (a .at) (a .at + 5) (now (a .families)) (now (a .kinds)) (omega arith) (h .taken)))))))
 
--- src/lib.rt:109:20
 enum-known-r : tie.Need-enum-known-r
 enum-known-r c =
     search needs
 
--- src/lib.rt:110:9
 enum-told : tie.Need-enum-told
 enum-told c =
     search needs
 
--- src/lib.rt:110:9
 same-length : tie.Need-same-length
 same-length c =
     search needs
 
--- src/lib.rt:110:9
 same-length-2 : tie.Need-same-length-2
 same-length-2 c =
     search needs
 
--- src/lib.rt:110:9
 same-length-3 : tie.Need-same-length-3
 same-length-3 c =
     search needs
 
--- src/lib.rt:110:9
 returns : tie.Need-returns
 unfolding familyScope
 returns c =
@@ -81,7 +68,6 @@ returns c =
     let d = declaredIn (a .t) (now (a .families)) (now (a .kinds)) (now (a .sizes)) in
     (body-stops bytes (a .t) (a .at) (a .m) (a .parameters) program (a .at + 5) (a .next) h (omega arith) stays (c .before .before .before .before .before .before .parameter-types .result) (c .before .before .before .before .before .before .parameter-types .ensures .0 (d .families) []) (c .before .match .keys2), (in-use-stops (a .t .rows + a .parameters) (a .t .registers) (a .next) (c .before .before .before .before .before .before .parameter-types .result) kinds (c .before .match .keys2), (formals-stop (a .next) (c .before .before .before .before .before .before .parameter-types .result) families kinds (c .before .match .keys2), stays)))
 
--- src/lib.rt:120:5
 list-requires : tie.Need-list-requires
 list-requires c κs =
     let a = c .before .before .before .before .before .before .before .before .before .before .before .before .before .before .before .before .before .before .args in
@@ -100,22 +86,18 @@ list-requires c κs =
     let taken = formals-upto (a .next) mid (c .before .before .before .before .before .before .before .before .before .before .before .before .parameter-types .result) families kinds (c .before .before .before .before .before .before .r .given .1) (c .before .before .before .before .before .before .before .before .before .before .before .before .parameter-types .ensures .1 .1 .1 .0) in
     (long, (scope-right bytes (a .t .rows + a .parameters) (a .t .registers) (a .next) (familyRows (a .t) (a .m) (a .parameters)) kinds sizes none none (stays .table) used long eight-rows eight-rows few (omega arith) (omega arith), scope-declares bytes (a .t .rows + a .parameters) (a .next) (a .t .registers) (familyRows (a .t) (a .m) (a .parameters)) families kinds sizes (stays .table) used long (omega (arith, h .long, stays .familiesSame, stays .sizesSame)) (h .familiesFit) (λ k p. rw (stays .declared k p, stays .kindsSame) (h .rowsRight k p)) taken))
 
--- src/lib.rt:73:1
 same-length-4 : tie.Need-same-length-4
 same-length-4 c =
     search needs
 
--- src/lib.rt:73:1
 same-length-5 : tie.Need-same-length-5
 same-length-5 c =
     search needs
 
--- src/lib.rt:73:1
 same-length-6 : tie.Need-same-length-6
 same-length-6 c =
     search needs
 
--- src/lib.rt:73:1
 returns-2 : tie.Need-returns-2
 unfolding familyScope
 returns-2 c =

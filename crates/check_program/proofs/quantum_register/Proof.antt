@@ -1,10 +1,7 @@
+-- `check_program::quantum_register` meets its contract. Assumes nothing.
 use borrow.Author.Needs.{needs}
 use Rattle.check_program.proofs.quantum_register.Statement.{statement}
 use Rattle.check_program.proofs.quantum_register.Tie as tie
-use Rattle.check_program.proofs.quantum_register.Reads as reads
-use Rattle.check_program.proofs.quantum_register.Lts as lts
-use Rattle.check_declaration.proofs.register.Reads as register-reads
-use borrow.Author.Needs.{needs}
 use Prim.Native.Nat.{_+_}
 use native.Mathlib.Omega.{arith}
 use denote.Ref.{now}
@@ -15,23 +12,18 @@ use Rattle.language.specs.Limits.{mostWires}
 use Rattle.kinds.specs.declared.Kind.the-variants.{Quantum}
 use Rattle.check_program.proofs.Registers.{qreg-stops, qreg-goes, register-row, holds-register}
 
-
--- src/lib.rt:194:11
 register-requires : tie.Need-register-requires
 register-requires c κs =
     (c .before .before .before .before .pre .0, (c .before .before .before .before .pre .1 .qubitsFit, (omega arith, (c .before .before .before .before .pre .1 .short, (in-use-later (c .before .before .before .before .args .t .rows) 0 (c .before .before .before .before .args .t .registers) (c .before .before .before .before .args .at) (c .before .before .before .before .args .at) (now (c .before .before .before .before .args .kinds)) (c .before .before .before .before .pre .1 .used) (omega arith) (omega arith), c .before .before .before .before .pre .1 .table)))))
 
--- src/lib.rt:205:23
 enum-known-k : tie.Need-enum-known-k
 enum-known-k c =
     search needs
 
--- src/lib.rt:206:20
 enum-known-size : tie.Need-enum-known-size
 enum-known-size c =
     search needs
 
--- src/lib.rt:207:29
 add-registers : tie.Need-add-registers
 add-registers c =
     let a = c .before .before .before .before .before .before .before .before .before .before .before .args in
@@ -47,7 +39,6 @@ add-registers c =
     let fits = w .fits in
     omega arith
 
--- src/lib.rt:208:26
 add-qubits : tie.Need-add-qubits
 add-qubits c =
     let a = c .before .before .before .before .before .before .before .before .before .before .before .args in
@@ -63,17 +54,14 @@ add-qubits c =
     let fits = w .fits in
     omega arith
 
--- src/lib.rt:178:1
 same-length : tie.Need-same-length
 same-length c =
     search needs
 
--- src/lib.rt:178:1
 same-length-2 : tie.Need-same-length-2
 same-length-2 c =
     search needs
 
--- src/lib.rt:178:1
 returns : tie.Need-returns
 returns c =
     let a = c .before .before .before .before .before .before .before .before .before .before .before .args in
@@ -84,7 +72,6 @@ returns c =
     let sizes = c .before .before .before .before .before .before .register .last .1 .1 .1 .1 .1 .1 .1 .1 .0 in
     (qreg-stops (a .t) (now (a .families)) (now (a .kinds)) (now (a .sizes)) (a .at) content (c .before .before .before .before .before .before .register .result) (c .before .k .given .0 .0) (c .before .k .given .0 .1 .0) kinds sizes (c .before .k .given .1) (c .before .before .before .before .before .before .register .ensures .0), tt)
 
--- src/lib.rt:178:1
 same-length-3 : tie.Need-same-length-3
 same-length-3 c =
     let a = c .before .before .before .before .before .before .before .before .before .before .before .args in
@@ -100,7 +87,6 @@ same-length-3 c =
     let fits = w .fits in
     w .apart .kindsSame
 
--- src/lib.rt:178:1
 same-length-4 : tie.Need-same-length-4
 same-length-4 c =
     let a = c .before .before .before .before .before .before .before .before .before .before .before .args in
@@ -116,7 +102,6 @@ same-length-4 c =
     let fits = w .fits in
     w .apart .sizesSame
 
--- src/lib.rt:178:1
 returns-2 : tie.Need-returns-2
 returns-2 c =
     let a = c .before .before .before .before .before .before .before .before .before .before .before .args in

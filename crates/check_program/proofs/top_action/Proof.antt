@@ -1,10 +1,7 @@
+-- `check_program::top_action` meets its contract. Assumes nothing.
 use borrow.Author.Needs.{needs}
 use Rattle.check_program.proofs.top_action.Statement.{statement}
 use Rattle.check_program.proofs.top_action.Tie as tie
-use Rattle.check_program.proofs.top_action.Reads as reads
-use Rattle.check_program.proofs.top_action.Lts as lts
-use Rattle.check_statement.proofs.action.Reads as action-reads
-use borrow.Author.Needs.{needs}
 use mathlib.Core.Path.{_∙_}
 use native.Mathlib.Omega.{arith}
 use denote.Ref.{now}
@@ -14,8 +11,6 @@ use Rattle.check_program.specs.Declarations.{declaredIn}
 use Rattle.check_program.proofs.Scopes.{eight-rows, scope-right, scope-declares, topRows, top-scope}
 use Rattle.check_program.proofs.TopFields.{kept-refused, kept-going, declared-later}
 
-
--- src/lib.rt:288:11
 action-requires : tie.Need-action-requires
 action-requires c κs =
     let a = c .before .before .before .before .args in
@@ -28,17 +23,14 @@ action-requires c κs =
     let e = top-scope (a .t) (now (a .families)) (now (a .kinds)) (now (a .sizes)) none none in
     (c .before .before .before .before .pre .0, (scope-right bytes (a .t .rows) (a .t .registers) (a .at) (topRows (a .t)) (now (a .kinds)) (now (a .sizes)) none none (h .table) (h .used) (omega (arith, c .before .before .before .before .pre .0 .0, c .before .before .before .before .pre .0 .1)) eight-rows eight-rows (omega arith) (omega arith) (omega (arith, h .leastRows)), (scope-declares bytes (a .t .rows) (a .at) (a .t .registers) (topRows (a .t)) (now (a .families)) (now (a .kinds)) (now (a .sizes)) (h .table) (h .used) (omega (arith, c .before .before .before .before .pre .0 .0, c .before .before .before .before .pre .0 .1)) (h .long) (h .familiesFit) (h .rowsRight) (h .taken), c .before .before .before .before .pre .1 .1)))
 
--- src/lib.rt:300:23
 enum-known-k : tie.Need-enum-known-k
 enum-known-k c =
     search needs
 
--- src/lib.rt:301:26
 enum-told : tie.Need-enum-told
 enum-told c =
     search needs
 
--- src/lib.rt:264:1
 returns : tie.Need-returns
 returns c =
     let a = c .before .before .before .before .before .before .before .before .args in
@@ -51,7 +43,6 @@ returns c =
     let e = top-scope (a .t) (now (a .families)) (now (a .kinds)) (now (a .sizes)) none none in
     (kept-refused (c .before .before .before .action .result) (c .before .k .given .0 .0) (c .before .k .given .0 .1 .0) d (now (a .families)) (now (a .kinds)) (now (a .sizes)) (c .before .k .given .1) ∙ c .before .before .before .action .ensures d e, tt)
 
--- src/lib.rt:264:1
 returns-2 : tie.Need-returns-2
 returns-2 c =
     let a = c .before .before .before .before .before .before .before .args in

@@ -1,52 +1,41 @@
+-- `fields::with_tag` meets its contract. Assumes nothing.
 use borrow.Author.Needs.{needs}
 use Rattle.fields.proofs.with_tag.Statement.{statement}
 use Rattle.fields.proofs.with_tag.Tie as tie
-use Rattle.fields.proofs.with_tag.Reads as reads
-use Rattle.fields.proofs.with_tag.Lts as lts
-use Rattle.fields.proofs.header_at.Reads as header-at-reads
-use borrow.Author.Needs.{needs}
-use mathlib.Core.Path.{_≡_, sym, ap, _∙_}
+use mathlib.Core.Path.{sym, ap, _∙_}
 use native.Mathlib.Omega.{arith}
 use denote.Ref.{now}
 use Rattle.fields.specs.Header.{headerOf, taggedIn}
 use Rattle.fields.proofs.Headers.{fields-end, tag-other, tag-same, tag-none}
 
-
--- src/lib.rt:115:9
 returns : tie.Need-returns
 unfolding headerOf taggedIn
 returns c =
     let a = c .before .before .args in
     sym (rw (fields-end (now (a .program)) (a .at) (a .to) (c .if1 .taken)))
 
--- src/lib.rt:117:8
 shared-slice-read-if2 : tie.Need-shared-slice-read-if2
 shared-slice-read-if2 c =
     search needs
 
--- src/lib.rt:118:9
 returns-2 : tie.Need-returns-2
 returns-2 c =
     let a = c .before .before .before .before .args in
     sym (tag-other (now (a .program)) (a .at) (a .to) (a .tag) (omega arith) (c .if2 .taken))
 
--- src/lib.rt:120:11
 header-at-requires : tie.Need-header-at-requires
 header-at-requires c κs =
     search needs
 
--- src/lib.rt:121:26
 enum-known-next : tie.Need-enum-known-next
 enum-known-next c =
     search needs
 
--- src/lib.rt:110:1
 returns-3 : tie.Need-returns-3
 returns-3 c =
     let a = c .before .before .before .before .before .before .before .before .args in
     sym (tag-same (now (a .program)) (a .at) (a .to) (a .tag) (c .before .next .given .0 .0) (c .before .next .given .0 .1 .0) (omega arith) (c .before .before .before .before .if2 .left) (sym (c .before .before .before .header-at .ensures) ∙ c .before .next .given .1))
 
--- src/lib.rt:110:1
 returns-4 : tie.Need-returns-4
 returns-4 c =
     let a = c .before .before .before .before .before .before .args in

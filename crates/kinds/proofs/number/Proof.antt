@@ -1,52 +1,41 @@
+-- `kinds::number` meets its contract. Assumes nothing.
 use borrow.Author.Needs.{needs}
 use Rattle.kinds.proofs.number.Statement.{statement}
 use Rattle.kinds.proofs.number.Tie as tie
-use Rattle.kinds.proofs.number.Reads as reads
-use Rattle.kinds.proofs.number.Lts as lts
-use borrow.Author.Needs.{needs}
 use mathlib.Core.Path.{refl}
 use Rattle.kinds.specs.Numbers.{numberOf}
 
-
--- src/lib.rt:18:24
 enum-told : tie.Need-enum-told
 enum-told c =
     search needs
 
--- src/lib.rt:19:26
 enum-told-2 : tie.Need-enum-told-2
 enum-told-2 c =
     search needs
 
--- src/lib.rt:20:28
 enum-told-3 : tie.Need-enum-told-3
 enum-told-3 c =
     search needs
 
--- src/lib.rt:21:25
 enum-told-4 : tie.Need-enum-told-4
 enum-told-4 c =
     search needs
 
--- src/lib.rt:14:1
 returns : tie.Need-returns
 unfolding numberOf
 returns c =
     rw (c .enum-told .given .1) refl
 
--- src/lib.rt:14:1
 returns-2 : tie.Need-returns-2
 unfolding numberOf
 returns-2 c =
     rw (c .enum-told2 .given .1) refl
 
--- src/lib.rt:14:1
 returns-3 : tie.Need-returns-3
 unfolding numberOf
 returns-3 c =
     rw (c .enum-told3 .given .1) refl
 
--- src/lib.rt:14:1
 returns-4 : tie.Need-returns-4
 unfolding numberOf
 returns-4 c =
