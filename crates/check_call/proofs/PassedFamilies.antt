@@ -21,9 +21,7 @@ use Rattle.kinds.proofs.Kind.{the-type}
 use Rattle.kinds.specs.declared.Kind.the-variants.{Qubit, Quantum, Classical, Family}
 use Rattle.fields.specs.Header.{fieldsAt, headerOf, taggedIn}
 use Rattle.fields.proofs.Headers.{Wholly, View, ends, cuts, goes, view, when-not}
-use Rattle.fields.proofs.Tagged.{the-type as tagged-type}
-use Rattle.fields.specs.declared.Tagged.{Tagged}
-use Rattle.fields.specs.declared.Tagged.the-variants.{Upto, Not}
+use Rattle.fields.specs.declared.Tagged.the-variants.{Not}
 use Rattle.check_operand.specs.Tables.{Formals, kindIn, kindOfRow, sizeOfRow, kindsAt, tabulated}
 use Rattle.check_operand.specs.Operands.{NoFamily, Answerable}
 use Rattle.check_operand.specs.declared.Wanted.{Wanted}
@@ -97,10 +95,6 @@ family-due at forms i g f = refl
 pub passed-due : (program : List ℕ) (at to parent next : ℕ) → Wholly program at to 51 next → readPassed at (slice (at + 3) next program) ≡ due readOperand (badOperand 4 parent) (fieldsAt program at to)
 unfolding due readOperand choose
 passed-due program at to parent next w = sym (ap (due readOperand (badOperand 4 parent)) (w .first))
-
-pub tagged-not : (t : Tagged) → OneOf (1 ∷ []) (tagOf tagged-type t) → t ≡ Not
-tagged-not (Upto n) h = absurd (miss (1 ∷ []) 0 tt h)
-tagged-not Not h = refl
 
 -- an operand that is not a family is only checked
 pub plain-operand : (s : C.Scope) (before : ℕ) (forms : List Form) (k : Kind) (o : Operand) → NoFamily o → checkOperand s (taken forms k) o ≡ callOperand s before forms k o

@@ -9,7 +9,7 @@ use lib.ListN.{length, drop, take}
 use lib.Seq.{slice, drop-drop}
 use lib.IntN.{ℤ}
 use borrow.Author.Tests.{ne-eqb}
-use types.Run.{OneOf, miss}
+use types.Run.{OneOf}
 use denote.Enum.Declared.{tagOf}
 use Rattle.language.specs.Limits.{mostVariables, mostParameters}
 use Rattle.language.specs.Tree.{Ending, ended, number, missing, badType, plain}
@@ -17,9 +17,7 @@ use Rattle.language.specs.Read.{Field, fields, choose, due, ending, readPlain, 
 use Rattle.language.specs.Check.{Checked, good, refused, _>>=_, _>>_, require, noLeftover, checkNumber, Formal, Kind, formal, sizeScope, plainSize, plainKind, plainKinds, checkCounts, checkFormal, kindOf}
 use Rattle.fields.specs.Header.{fieldsAt, headerOf, taggedIn}
 use Rattle.fields.proofs.Headers.{Wholly, View, ends, cuts, goes, view, when-not}
-use Rattle.fields.proofs.Tagged.{the-type as tagged-type}
-use Rattle.fields.specs.declared.Tagged.{Tagged}
-use Rattle.fields.specs.declared.Tagged.the-variants.{Upto as Past, Not}
+use Rattle.fields.specs.declared.Tagged.the-variants.{Not}
 use Rattle.check_index.specs.Answers.{Beyond}
 use Rattle.check_index.specs.declared.Read.{Read}
 use Rattle.check_index.specs.declared.Read.the-variants.{Upto, Refused}
@@ -33,10 +31,6 @@ use Rattle.check_declaration.specs.declared.Counts.the-variants.{Both, B
 use Rattle.language.specs.Check as C
 
 -- ---- a family type among types
-
-pub tagged-not : (t : Tagged) → OneOf (1 ∷ []) (tagOf tagged-type t) → t ≡ Not
-tagged-not (Past n) h = absurd (miss (1 ∷ []) 0 tt h)
-tagged-not Not h = refl
 
 pub type-family : (s : C.Scope) (program : List ℕ) (at to parent next : ℕ) → Wholly program at to 18 next → kindOf s (readFamilyType at (slice (at + 3) next program)) ≡ kindOf s (due readType (plain (badType 4 parent)) (fieldsAt program at to))
 unfolding due readType choose

@@ -11,13 +11,13 @@ use Rattle.language.specs.Tree.{Operand, badOperand}
 use Rattle.language.specs.Read.{due, readOperand}
 use Rattle.language.specs.Check.{Due, taken, checkOperand}
 use Rattle.fields.specs.Header.{fieldsAt}
-use Rattle.fields.proofs.Headers.{when-tagged}
+use Rattle.fields.proofs.Headers.{tagged-not, when-tagged}
 use Rattle.forms.specs.Flat.{widened, asForm}
 use Rattle.forms.specs.Rows.{formsOf}
 use Rattle.check_index.proofs.Answers.{ends-passes}
 use Rattle.check_operand.specs.Tables.{kindIn, kindBy}
 use Rattle.check_call.specs.Calls.{formalAt, knownIn, scopeFull, callOperand}
-use Rattle.check_call.proofs.PassedFamilies.{plain-operand, no-family, answerable, passed-due, tagged-not}
+use Rattle.check_call.proofs.PassedFamilies.{plain-operand, no-family, answerable, passed-due}
 
 with-tag-requires : tie.Need-with-tag-requires
 with-tag-requires c κs =

@@ -8,12 +8,12 @@ use Prim.Native.Nat.{_/_, _<_}
 use native.Mathlib.Omega.{arith}
 use denote.Ref.{now}
 use lib.ListN.{length}
-use Rattle.fields.proofs.Headers.{when-tagged}
+use Rattle.fields.proofs.Headers.{tagged-not, when-tagged}
 use Rattle.check_index.proofs.Answers.{ends-passes}
 use Rattle.check_operand.specs.Tables.{scopeWith}
 use Rattle.check_call.specs.Calls.{formalAt}
 use Rattle.check_declaration.proofs.Tables.{in-use-later}
-use Rattle.check_declaration.proofs.FamilyTypes.{type-family, type-plain, tagged-not}
+use Rattle.check_declaration.proofs.FamilyTypes.{type-family, type-plain}
 use Rattle.check_declaration.proofs.Formals.{stays-plain, plain-after, formals-after}
 
 with-tag-requires : tie.Need-with-tag-requires
