@@ -20,13 +20,13 @@ static void multiply(const program *from, uint8_t n)
     if (!ask(&product, from, MULT, n) || !ask(&back, from, UNMULT, n) || !ask(&printed, from, MULT_PRINTED, n)) {
         return;
     }
-    expect(pairs_done(&product, n, wires, 0) == pairs, name, "every pair of inputs to be multiplied");
-    expect(pairs_done(&back, n, wires, 1) == pairs, name, "every product to be taken back by its reverse");
-    expect((pairs_done(&printed, n, wires, 0) == pairs) == (n == 1), name, "lost carries where the slices are a cell shorter");
+    expect(products_done(&product, n, wires, 0) == pairs, name, "every pair of inputs to be multiplied");
+    expect(products_done(&back, n, wires, 1) == pairs, name, "every product to be taken back by its reverse");
+    expect((products_done(&printed, n, wires, 0) == pairs) == (n == 1), name, "lost carries where the slices are a cell shorter");
     wrong = cut(&product);
-    expect(pairs_done(&wrong, n, wires, 0) < pairs, name, "a missing gate to be noticed");
+    expect(products_done(&wrong, n, wires, 0) < pairs, name, "a missing gate to be noticed");
     wrong = broken(&product, METAQASM_OP_CPHASEDG, METAQASM_OP_CPHASE);
-    expect(pairs_done(&wrong, n, wires, 0) < pairs, name, "a wrong gate to be noticed");
+    expect(products_done(&wrong, n, wires, 0) < pairs, name, "a wrong gate to be noticed");
     printf("%s: %u pairs of inputs, %llu gates\n", name, pairs, (unsigned long long)product.records);
 }
 

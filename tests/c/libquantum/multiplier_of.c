@@ -31,12 +31,12 @@ static void multiply(const program *from, const passed *adder, uint8_t n)
     if (!ask(&product, from, adder->forward, n) || !ask(&back, from, adder->backward, n)) {
         return;
     }
-    expect(pairs_done(&product, n, wires, 0) == pairs, name, "every pair of inputs to be multiplied");
-    expect(pairs_done(&back, n, wires, 1) == pairs, name, "every product to be taken back by its reverse");
+    expect(products_done(&product, n, wires, 0) == pairs, name, "every pair of inputs to be multiplied");
+    expect(products_done(&back, n, wires, 1) == pairs, name, "every product to be taken back by its reverse");
     wrong = cut(&product);
-    expect(pairs_done(&wrong, n, wires, 0) < pairs, name, "a missing gate to be noticed");
+    expect(products_done(&wrong, n, wires, 0) < pairs, name, "a missing gate to be noticed");
     wrong = broken(&product, adder->op, adder->inverse);
-    expect(pairs_done(&wrong, n, wires, 0) < pairs, name, "a wrong gate to be noticed");
+    expect(products_done(&wrong, n, wires, 0) < pairs, name, "a wrong gate to be noticed");
     printf("%s: %u pairs of inputs, %llu gates\n", name, pairs, (unsigned long long)product.records);
 }
 

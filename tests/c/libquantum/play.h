@@ -138,7 +138,7 @@ static inline int takes(const gates *list, int wires, unsigned long long from, u
 
 /* How many pairs of inputs are multiplied, or taken back: the wires are those of x, of y and of the product, which has twice as
  * many, and perhaps one more, which starts at 0 and ends there. */
-static inline unsigned pairs_done(const gates *list, unsigned cells, int wires, int is_back)
+static inline unsigned products_done(const gates *list, unsigned cells, int wires, int is_back)
 {
     unsigned x, y, right = 0, mask = (1u << cells) - 1;
 
