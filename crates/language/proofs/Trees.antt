@@ -1,4 +1,4 @@
--- Trees as they are read: every place in one is within the program, and every fault in one has a number of the check: 1 to 13, 31 or 33.
+-- Trees as they are read: every place in one is within the program, and every fault in one has a number of the check: 1 to 13, 31, 33 or 35.
 use mathlib.Core.List.{List, [], _∷_, map}
 use mathlib.Core.Path.{_≡_}
 use mathlib.Core.Bool.{Bool, true, false, cond}
@@ -17,7 +17,7 @@ use Rattle.language.proofs.ReadLaws.{AllRows, choose-all, Begins, one-b
 -- a refusal's number, and its place in a program of so many bytes
 pub record Listed (size n p : ℕ) : Type 0 where
   pub from : 1 ≤ n
-  pub known : 13 < n → (n ≡ 33 → ⊥) → n ≡ 31
+  pub known : 13 < n → (n ≡ 33 → ⊥) → (n ≡ 35 → ⊥) → n ≡ 31
   pub within : p ≤ size
 
 abbrev pub AllOf : {A : Type 0} → (A → Type 0) → List A → Type 0
@@ -245,7 +245,7 @@ module _ (size : ℕ) where
   unfolding Read.callBy Read.callOf Begins FairCalling FairStatement
   call-by-fair calling h p content (names n width rest) k w =
       h p n _ (omega arith) (map-fair FairArgument readArgument argument-fair (fields (p + 3 + width) rest) (fields-inside (p + 3 + width) rest (omega (arith, w .long))))
-  call-by-fair calling h p content (unnamed number) k w = record { from = w .from; known = λ past other. w .known past; within = omega arith }
+  call-by-fair calling h p content (unnamed number) k w = record { from = w .from; known = λ past passed twice. w .known past; within = omega arith }
 
   call-fair : Fair FairStatement Read.readCall
   unfolding Fair

@@ -256,6 +256,10 @@ later-two : (p : Place) (s : Scope) (d : Due) (w o : Operand) (e : Ending) → L
 unfolding P.checkTwo C.checkTwo
 later-two p s d w o e = later-then (later-operand s wire w) (later-then (later-operand s d o) alike)
 
+later-wires : (p : Place) (s : Scope) (w o : Operand) (e : Ending) → Later (P.checkWires p s w o e) (C.checkWires p s w o e)
+unfolding P.checkWires C.checkWires
+later-wires p s w o e = later-then (later-two p s wire w o e) alike
+
 later-call : (p : Place) (s : Scope) (n : ℕ) (l : List Argument) → Later (P.checkCall p s n l) (C.checkCall p s n l)
 unfolding P.checkCall C.checkCall
 later-call p s n l = later-bind alike λ f. later-call-fits p s n f l
@@ -269,9 +273,9 @@ mutual
 
   later-statement : (x : Statement) (s : Scope) → Later (P.checkStatement x s) (C.checkStatement x s)
   later-statement (gate p g o e) s = later-one p s o e
-  later-statement (cx p c o e) s = later-two p s wire c o e
+  later-statement (cx p c o e) s = later-wires p s c o e
   later-statement (phase p k o e) s = later-then (later-natural s k) (later-one p s o e)
-  later-statement (cphase p k c o e) s = later-then (later-natural s k) (later-two p s wire c o e)
+  later-statement (cphase p k c o e) s = later-then (later-natural s k) (later-wires p s c o e)
   later-statement (call p n l) s = later-call p s n l
   later-statement (callParameter p n l) s = later-parameter-call p s n l
   later-statement (reverse p ss) s = later-statements ss s

@@ -48,6 +48,8 @@ forInput =
     ∷ turnedDown (qreg 1 ++ field 39 (255 ∷ 0 ∷ [])) 31 5
     -- 33: the family called is passed to itself
     ∷ turnedDown (field 1 (0 ∷ 1 ∷ field 16 []) ++ field 36 (0 ∷ field 51 (0 ∷ 0 ∷ []))) 33 12
+    -- 35: cx on q[0] and q[0]
+    ∷ turnedDown (qreg 1 ++ cx (lit 0) (lit 0)) 35 5
     ∷ []
 
 -- turned down for the state: before the machine starts, or by the machine
@@ -64,8 +66,8 @@ forState =
     -- 24: 60,000 · n at n = 65,535, as a parameter's size and as a loop's end
     ∷ gives (instance (family (n times lit 60_000) []) 0 (size 65_535) 100 (lent 8)) 24 5 0 0 (lent 8)
     ∷ gives (instance (family (n plus lit 1) (h (lit 0) ++ for (lit 0) (n times lit 60_000) [])) 0 (size 65_534) 100 (lent 13)) 24 32 1 2 (one 1 0 ++ lent 1)
-    -- 25: both operands are one wire
-    ∷ gives (run (qreg 2 ++ h (lit 1) ++ cx (lit 1) (lit 1)) 100 (lent 13)) 25 17 1 2 (one 1 1 ++ lent 1)
+    -- 25: both operands are one wire in the round i = 1
+    ∷ gives (run (qreg 2 ++ h (lit 1) ++ for (lit 1) (lit 1) (cx (lit 1) (var 0))) 100 (lent 13)) 25 30 1 4 (one 1 1 ++ lent 1)
     -- 26: the third step
     ∷ gives (run (qreg 1 ++ h (lit 0) ++ h (lit 0) ++ h (lit 0)) 2 (lent 32)) 26 29 2 2 (one 1 0 ++ one 1 0 ++ lent 8)
     -- 27: eleven bytes left

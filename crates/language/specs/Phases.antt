@@ -39,9 +39,9 @@ records =
 abbrev large : List ℕ
 large = n times lit 40_000
 
--- a family of one index variable and one Qbit: cphase of the Qbit with itself
+-- a family of n and x:Qbit[1]: in the only round of a loop, cphase of x[0] with itself by another form
 abbrev itself : List ℕ → List ℕ
-itself k = field 1 (1 ∷ 1 ∷ field 16 [] ++ cphase k (field 48 (0 ∷ []) ++ field 48 (0 ∷ [])))
+itself k = family (lit 1) (for (lit 0) (lit 0) (cphase k (q₀ ++ at i)))
 
 -- 26, 24, 25, 32, 27
 ends : List Example
@@ -49,12 +49,12 @@ ends =
     accepted (qreg 1 ++ phase (lit 64) q₀)
     ∷ gives (run (qreg 1 ++ phase (lit 64) q₀) 100 (lent 12)) 32 5 0 1 (lent 12)
     ∷ gives (run (qreg 1 ++ h (lit 0) ++ reverse (phase (lit 65_535) q₀)) 100 (lent 12)) 32 20 1 3 (one 1 0)
-    ∷ gives (run (qreg 1 ++ cphase (lit 64) (q₀ ++ q₀)) 100 (lent 0)) 25 5 0 1 []
+    ∷ gives (run (qreg 1 ++ for (lit 0) (lit 0) (cphase (lit 64) (q₀ ++ at (var 0)))) 100 (lent 0)) 25 18 0 3 []
     ∷ gives (run (qreg 2 ++ cphase (lit 64) (q₀ ++ q₁)) 100 (lent 0)) 32 5 0 1 []
     ∷ gives (run (qreg 1 ++ phase (lit 63) q₀) 100 (lent 11)) 27 5 0 1 (lent 11)
     ∷ gives (run (qreg 1 ++ phase (lit 64) q₀) 0 (lent 0)) 26 5 0 0 []
-    ∷ gives (instance (itself (large minus large)) 0 (size 60_000) 100 (lent 0)) 24 8 0 1 []
-    ∷ gives (instance (itself (large minus large)) 0 (size 10) 100 (lent 0)) 25 8 0 1 []
+    ∷ gives (instance (itself (large minus large)) 0 (size 60_000) 100 (lent 0)) 24 26 0 3 []
+    ∷ gives (instance (itself (large minus large)) 0 (size 10) 100 (lent 0)) 25 26 0 3 []
     ∷ []
 
 -- k is shown ≥ 0 at its own end, before the operands are read

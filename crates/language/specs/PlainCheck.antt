@@ -1,6 +1,6 @@
 -- The check by the plain rule alone: what Trials compares the check with. Each definition is Check's own, but that `mustShow` is by the plain rule.
 use mathlib.Core.List.{List, [], _∷_, map}
-use mathlib.Core.Bool.{_&&_}
+use mathlib.Core.Bool.{not, _&&_}
 use mathlib.Core.Option.{Option, none, some}
 use Prim.Native.Nat.{ℕ, zero, suc}
 use lib.Dec.{leb, ltb, eqb}
@@ -13,7 +13,7 @@ use Rattle.language.specs.Tree.{Top, family, qreg, creg, measure, reset,
 use Rattle.language.specs.Read.{read}
 use Rattle.language.specs.Form.{Form, Built, built, differenceOf, _thenBuild_, plainly}
 use Rattle.language.specs.Check.{Checked, good, refused, _>>=_, _>>_, fine, require, noLeftover, inScope, Formal, Kind, qubit, quantum, classical, formal, Signature, Scope, inForm, formOf, byShowing}
-use Rattle.language.specs.Check.{Due, wire, bit, register, fitting, elementSize, roomAfter, slicedSize, sliceSize, sizeScope, sameKinds, plainSize, taken, declaredBefore, signatureOf, formalOf, checkBounds, inLoop}
+use Rattle.language.specs.Check.{Due, wire, bit, register, fitting, elementSize, roomAfter, slicedSize, sliceSize, sizeScope, sameKinds, plainSize, taken, declaredBefore, sameWire, signatureOf, formalOf, checkBounds, inLoop}
 use Rattle.language.specs.Check.{Declared, topScope, familyScope, withFamily, withQubits, withBits, checkCounts, checkRegister, nothingDeclared}
 use Rattle.language.specs.Result.{Result, verdict}
 
@@ -149,6 +149,12 @@ checkTwo p s due w o e = do
   checkOperand s due o
   noLeftover p e
 
+-- the two wires of a gate, and nothing after them; that they are one wire is seen last
+unfoldable pub checkWires : Place → Scope → (first second : Operand) → Ending → Checked (Unit {0})
+checkWires p s w o e = do
+  checkTwo p s wire w o e
+  require 35 p (not (sameWire s w o))
+
 unfoldable pub checkCall : Place → Scope → ℕ → List Argument → Checked (Unit {0})
 checkCall p s n more = do
   f ← inScope p (getElem? (s .families) n)
@@ -164,13 +170,13 @@ checkParameterCall p s n more = do
 unfoldable mutual
   pub checkStatement : Statement → Scope → Checked (Unit {0})
   checkStatement (gate p g o e) s = checkOneWire p s o e
-  checkStatement (cx p c o e) s = checkTwo p s wire c o e
+  checkStatement (cx p c o e) s = checkWires p s c o e
   checkStatement (phase p k o e) s = do
     checkNatural s k
     checkOneWire p s o e
   checkStatement (cphase p k c o e) s = do
     checkNatural s k
-    checkTwo p s wire c o e
+    checkWires p s c o e
   checkStatement (call p n more) s = checkCall p s n more
   checkStatement (callParameter p n more) s = checkParameterCall p s n more
   checkStatement (reverse p ss) s = checkStatements ss s
