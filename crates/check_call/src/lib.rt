@@ -290,6 +290,7 @@ fn call_operand(
     let kind = check_operand::kind_by(number);
     let own = check_operand::size_by(number);
     let wanted = taken_by(kind, &sizes[own], own, forms, m, &mut size);
+    let mut form = [0i64; FORM_NUMBERS];
     check_operand::operand(
         program,
         at,
@@ -297,6 +298,7 @@ fn call_operand(
         parent,
         wanted,
         &size,
+        &mut form,
         s,
         kinds,
         sizes,

@@ -5,3 +5,4 @@ pub mod Shown
 pub mod Operands
 pub mod Slices
 pub mod Passed
+pub mod Wires

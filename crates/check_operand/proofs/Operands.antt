@@ -130,6 +130,34 @@ module _ (c : Checked Form) (next : Form → Checked (Unit {0})) (size : Form) (
       by (Upto n) h = refl
       by (Refused n p) h = not-second h
 
+-- the operand due, by its tag
+module _ (program : List ℕ) (at to parent tag next : ℕ) (w : Wholly program at to tag next) where
+  abbrev operandRead : T.Operand
+  operandRead = due readOperand (badOperand 4 parent) (fieldsAt program at to)
+
+  pub reads-field : operandRead ≡ readOperand (field at tag (slice (at + 3) next program))
+  unfolding due
+  reads-field = ap (due readOperand (badOperand 4 parent)) (w .first)
+
+  reads-tag : (t : ℕ) → tag ≡ t → operandRead ≡ readOperand (field at t (slice (at + 3) next program))
+  reads-tag t e = reads-field ∙ ap (λ (t : ℕ). readOperand (field at t (slice (at + 3) next program))) e
+
+  pub reads-whole : tag ≡ 48 → operandRead ≡ readWhole at (slice (at + 3) next program)
+  unfolding readOperand choose
+  reads-whole e = reads-tag 48 e
+
+  pub reads-element : tag ≡ 49 → operandRead ≡ readElement at (slice (at + 3) next program)
+  unfolding readOperand choose
+  reads-element e = reads-tag 49 e
+
+  pub reads-slice : tag ≡ 50 → operandRead ≡ readSlice at (slice (at + 3) next program)
+  unfolding readOperand choose
+  reads-slice e = reads-tag 50 e
+
+  pub reads-passed : tag ≡ 51 → operandRead ≡ readPassed at (slice (at + 3) next program)
+  unfolding readOperand choose
+  reads-passed e = reads-tag 51 e
+
 module _ (s : C.Scope) (d : C.Due) (program : List ℕ) (at to parent : ℕ) where
   abbrev pub operandMeant : Checked (Unit {0})
   operandMeant = checkOperand s d (due readOperand (badOperand 4 parent) (fieldsAt program at to))
@@ -143,35 +171,25 @@ module _ (s : C.Scope) (d : C.Due) (program : List ℕ) (at to parent : ℕ) whe
   operand-cut e = sym (ap (λ (fs : List Field). checkOperand s d (due readOperand (badOperand 4 parent) fs)) e)
 
   module _ (tag next : ℕ) (w : Wholly program at to tag next) where
-    operand-is : operandMeant ≡ checkOperand s d (readOperand (field at tag (slice (at + 3) next program)))
-    unfolding due
-    operand-is = ap (λ (fs : List Field). checkOperand s d (due readOperand (badOperand 4 parent) fs)) (w .first)
-
     pub operand-whole : tag ≡ 48 → checkOperand s d (readWhole at (slice (at + 3) next program)) ≡ operandMeant
-    unfolding readOperand choose
-    operand-whole e = sym (operand-is ∙ ap (λ (t : ℕ). checkOperand s d (readOperand (field at t (slice (at + 3) next program)))) e)
+    operand-whole e = ap (checkOperand s d) (sym (reads-whole program at to parent tag next w e))
 
     pub operand-element : tag ≡ 49 → checkOperand s d (readElement at (slice (at + 3) next program)) ≡ operandMeant
-    unfolding readOperand choose
-    operand-element e = sym (operand-is ∙ ap (λ (t : ℕ). checkOperand s d (readOperand (field at t (slice (at + 3) next program)))) e)
+    operand-element e = ap (checkOperand s d) (sym (reads-element program at to parent tag next w e))
 
     pub operand-slice : tag ≡ 50 → checkOperand s d (readSlice at (slice (at + 3) next program)) ≡ operandMeant
-    unfolding readOperand choose
-    operand-slice e = sym (operand-is ∙ ap (λ (t : ℕ). checkOperand s d (readOperand (field at t (slice (at + 3) next program)))) e)
+    operand-slice e = ap (checkOperand s d) (sym (reads-slice program at to parent tag next w e))
 
     pub operand-passed : tag ≡ 51 → checkOperand s d (readPassed at (slice (at + 3) next program)) ≡ operandMeant
-    unfolding readOperand choose
-    operand-passed e = sym (operand-is ∙ ap (λ (t : ℕ). checkOperand s d (readOperand (field at t (slice (at + 3) next program)))) e)
+    operand-passed e = ap (checkOperand s d) (sym (reads-passed program at to parent tag next w e))
 
     pub operand-other : (tag ≡ 48 → ⊥) → (tag ≡ 49 → ⊥) → (tag ≡ 50 → ⊥) → (tag ≡ 51 → ⊥) → refused 3 at ≡ operandMeant
     unfolding readOperand choose checkOperand
-    operand-other x y z u = sym (operand-is ∙ rw (ne-eqb tag 48 x, ne-eqb tag 49 y, ne-eqb tag 50 z, ne-eqb tag 51 u))
+    operand-other x y z u = sym (ap (checkOperand s d) (reads-field program at to parent tag next w) ∙ rw (ne-eqb tag 48 x, ne-eqb tag 49 y, ne-eqb tag 50 z, ne-eqb tag 51 u))
 
 -- what can be answered of the operand due can be answered of a passed family
 pub answers-passed : (w : Wanted) (program : List ℕ) (at to parent tag next : ℕ) → Wholly program at to tag next → tag ≡ 51 → Answerable w (due readOperand (badOperand 4 parent) (fieldsAt program at to)) → Answerable w (readPassed at (slice (at + 3) next program))
-unfolding due readOperand choose
-answers-passed w program at to parent tag next v e h =
-    subst (λ (t : ℕ). Answerable w (readOperand (field at t (slice (at + 3) next program)))) e (subst (λ (fs : List Field). Answerable w (due readOperand (badOperand 4 parent) fs)) (v .first) h)
+answers-passed w program at to parent tag next v e h = subst (Answerable w) (reads-passed program at to parent tag next v e) h
 
 -- the second operand and the end, seen from where the first ends
 pub second-is : (s : C.Scope) (d : C.Due) (program : List ℕ) (at from to mid : ℕ) → PastField program from to mid →

@@ -1,16 +1,19 @@
 -- What an operand is due to be, and what the answers on operands stand for.
 use mathlib.Core.Path.{_≡_}
 use mathlib.Core.List.{List}
-use mathlib.Core.Bool.{true}
-use Prim.Native.Nat.{ℕ}
+use mathlib.Core.Bool.{Bool, true, _&&_, _||_}
+use Prim.Native.Nat.{ℕ, _+_, _<_}
 use lib.IntN.{ℤ}
-use lib.ListN.{drop}
-use Rattle.language.specs.Form.{Form}
+use lib.Dec.{eqb}
+use lib.ListN.{length, getD, drop}
+use Rattle.language.specs.Form.{Form, sameForm}
 use Rattle.language.specs.Tree.{Operand, whole, element, slice, passed, badOperand}
-use Rattle.language.specs.Check.{Checked, good, refused, _>>_, byShowing, checkOneWire, checkTwo}
+use Rattle.language.specs.Check.{Checked, good, refused, _>>_, byShowing, formOf, checkOneWire, checkTwo, checkWires}
 use Rattle.language.specs.Read.{Field, ending, operandDue}
+use Rattle.fields.specs.Header.{fieldsAt}
 use Rattle.forms.specs.Flat.{Kept, asForm, builtOf, shownOf}
 use Rattle.forms.specs.declared.Verdict.{Verdict}
+use Rattle.check_index.specs.Answers.{PastField}
 use Rattle.check_index.specs.declared.Read.{Read}
 use Rattle.check_index.specs.declared.Read.the-variants.{Upto, Refused}
 use Rattle.check_operand.specs.declared.Wanted.{Wanted}
@@ -63,3 +66,46 @@ oneWire s p fs = checkOneWire p s (operandDue p 0 fs) (ending (drop 1 fs))
 -- a wire and another operand, which are due to be the only fields in the field at p
 abbrev pub twoOperands : C.Scope → C.Due → ℕ → List Field → Checked (Unit {0})
 twoOperands s d p fs = checkTwo p s d (operandDue p 0 fs) (operandDue p 1 fs) (ending (drop 2 fs))
+
+-- two wires, which are due to be the only fields in the field at p
+abbrev pub twoWires : C.Scope → ℕ → List Field → Checked (Unit {0})
+twoWires s p fs = checkWires p s (operandDue p 0 fs) (operandDue p 1 fs) (ending (drop 2 fs))
+
+-- ---- the forms of indexes, which are left beside the answers
+
+-- the form of an element's index
+abbrev pub FormOf : C.Scope → Operand → List ℤ → Type 0
+FormOf s (whole p n e) l = Unit {0}
+FormOf s (element p n i e) l = (formOf s i ≡ good (asForm l)) × Kept l
+FormOf s (slice p n i j e) l = Unit {0}
+FormOf s (passed p n e) l = Unit {0}
+FormOf s (badOperand n p) l = Unit {0}
+
+-- it is beside the answer on an operand that is right
+abbrev pub Leaves : C.Scope → Operand → Read → List ℤ → Type 0
+Leaves s o (Upto n) l = FormOf s o l
+Leaves s o (Refused n p) l = Unit {0}
+
+-- what the answer on two operands that are right tells: where the second starts, and both forms
+pub record Both (s : C.Scope) (program : List ℕ) (p from next mid : ℕ) (l m : List ℤ) : Type 0 where
+  pub past : PastField program from next mid
+  pub first : FormOf s (operandDue p 0 (fieldsAt program from next)) l
+  pub second : FormOf s (operandDue p 0 (fieldsAt program mid next)) m
+
+abbrev pub LeavesTwo : C.Scope → List ℕ → (p from next : ℕ) → Read → List ℤ → List ℤ → Type 0
+LeavesTwo s program p from next (Upto mid) l m = Both s program p from next mid l m
+LeavesTwo s program p from next (Refused n q) l m = Unit {0}
+
+-- ---- one wire twice, by the bytes at two places and the forms beside them
+
+-- the bytes are there, and the form, unless the operand is whole
+pub record Comparable (program : List ℕ) (at : ℕ) (l : List ℤ) : Type 0 where
+  pub there : at + 3 < length program
+  pub kept : (getD program at 0 ≡ 48 → ⊥) → Kept l
+
+-- the same tag and number, and equal forms, unless the operands are whole
+unfoldable pub sameBy : List ℕ → (first second : ℕ) → List ℤ → List ℤ → Bool
+sameBy program first second l m =
+    eqb (getD program first 0) (getD program second 0)
+    && eqb (getD program (first + 3) 0) (getD program (second + 3) 0)
+    && (eqb (getD program first 0) 48 || sameForm (asForm l) (asForm m))

@@ -9,13 +9,13 @@ ghost use lib.IntN.{ℤ, pos};
 ghost use Rattle.language.specs.Tree.{Place, Operand, badOperand};
 ghost use Rattle.language.specs.Read.{due, readOperand, readWhole, readElement, readSlice, readPassed};
 ghost use Rattle.language.specs.Form.{Form, built, differenceOf, _thenBuild_, shown, showing};
-ghost use Rattle.language.specs.Check.{Formal, Kind, Signature, sizeScope, elementSize, roomAfter, byShowing, mustShow, wire, wholeFits, checkWithin, sliceSize, checkSlice, sliceFits, checkOperand};
+ghost use Rattle.language.specs.Check.{Formal, Kind, Signature, sizeScope, elementSize, roomAfter, byShowing, mustShow, wholeFits, checkWithin, sliceSize, checkSlice, sliceFits, checkOperand};
 ghost use Rattle.language.specs.Limits.{mostVariables, allVariables};
 ghost use Rattle.fields.specs.Header.{fieldsAt};
 ghost use Rattle.forms.specs.Flat.{formNumbers, Kept, Short, widened, asForm, builtOf, shownOf};
 ghost use Rattle.forms.specs.Rows.{Rows, loopsOf};
 ghost use Rattle.check_operand.specs.Tables.{Known, kindIn, kindOfRow, sizeOfRow, TablesRight, scopeWith, scopeAt};
-ghost use Rattle.check_operand.specs.Operands.{checkedSize, shownForm, wantedOf, SizeRight, Answerable, oneWire, twoOperands};
+ghost use Rattle.check_operand.specs.Operands.{checkedSize, shownForm, wantedOf, SizeRight, Answerable, oneWire, twoOperands, twoWires, Leaves, LeavesTwo, Comparable, sameBy};
 ghost use Rattle.check_index.specs.Answers.{checkedPart, EndsAt, Passes};
 use check_index::Read;
 use fields::Header;
@@ -334,13 +334,13 @@ fn whole(
     )
 }
 
-// The element at `at`, whose field ends at `next`.
+// The element at `at`, whose field ends at `next`; the form of its index is left in `form`.
 fn element(
     program: &[u8],
     at: usize,
     next: usize,
     wanted: Wanted,
-    size: &Form,
+    form: &mut Form,
     s: Visible,
     kinds: &[u16],
     sizes: &[Size],
@@ -349,8 +349,9 @@ fn element(
 ) -> Read
     requires { ⌜ (at + 3 ≤ next) × (next ≤ length (now program)) ⌝ }
     requires { ⌜ TablesRight s (now kinds) (now sizes) (now lows) (now highs) ⌝ }
-    ensures { λ r. ⌜ ((k : Known) → checkedPart r ≡ checkOperand (scopeAt k s (now (kinds .entry)) (now (sizes .entry)) (now (lows .entry)) (now (highs .entry))) (wantedOf k wanted (now (size .entry))) (readElement at (slice (at + 3) next (now (program .entry))))) ⌝ }
+    ensures { λ r. ⌜ ((k : Known) (l : List ℤ) → checkedPart r ≡ checkOperand (scopeAt k s (now (kinds .entry)) (now (sizes .entry)) (now (lows .entry)) (now (highs .entry))) (wantedOf k wanted l) (readElement at (slice (at + 3) next (now (program .entry))))) ⌝ }
     ensures { λ r. ⌜ EndsAt next r ⌝ }
+    ensures { λ r. ⌜ ((k : Known) → Leaves (scopeAt k s (now (kinds .entry)) (now (sizes .entry)) (now (lows .entry)) (now (highs .entry))) (readElement at (slice (at + 3) next (now (program .entry)))) r (now (form .exit))) ⌝ }
 {
     let from = at + 3;
     if next <= from {
@@ -363,8 +364,7 @@ fn element(
     let row = s.first + n;
     let inner = at + 4;
     let variables = s.variables + s.loops;
-    let mut f = [0i64; FORM_NUMBERS];
-    let r = check_index::index(program, inner, next, at, DEEPEST, variables, &mut f);
+    let r = check_index::index(program, inner, next, at, DEEPEST, variables, form);
     let Read::Upto(end) = r else {
         return r;
     };
@@ -378,7 +378,7 @@ fn element(
         return fits;
     };
     let own = size_by(number);
-    let v = within(&f, &sizes[own], s.variables, s.loops, lows, highs);
+    let v = within(form, &sizes[own], s.variables, s.loops, lows, highs);
     answered(v, at, next)
 }
 
@@ -500,8 +500,8 @@ fn misplaced(program: &[u8], at: usize, next: usize, wanted: Wanted, s: Visible)
     Read::Refused(9, at)
 }
 
-// The operand that is due at `at` in the field at `parent` whose content ends at `to`. A family that is passed where one is due is
-// not its matter.
+// The operand that is due at `at` in the field at `parent` whose content ends at `to`; the form of an element's index is left in
+// `form`. A family that is passed where one is due is not its matter.
 pub fn operand(
     program: &[u8],
     at: usize,
@@ -509,6 +509,7 @@ pub fn operand(
     parent: usize,
     wanted: Wanted,
     size: &Form,
+    form: &mut Form,
     s: Visible,
     kinds: &[u16],
     sizes: &[Size],
@@ -521,6 +522,7 @@ pub fn operand(
     requires { ⌜ TablesRight s (now kinds) (now sizes) (now lows) (now highs) ⌝ }
     ensures { λ r. ⌜ ((k : Known) → checkedPart r ≡ checkOperand (scopeAt k s (now (kinds .entry)) (now (sizes .entry)) (now (lows .entry)) (now (highs .entry))) (wantedOf k wanted (now (size .entry))) (due readOperand (badOperand 4 parent) (fieldsAt (now (program .entry)) at to))) ⌝ }
     ensures { λ r. ⌜ Passes (now (program .entry)) at to r ⌝ }
+    ensures { λ r. ⌜ ((k : Known) → Leaves (scopeAt k s (now (kinds .entry)) (now (sizes .entry)) (now (lows .entry)) (now (highs .entry))) (due readOperand (badOperand 4 parent) (fieldsAt (now (program .entry)) at to)) r (now (form .exit))) ⌝ }
 {
     match fields::header_at(program, at, to) {
         Header::End => Read::Refused(4, parent),
@@ -543,7 +545,7 @@ pub fn operand(
                 at,
                 next,
                 wanted,
-                size,
+                form,
                 s,
                 kinds,
                 sizes,
@@ -603,6 +605,7 @@ pub fn one_wire(
     ensures { λ r. ⌜ EndsAt next r ⌝ }
 {
     let none = [0i64; FORM_NUMBERS];
+    let mut form = [0i64; FORM_NUMBERS];
     let r = operand(
         program,
         from,
@@ -610,6 +613,7 @@ pub fn one_wire(
         at,
         Wanted::Wire,
         &none,
+        &mut form,
         s,
         kinds,
         sizes,
@@ -623,6 +627,69 @@ pub fn one_wire(
         return Read::Refused(4, at);
     }
     Read::Upto(next)
+}
+
+// A wire, and then a wire or a bit, and no more, from `from` to `next` in the field at `at`. The answer is where the second starts,
+// and the forms of elements' indexes are left in `f` and `g`.
+fn pair(
+    program: &[u8],
+    from: usize,
+    next: usize,
+    at: usize,
+    second: Wanted,
+    f: &mut Form,
+    g: &mut Form,
+    s: Visible,
+    kinds: &[u16],
+    sizes: &[Size],
+    lows: &[Form],
+    highs: &[Form],
+) -> Read
+    requires { ⌜ next ≤ length (now program) ⌝ }
+    requires { ⌜ ((l : List ℤ) → SizeRight second l) × ((o : Operand) → Answerable second o) ⌝ }
+    requires { ⌜ TablesRight s (now kinds) (now sizes) (now lows) (now highs) ⌝ }
+    ensures { λ r. ⌜ ((k : Known) → checkedPart r ≡ twoOperands (scopeAt k s (now (kinds .entry)) (now (sizes .entry)) (now (lows .entry)) (now (highs .entry))) (wantedOf k second (replicate formNumbers (pos 0))) at (fieldsAt (now (program .entry)) from next)) ⌝ }
+    ensures { λ r. ⌜ ((k : Known) → LeavesTwo (scopeAt k s (now (kinds .entry)) (now (sizes .entry)) (now (lows .entry)) (now (highs .entry))) (now (program .entry)) at from next r (now (f .exit)) (now (g .exit))) ⌝ }
+{
+    let none = [0i64; FORM_NUMBERS];
+    let r = operand(
+        program,
+        from,
+        next,
+        at,
+        Wanted::Wire,
+        &none,
+        f,
+        s,
+        kinds,
+        sizes,
+        lows,
+        highs,
+    );
+    let Read::Upto(mid) = r else {
+        return r;
+    };
+    let t = operand(
+        program,
+        mid,
+        next,
+        at,
+        second,
+        &none,
+        g,
+        s,
+        kinds,
+        sizes,
+        lows,
+        highs,
+    );
+    let Read::Upto(end) = t else {
+        return t;
+    };
+    if end < next {
+        return Read::Refused(4, at);
+    }
+    Read::Upto(mid)
 }
 
 // A wire, and then a wire or a bit, and no more, from `from` to `next` in the field at `at`.
@@ -644,46 +711,50 @@ pub fn two_operands(
     ensures { λ r. ⌜ ((k : Known) → checkedPart r ≡ twoOperands (scopeAt k s (now (kinds .entry)) (now (sizes .entry)) (now (lows .entry)) (now (highs .entry))) (wantedOf k second (replicate formNumbers (pos 0))) at (fieldsAt (now (program .entry)) from next)) ⌝ }
     ensures { λ r. ⌜ EndsAt next r ⌝ }
 {
-    let none = [0i64; FORM_NUMBERS];
-    let r = operand(
+    let mut f = [0i64; FORM_NUMBERS];
+    let mut g = [0i64; FORM_NUMBERS];
+    let r = pair(
         program,
         from,
         next,
         at,
-        Wanted::Wire,
-        &none,
+        second,
+        &mut f,
+        &mut g,
         s,
         kinds,
         sizes,
         lows,
         highs,
     );
-    let Read::Upto(mid) = r else {
+    let Read::Upto(_) = r else {
         return r;
     };
-    let t = operand(
-        program,
-        mid,
-        next,
-        at,
-        second,
-        &none,
-        s,
-        kinds,
-        sizes,
-        lows,
-        highs,
-    );
-    let Read::Upto(end) = t else {
-        return t;
-    };
-    if end < next {
-        return Read::Refused(4, at);
-    }
     Read::Upto(next)
 }
 
-// Two wires, and no more, from `from` to `next` in the field at `at`.
+// Whether the wires at two places, whose fields are right, are one: both are whole, or elements of equal forms, and have the same
+// number.
+fn same_wire(program: &[u8], first: usize, second: usize, f: &Form, g: &Form) -> bool
+    requires { ⌜ Comparable (now program) first (now f) ⌝ }
+    requires { ⌜ Comparable (now program) second (now g) ⌝ }
+    ensures { λ r. ⌜ r ≡ sameBy (now (program .entry)) first second (now (f .entry)) (now (g .entry)) ⌝ }
+{
+    let tag = program[first];
+    if tag != program[second] {
+        return false;
+    }
+    let number = program[first + 3];
+    if number != program[second + 3] {
+        return false;
+    }
+    if tag == fields::WHOLE {
+        return true;
+    }
+    forms::same(f, g)
+}
+
+// Two wires, and no more, from `from` to `next` in the field at `at`; one wire twice is refused after all else.
 pub fn two_wires(
     program: &[u8],
     from: usize,
@@ -697,18 +768,29 @@ pub fn two_wires(
 ) -> Read
     requires { ⌜ next ≤ length (now program) ⌝ }
     requires { ⌜ TablesRight s (now kinds) (now sizes) (now lows) (now highs) ⌝ }
-    ensures { λ r. ⌜ ((k : Known) → checkedPart r ≡ twoOperands (scopeAt k s (now (kinds .entry)) (now (sizes .entry)) (now (lows .entry)) (now (highs .entry))) wire at (fieldsAt (now (program .entry)) from next)) ⌝ }
+    ensures { λ r. ⌜ ((k : Known) → checkedPart r ≡ twoWires (scopeAt k s (now (kinds .entry)) (now (sizes .entry)) (now (lows .entry)) (now (highs .entry))) at (fieldsAt (now (program .entry)) from next)) ⌝ }
 {
-    two_operands(
+    let mut f = [0i64; FORM_NUMBERS];
+    let mut g = [0i64; FORM_NUMBERS];
+    let r = pair(
         program,
         from,
         next,
         at,
         Wanted::Wire,
+        &mut f,
+        &mut g,
         s,
         kinds,
         sizes,
         lows,
         highs,
-    )
+    );
+    let Read::Upto(mid) = r else {
+        return r;
+    };
+    if same_wire(program, from, mid, &f, &g) {
+        return Read::Refused(35, at);
+    }
+    Read::Upto(next)
 }

@@ -280,6 +280,7 @@ fn conditional(
         return Read::Refused(13, at);
     }
     let none = [0i64; FORM_NUMBERS];
+    let mut form = [0i64; FORM_NUMBERS];
     let inner = at + 4;
     let r = check_operand::operand(
         program,
@@ -288,6 +289,7 @@ fn conditional(
         at,
         Wanted::Bit,
         &none,
+        &mut form,
         s,
         kinds,
         sizes,

@@ -10,11 +10,12 @@ use native.Mathlib.Numerals.{add-one}
 use native.Mathlib.Omega.{arith}
 use lib.IntN.{ℤ, pos, negsuc, _+ℤ_, _-ℤ_}
 use lib.Signed.{leZ, ltZ}
-use lib.ListN.{length, getD, take, drop, set, replicate, length-set, length-take, length-append, take-append-drop, List·getD-append}
+use lib.ListN.{length, getD, take, drop, set, replicate, length-set, length-take, length-append, drop-of-length-le, take-append-drop, List·getD-append}
 use lib.Seq.{take-all}
-use Rattle.language.specs.Form.{Built, built, Loop, closed, showingOf, inRange, allInRange, zipped, build, sumOf, differenceOf, multipleOf, _thenBuild_, without, noneNegative, isZero, allZero}
+use Rattle.language.specs.Form.{Built, built, Loop, closed, showingOf, inRange, allInRange, zipped, build, sumOf, differenceOf, multipleOf, _thenBuild_, without, noneNegative, isZero, allZero, sameNumber, sameNumbers, sameForm}
 use Rattle.forms.specs.Flat.{Kept, Short, widened, asForm, builtOf, showingBy}
 use Rattle.language.proofs.Integers.{clash, lt-true}
+use Rattle.language.proofs.Twice.{same-number, number-itself}
 
 module _ {A : Type 0} where
   abbrev pub front : ℕ → List A → List A → List A
@@ -122,6 +123,44 @@ unfolding isZero
 zero-no {z = pos zero} h = absurd (h refl)
 zero-no {z = pos (suc n)} h = refl
 zero-no {z = negsuc n} h = refl
+
+-- ---- a test whether two lists are the same
+
+pub number-same : {x y : ℤ} → x ≡ y → sameNumber x y ≡ true
+number-same {x} {y} e = ap (sameNumber x) (sym e) ∙ number-itself x
+
+pub number-other : {x y : ℤ} → (x ≡ y → ⊥) → sameNumber x y ≡ false
+number-other {x} {y} h = go (sameNumber x y) (same-number x y)
+  where
+    go : (b : Bool) → (b ≡ true → x ≡ y) → b ≡ false
+    go true k = absurd (h (k refl))
+    go false k = refl
+
+-- the answer for two lists is the answer for what is left of them, as above
+pub pair-good : (xs ys : List ℤ) (i : ℕ) → i < length xs → i < length ys → sameNumber (getD xs i (pos 0)) (getD ys i (pos 0)) ≡ true
+    → sameNumbers (drop i xs) (drop i ys) ≡ sameNumbers (drop (suc i) xs) (drop (suc i) ys)
+unfolding sameNumbers
+pair-good [] ys i h k e = absurd (omega arith)
+pair-good (x ∷ xs) [] i h k e = absurd (omega arith)
+pair-good (x ∷ xs) (y ∷ ys) zero h k e = ap (λ (t : Bool). t && sameNumbers xs ys) e
+pair-good (x ∷ xs) (y ∷ ys) (suc i) h k e = pair-good xs ys i (omega arith) (omega arith) e
+
+pub pair-bad : (xs ys : List ℤ) (i : ℕ) → i < length xs → i < length ys → sameNumber (getD xs i (pos 0)) (getD ys i (pos 0)) ≡ false → sameNumbers (drop i xs) (drop i ys) ≡ false
+unfolding sameNumbers
+pair-bad [] ys i h k e = absurd (omega arith)
+pair-bad (x ∷ xs) [] i h k e = absurd (omega arith)
+pair-bad (x ∷ xs) (y ∷ ys) zero h k e = ap (λ (t : Bool). t && sameNumbers xs ys) e
+pair-bad (x ∷ xs) (y ∷ ys) (suc i) h k e = pair-bad xs ys i (omega arith) (omega arith) e
+
+pub pair-none : (xs ys : List ℤ) (i : ℕ) → length xs ≤ i → length ys ≤ i → sameNumbers (drop i xs) (drop i ys) ≡ true
+unfolding sameNumbers
+pair-none xs ys i h k = rw (drop-of-length-le xs {i = i} h, drop-of-length-le ys {i = i} k) refl
+
+pub same-flat : (f g : List ℤ) → Kept f → Kept g → sameNumbers f g ≡ sameForm (asForm f) (asForm g)
+unfolding asForm sameForm sameNumbers
+same-flat [] g h k = absurd (let l = h .long in omega arith)
+same-flat (x ∷ f) [] h k = absurd (let l = k .long in omega arith)
+same-flat (x ∷ f) (y ∷ g) h k = refl
 
 -- ---- a loop that puts `op` of two lists' entries in place of the first, and stops at one out of range
 

@@ -5,7 +5,7 @@ ghost use mathlib.Core.List.{List};
 ghost use Prim.Native.Nat.{_+_, _≤_, _<_};
 ghost use lib.ListN.{length, getD, set, drop, replicate};
 ghost use lib.IntN.{ℤ, pos, _+ℤ_, _*ℤ_};
-ghost use Rattle.language.specs.Form.{built, inRange, constantForm, variableForm, sumOf, differenceOf, multipleOf, _thenBuild_, allZero, closed, showingOf, plainly, lessRange, trial, byTrial, showing, putIn};
+ghost use Rattle.language.specs.Form.{built, inRange, constantForm, variableForm, sumOf, differenceOf, multipleOf, _thenBuild_, allZero, sameForm, closed, showingOf, plainly, lessRange, trial, byTrial, showing, putIn};
 ghost use Rattle.language.specs.Settled.{goneThrough, remaining};
 ghost use Rattle.language.specs.Trials.{trialsFor, trialsMade};
 ghost use Rattle.language.specs.Tree.{Place, product};
@@ -193,6 +193,23 @@ pub fn is_constant(f: &Form) -> bool
     while i < FORM_NUMBERS {
         let x = f[i];
         if x != 0 {
+            return false;
+        }
+        i += 1;
+    }
+    true
+}
+
+// Whether two forms are equal.
+pub fn same(f: &Form, g: &Form) -> bool
+    requires { ⌜ Kept (now f) ⌝ }
+    requires { ⌜ Kept (now g) ⌝ }
+    ensures { λ r. ⌜ r ≡ sameForm (asForm (now (f .entry))) (asForm (now (g .entry))) ⌝ }
+{
+    let mut i: usize = 0;
+    while i < FORM_NUMBERS {
+        let x = f[i];
+        if x != g[i] {
             return false;
         }
         i += 1;
