@@ -41,6 +41,10 @@
  *     3 ns more for each byte of the program. For 1 s these are some 300,000 steps at 1,000 bytes and 5,000 at 65,535.
  *     (1,000,000 steps may take 200 s there.)
  *
+ * Coming from 1.6: a cx or cphase whose operands are the same wire as they stand in the program, as cx q[0], q[0], is refused
+ * with the number 35, at the gate. The check passed it before, and a run that came to it ended with 25. Be ready for 35 from
+ * every call, also about programs whose runs never come to such a gate. Operands that come to be one wire only in a run still
+ * end it with 25. A program without such a gate is answered as it was, and records, steps and texts are what they were.
  * Coming from 1.5: a family may take families. The type of such a parameter (tag 18) says how many sizes and which wires and
  * registers a family has that is passed there; a call passes a declared family by its two-byte number (operand tag 51), and the
  * body calls its parameter (statement tag 42). These tags were refused with 3 before. Be ready for two more numbers: 33, where
@@ -69,7 +73,7 @@ extern "C" {
 #endif
 
 /* The version of this header and of the archive that is built beside it. */
-#define METAQASM_VERSION "1.6.0"
+#define METAQASM_VERSION "1.7.0"
 
 /* The stack that a call needs at most, in KiB, for every program within the limits and beside what the host has in use there;
  * and what a check alone needs. On less, a deep program may end the process at the guard page below the stack. (The first
@@ -125,6 +129,14 @@ extern "C" {
  *   32        from an instance or a run: it has ended early, as with 24 to 27
  *   33        from every call: the program is refused, as with 1 to 13
  *   34        from an instance: what is asked for cannot be had, as with 20 to 23
+ *   35        from every call: the program is refused, as with 1 to 13
+ *
+ * 25 and 35 are both about a cx or cphase with one wire twice. With 35 the program says so itself: both operands are the same
+ * Qbit parameter, or elements of the same register or parameter at indexes of the same form, however these are spelled, as q[1]
+ * and q[2-1] or x[n+i] and x[i+n]. Such a gate can never run, and it is refused wherever it stands, also in a loop without
+ * rounds or in a family that is never called. With 25 the operands come to be one wire in this run: by the values of their
+ * indexes, as q[i] and q[0] in the round with i = 0, or by a call, as two parameters that get the same wire or registers that
+ * overlap.
  *
  * A call that prints a text answers as an instance or a run does, and with 30 after all else. Where its number is not 0, the
  * text is as it was. */
@@ -152,8 +164,8 @@ static inline const char *metaqasm_message(uint32_t number)
  *
  * number   0: done. Otherwise the program or the call is turned down, or the run has ended early (see above)
  * place    the offset in the program of the tag that the number is about: for 24 to 27 and 32 that of the statement (or, where
- *          a parameter's size is out of range, of its type), for 23 that of the type; 0 where the number is 0, 20 to 22, 30 or
- *          34
+ *          a parameter's size is out of range, of its type), for 23 that of the type, for 35 that of the cx or cphase; 0 where
+ *          the number is 0, 20 to 22, 30 or 34
  * records  how many 12-byte records are written
  * steps    how many steps are taken
  */

@@ -66,6 +66,12 @@ static const uint8_t steep[] = {1, 17, 0, 1, 1, 17, 12, 0, 68, 9, 0, 65, 1, 0, 0
 /* a qreg of 1, and cx from its wire to the same wire */
 static const uint8_t same[] = {2, 2,  0, 1, 0, 35, 18, 0, 49, 6, 0, 0, 64,
                                2, 0,  0, 0, 49, 6, 0,  0, 64, 2, 0, 0, 0};
+/* a family of two wires with cx on them, a qreg of 1, and a call with its wire for both */
+static const uint8_t same_by_call[] = {
+    1,  19, 0, 0, 2, 16, 0, 0, 16, 0,  0, 35, 8, 0,  48, 1, 0, 0, 48, 1, 0, 1, /* the family */
+    2,  2,  0, 1, 0,                                                           /* the qreg */
+    36, 19, 0, 0, 49, 6, 0, 0, 64, 2,  0, 0,  0, 49, 6,  0, 0, 64, 2, 0, 0, 0, /* the call */
+};
 /* a qreg of 2; h on wire 0; cx from wire 0 to wire 1 */
 static const uint8_t bell[] = {
     2, 2, 0, 2, 0, 32, 9, 0, 49, 6, 0, 0, 64, 2, 0, 0, 0, 35, 18, 0, 49, 6, 0, 0, 64, 2, 0, 0, 0, 49, 6, 0, 0, 64, 2, 0, 1, 0,
@@ -107,7 +113,7 @@ static const question questions[] = {
     ASKED(pair, past_largest, METAQASM_SIZE_BYTES, SIZE_TOO_LARGE, 22, 0),
     ASKED(pair, largest, METAQASM_SIZE_BYTES, TOO_MANY_WIRES, 23, 12),
     ASKED(steep, largest, METAQASM_SIZE_BYTES, INDEX_OUT_OF_RANGE, 24, 5),
-    LISTED(same, 9, ROOM, ONE_WIRE_TWICE, 25, 5),
+    LISTED(same_by_call, 9, ROOM, ONE_WIRE_TWICE, 25, 11),
     LISTED(bell, 1, ROOM, OUT_OF_STEPS, 26, 17),
     LISTED(bell, 2, ROOM - 1, OUTPUT_FULL, 27, 17),
     PRINTED(bell, sizeof BELLS_TEXT - 2, TEXT_FULL, 30, 0),
@@ -115,10 +121,11 @@ static const question questions[] = {
     LISTED(k_64, 9, ROOM, K_TOO_LARGE, 32, 5),
     CHECKED(to_itself, PASSED_TOO_LATE, 33, 17),
     ASKED(takes_family, NULL, 0, HAS_FAMILY_PARAMETER, 34, 0),
+    CHECKED(same, SAME_WIRE, 35, 5),
 };
 
 /* Numbers that no call answers. */
-static const uint32_t unknown[] = {14,  15,  16,  17,  18,    19,          28,         29, 35,
+static const uint32_t unknown[] = {14,  15,  16,  17,  18,    19,          28,         29, 36,
                                    100, 255, 256, 268, 65536, 0x80000000u, 0xFFFFFFFFu};
 
 #define COUNT(list) (sizeof(list) / sizeof((list)[0]))
@@ -230,7 +237,7 @@ static void entries(void)
     };
     size_t i;
 
-    expect(COUNT(listed) == COUNT(questions), "metaqasm_numbers.def", "27 entries");
+    expect(COUNT(listed) == COUNT(questions), "metaqasm_numbers.def", "28 entries");
     for (i = 0; i < COUNT(listed) && i < COUNT(questions); i++) {
         expect(listed[i] == questions[i].value, metaqasm_message(listed[i]), "entries in order");
     }
@@ -283,6 +290,6 @@ int main(void)
     entries();
     records();
     expect(METAQASM_RECORD_BYTES == 12, "a record", "12 bytes");
-    expect(strcmp(METAQASM_VERSION, "1.6.0") == 0, "the version", "1.6.0");
+    expect(strcmp(METAQASM_VERSION, "1.7.0") == 0, "the version", "1.7.0");
     return closed();
 }

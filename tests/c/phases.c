@@ -9,6 +9,7 @@
 #define PHASE 40
 #define CPHASE 41
 #define REVERSE 37
+#define FOR 38
 #define DIFFERENCE 67
 #define LIMIT 100
 #define MARK 0xA5
@@ -60,6 +61,22 @@ static void put_cphase(unsigned k, unsigned first, unsigned second)
     put_wire(first);
     put_wire(second);
     finish(cphase);
+}
+
+/* Puts a loop over i from 1 to 1 around a cphase on the wires i and 1; the answer is where the cphase is. */
+static size_t put_wire_twice(unsigned k)
+{
+    size_t loop = begin(FOR), cphase;
+
+    put_literal(1);
+    put_literal(1);
+    cphase = begin(CPHASE);
+    put_literal(k);
+    put((const uint8_t[]){49, 5, 0, 0, 65, 1, 0, 0}, 8);
+    put_wire(1);
+    finish(cphase);
+    finish(loop);
+    return cphase;
 }
 
 /* Runs what is built. */
@@ -126,11 +143,12 @@ static void every_k(void)
 static void first_end(void)
 {
     uint8_t output[METAQASM_RECORD_BYTES];
+    uint32_t place;
 
     begin_program();
-    put_cphase(64, 1, 1);
-    expect(is(run(0, output, 0), METAQASM_OUT_OF_STEPS, FIRST, 0, 0), "no step for a cphase", "26");
-    expect(is(run(1, output, 0), METAQASM_ONE_WIRE_TWICE, FIRST, 0, 1), "one wire, k = 64, no output", "25");
+    place = (uint32_t)put_wire_twice(64);
+    expect(is(run(2, output, 0), METAQASM_OUT_OF_STEPS, place, 0, 2), "no step for a cphase", "26");
+    expect(is(run(3, output, 0), METAQASM_ONE_WIRE_TWICE, place, 0, 3), "one wire, k = 64, no output", "25");
     begin_program();
     put_cphase(64, 1, 0);
     expect(is(run(1, output, 0), METAQASM_K_TOO_LARGE, FIRST, 0, 1), "k = 64, no output", "32");

@@ -148,6 +148,27 @@ gives 'a family with a family parameter, with sizes' 'end 34 0 0 0' '' "$list" 2
 gives 'a family behind one with a family parameter' 'end 20 0 0 0' '' "$list" 3 < <(passing 0)
 gives 'a call of a register' 'end 9 5 0 0' '' "$list" < <(printf '\2\2\0\2\0\52\1\0\0')
 
+# A qreg of 3, and cx on a wire and on the one whose number is a difference.
+cx_on() { # WIRE LEFT RIGHT
+    printf '\2\2\0\3\0\43\32\0\61\6\0\0\100\2\0%b\0' "\\0$1"
+    printf '\61\16\0\0\103\12\0\100\2\0%b\0\100\2\0%b\0' "\\0$2" "\\0$3"
+}
+gives 'cx on two wires' $'cx 1 2\nend 0 0 1 1' '' "$list" < <(cx_on 1 3 1)
+gives 'cx on one wire' 'end 35 5 0 0' '' "$list" < <(cx_on 1 2 1)
+gives 'cx on one wire, for a family' 'end 35 5 0 0' '' "$list" 0 < <(cx_on 1 2 1)
+gives 'cx on one wire, with more behind it' 'end 35 5 0 0' '' "$list" < <(cx_on 1 2 1 && printf '\377')
+gives 'cphase on one wire' 'end 35 5 0 0' '' "$list" \
+    < <(printf '\2\2\0\1\0\51\27\0\100\2\0\77\0\61\6\0\0\100\2\0\0\0\61\6\0\0\100\2\0\0\0')
+
+# A family of two wires with h on the first and cx on both, a qreg of 2, and a call of the family about two of its wires.
+paired() { # WIRE WIRE
+    printf '\1\32\0\0\2\20\0\0\20\0\0\40\4\0\60\1\0\0\43\10\0\60\1\0\0\60\1\0\1'
+    printf '\2\2\0\2\0\44\23\0\0\61\6\0\0\100\2\0%b\0\61\6\0\0\100\2\0%b\0' "\\0$1" "\\0$2"
+}
+gives 'a call with two wires' $'h 1\ncx 1 0\nend 0 0 2 3' '' "$list" < <(paired 1 0)
+gives 'a call with one wire twice' $'h 1\nend 25 18 1 3' '' "$list" < <(paired 1 1)
+gives 'the family by itself' $'h 0\ncx 0 1\nend 0 0 2 2' '' "$list" 0 < <(paired 1 1)
+
 # A library of 257 families of one wire: h in family 0, nothing in families 1 to 255, t in family 256; then a call of 256.
 long_library() {
     printf '\1\14\0\0\1\20\0\0\40\4\0\60\1\0\0'

@@ -11,12 +11,11 @@ use lib.Seq.{slice}
 use borrow.Author.Tests.{leb-true, leb-false, eqb-true, eqb-false, eq-eqb, ne-eqb}
 use types.Run.{OneOf}
 use denote.Enum.Declared.{tagOf}
-use Rattle.language.specs.Tree.{Ending, Index, Operand, whole, element, passed, badIndex, badOperand}
-use Rattle.language.specs.Tree as T
+use Rattle.language.specs.Tree.{Ending, Index, Operand, whole, element, badIndex, badOperand}
 use Rattle.language.specs.Read.{Field, fields, ending, due, outerIndex, readWhole, readElement, elementOf, readSlice, sliceOf, readPassed, readOperand, operandDue}
 use Rattle.language.specs.Form.{Form, sameForm}
 use Rattle.language.specs.Check as C
-use Rattle.language.specs.Check.{Checked, Formal, Signature, good, fine, noLeftover, inScope, formOf, wire, slicedSize, sliceFits, familyFits, checkOperand, checkTwo, equalForms, sameWire}
+use Rattle.language.specs.Check.{Checked, good, fine, noLeftover, inScope, formOf, wire, slicedSize, sliceFits, familyFits, checkOperand, checkTwo, equalForms, sameWire}
 use Rattle.language.proofs.Safe.{not-good, both, then-both, two-good}
 use Rattle.fields.specs.Header.{fieldsAt}
 use Rattle.fields.proofs.Headers.{Wholly, View, ends, cuts, goes, view, slice-none, one-byte}

@@ -159,7 +159,7 @@ finishes-from {least} {more} l f = let s = f .sound in
 
 -- ---- whole runs
 
-checked : (program : List ℕ) (d : Declared) → checkProgram program ≡ good d → check (read program) ≡ good d
+pub checked : (program : List ℕ) (d : Declared) → checkProgram program ≡ good d → check (read program) ≡ good d
 unfolding checkProgram
 checked program d e = then-both (require 1 0 (leb (length program) longestProgram)) (check (read program)) d e .1
 

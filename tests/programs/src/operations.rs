@@ -75,6 +75,9 @@ impl Operation {
 /// How a condition is drawn at its bit, by the value that the bit must have.
 pub const CONDITION_MARKS: [&str; 2] = ["○", "●"];
 
+/// How a gate is drawn that names its wire twice; no gate has this mark.
+pub const TWICE_MARK: &str = "✗";
+
 /// A record as its parts.
 #[derive(Clone, Copy, Debug)]
 pub struct Record {

@@ -24,10 +24,14 @@ fn the_examples_drawings() {
         let (first, drawing) = text.split_once('\n').unwrap();
         let words = first.strip_prefix("// mqasm ").expect("the command");
         let words: Vec<&str> = words.split_whitespace().collect();
-        gives(&words, "", 0, drawing, "");
+        let found = tool(&words, b"");
+        let complete = drawing.lines().any(|line| line.starts_with("end 0 "));
+        assert_eq!(wrote(&found), drawing, "{first}");
+        assert_eq!(said(&found).is_empty(), complete, "{first}");
+        assert_eq!(found.status.success(), complete, "{first}");
         count += 1;
     }
-    assert!(count >= 9);
+    assert!(count >= 11);
 }
 
 #[test]
@@ -336,8 +340,12 @@ fn refused_programs_have_no_drawing() {
     let found = tool(&["draw", "pass-itself.mq"], b"");
     assert_eq!(wrote(&found), "end 33 41 0 0\n");
     assert_eq!(found.status.code(), Some(1));
+}
+
+#[test]
+fn drawings_up_to_where_a_program_or_run_stops() {
     for (program, end) in [
-        ("cx-one-wire.mq", "q[0] ───\nend 25 5 0 1\n"),
+        ("cx-one-wire.mq", "q[0] ─✗─\nend 35 5 0 0\n"),
         ("phase-64.mq", "q[0] ─P(63)─\nend 32 22 1 2\n"),
     ] {
         let found = tool(&["draw", program], b"");

@@ -37,7 +37,7 @@ fn listed(example: &Example) -> String {
 #[test]
 fn the_reference_lists_them() {
     let all = examples(&folder()).unwrap();
-    assert!(all.len() >= 83);
+    assert!(all.len() >= 85);
     for example in all {
         assert_eq!(listed(&example), example.listing, "{}", example.name);
     }

@@ -69,11 +69,56 @@ fn texts_get_the_same_answers_as_bytes() {
         let by_bytes = tool(&["check", "--bytes", "-"], &case.program);
         let by_text = tool(&["check", "-"], text.as_bytes());
         assert_eq!(by_bytes.1, by_text.1, "{seed}");
-        let details = |messages: &str| messages.lines().nth(1).map(String::from);
+        let details = |messages: &str| messages.lines().nth(1).map(placeless);
         if number(&by_bytes.1) != 1 {
             assert_eq!(details(&by_bytes.2), details(&by_text.2), "{seed}");
         }
     }
+}
+
+/// Details without the line and column, or the byte, behind each `at`.
+fn placeless(details: &str) -> String {
+    let in_place = |one: char| one.is_ascii_digit() || one == ':';
+    let bare = |part: &str| {
+        part.trim_start_matches("byte ")
+            .trim_start_matches(in_place)
+            .to_string()
+    };
+    let parts: Vec<String> = details.split(" at ").map(bare).collect();
+    parts.join(" at ")
+}
+
+#[test]
+fn a_wire_that_is_named_twice_is_explained_and_drawn() {
+    let [mut alike, mut spelled, mut ended] = [0; 3];
+    for seed in 0..12_000 {
+        let program = case(seed).program;
+        let words = ["draw", "--bytes", "-", "--limit=2000"];
+        let (_, drawing, messages) = tool(&words, &program);
+        if drawing.is_empty() || programs::disassemble(&program).is_err() {
+            continue;
+        }
+        let (number, lines) = (number(&drawing), drawing.lines().count());
+        let marks = drawing.matches('✗').count();
+        assert_eq!(
+            marks,
+            usize::from([25, 35].contains(&number)),
+            "{seed}: {drawing}"
+        );
+        ended += usize::from(number == 25);
+        if number == 35 {
+            let one_way = messages.contains(" is named at byte ");
+            let both_ways = messages.contains(" are the same wire, as both indexes are ");
+            assert!(
+                lines == 2 && one_way != both_ways,
+                "{seed}: {drawing}{messages}"
+            );
+            alike += usize::from(one_way);
+            spelled += usize::from(both_ways);
+        }
+    }
+    let found = [alike, spelled, ended];
+    assert!(found.iter().all(|count| *count > 20), "{found:?}");
 }
 
 #[test]
@@ -180,7 +225,7 @@ fn marks_of_drawing(drawing: &str) -> BTreeMap<String, Vec<String>> {
         };
         let (_, line) = line.split_once(' ').unwrap();
         let marks = line.trim().split(['─', '═', '┼', '╫', '╬']);
-        let marks = marks.filter(|mark| !mark.is_empty());
+        let marks = marks.filter(|mark| !["", "✗"].contains(mark));
         let marks: Vec<String> = marks.map(String::from).collect();
         if !marks.is_empty() {
             rows.insert(format!("{row} {count}"), marks);
@@ -199,7 +244,7 @@ fn every_row_has_its_marks_in_order() {
         let (_, list, _) = tool(&words, &case.program);
         let words = ["draw", "--bytes", "-", "--limit=2000", "--width=10000"];
         let (_, drawing, _) = tool(&words, &case.program);
-        if !drawing.is_empty() {
+        if !drawing.is_empty() && number(&list) != 35 {
             let due = marks_of_list(&list);
             assert_eq!(marks_of_drawing(&drawing), due, "{seed}");
             marks += due.values().map(Vec::len).sum::<usize>();

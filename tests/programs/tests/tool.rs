@@ -69,15 +69,22 @@ fn lists_runs() {
         listing,
         "",
     );
-    let message = "mqasm: cx-one-wire.mq:4:1: 25: a cx or cphase has the same wire twice\n  \
-        q[0] and q[0] stand for the same wire in this run\n";
-    gives(
-        &["list", "cx-one-wire.mq"],
-        "",
-        1,
-        "end 25 5 0 1\n",
-        message,
-    );
+}
+
+#[test]
+fn lists_up_to_a_wire_that_is_named_twice() {
+    let message = "mqasm: cx-one-wire.mq:4:1: 35: \
+        the two operands of a cx or cphase are the same wire, so that it can never run\n  \
+        q[0] is named at 4:4 and at 4:10: a gate on two wires needs two different ones\n";
+    for command in ["check", "list"] {
+        let words = [command, "cx-one-wire.mq"];
+        gives(&words, "", 1, "end 35 5 0 0\n", message);
+    }
+    let message = "mqasm: one-wire-by-call.mq:6:5: 25: a cx or cphase has the same wire twice\n  \
+        a and b stand for the same wire in this run\n";
+    let words = ["list", "one-wire-by-call.mq"];
+    let listing = "h 0\ncx 0 1\nh 1\nend 25 18 3 6\n";
+    gives(&words, "", 1, listing, message);
 }
 
 #[test]

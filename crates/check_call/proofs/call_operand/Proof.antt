@@ -70,21 +70,21 @@ taken-by-requires c κs =
 
 operand-requires : tie.Need-operand-requires
 operand-requires c κs =
-    let a = c .before .before .before .before .before .before .before .before .before .before .before .args in
-    let none = no-family (now (a .program)) (a .at) (a .to) (a .parent) (c .before .before .before .before .before .before .before .before .before .before .before .pre .0) (sym (c .before .before .before .before .before .before .before .before .with-tag .ensures) ∙ tagged-not (c .before .before .before .before .before .before .before .before .with-tag .result) (c .before .before .before .before .before .before .before .match .keys2)) in
-    (c .before .before .before .before .before .before .before .before .before .before .before .pre .0, (c .before .taken-by .ensures .1, (answerable (c .before .taken-by .result) _ none, c .before .before .before .before .before .before .before .before .before .before .before .pre .1 .1 .1 .1 .1 .0)))
+    let a = c .before .before .before .before .before .before .before .before .before .before .before .before .args in
+    let none = no-family (now (a .program)) (a .at) (a .to) (a .parent) (c .before .before .before .before .before .before .before .before .before .before .before .before .pre .0) (sym (c .before .before .before .before .before .before .before .before .before .with-tag .ensures) ∙ tagged-not (c .before .before .before .before .before .before .before .before .before .with-tag .result) (c .before .before .before .before .before .before .before .before .match .keys2)) in
+    (c .before .before .before .before .before .before .before .before .before .before .before .before .pre .0, (c .before .before .taken-by .ensures .1, (answerable (c .before .before .taken-by .result) _ none, c .before .before .before .before .before .before .before .before .before .before .before .before .pre .1 .1 .1 .1 .1 .0)))
 
 returns-2 : tie.Need-returns-2
 returns-2 c =
-    let a = c .before .before .before .before .before .before .before .before .before .before .before .before .args in
+    let a = c .before .before .before .before .before .before .before .before .before .before .before .before .before .args in
     let program = now (a .program) in
     let gs = formsOf (a .m) (now (a .forms)) in
     let o = due readOperand (badOperand 4 (a .parent)) (fieldsAt program (a .at) (a .to)) in
-    let none = no-family program (a .at) (a .to) (a .parent) (c .before .before .before .before .before .before .before .before .before .before .before .before .pre .0) (sym (c .before .before .before .before .before .before .before .before .before .with-tag .ensures) ∙ tagged-not (c .before .before .before .before .before .before .before .before .before .with-tag .result) (c .before .before .before .before .before .before .before .before .match .keys2)) in (
+    let none = no-family program (a .at) (a .to) (a .parent) (c .before .before .before .before .before .before .before .before .before .before .before .before .before .pre .0) (sym (c .before .before .before .before .before .before .before .before .before .before .with-tag .ensures) ∙ tagged-not (c .before .before .before .before .before .before .before .before .before .before .with-tag .result) (c .before .before .before .before .before .before .before .before .before .match .keys2)) in (
       c .operand .ensures .0 (knownIn (now (a .families)) (now (a .kinds)) (now (a .sizes)))
-          ∙ ap (λ (d : Due). checkOperand (scopeFull (a .s) (now (a .families)) (now (a .kinds)) (now (a .sizes)) (now (a .lows)) (now (a .highs))) d o) (c .before .before .taken-by .ensures .0 (knownIn (now (a .families)) (now (a .kinds)) (now (a .sizes))) ∙ (λ z. taken gs (kindIn (c .before .before .before .before .before .before .kind-by .ensures z) (asForm (widened (getD (now (a .sizes)) (c .before .before .before .before .before .size-by .ensures z) []))) (formalAt (now (a .families)) (now (a .kinds)) (now (a .sizes)) (c .before .before .before .before .before .size-by .ensures z)))))
+          ∙ ap (λ (d : Due). checkOperand (scopeFull (a .s) (now (a .families)) (now (a .kinds)) (now (a .sizes)) (now (a .lows)) (now (a .highs))) d o) (c .before .before .before .taken-by .ensures .0 (knownIn (now (a .families)) (now (a .kinds)) (now (a .sizes))) ∙ (λ z. taken gs (kindIn (c .before .before .before .before .before .before .before .kind-by .ensures z) (asForm (widened (getD (now (a .sizes)) (c .before .before .before .before .before .before .size-by .ensures z) []))) (formalAt (now (a .families)) (now (a .kinds)) (now (a .sizes)) (c .before .before .before .before .before .before .size-by .ensures z)))))
           ∙ plain-operand (scopeFull (a .s) (now (a .families)) (now (a .kinds)) (now (a .sizes)) (now (a .lows)) (now (a .highs))) (a .before) gs (kindBy (formalAt (now (a .families)) (now (a .kinds)) (now (a .sizes))) (a .number) (now (a .sizes))) o none,
-      c .operand .ensures .1,
+      c .operand .ensures .1 .0,
     )
 
 pub call-operand-spec : {M : Type 1} → statement M

@@ -1,16 +1,7 @@
+-- `check_operand::element` meets its contract. Assumes nothing.
 use borrow.Author.Needs.{needs}
 use Rattle.check_operand.proofs.element.Statement.{statement}
 use Rattle.check_operand.proofs.element.Tie as tie
-use Rattle.check_operand.proofs.element.Reads as reads
-use Rattle.check_operand.proofs.element.Lts as lts
-use Rattle.check_index.proofs.index.Reads as index-reads
-use Rattle.check_operand.proofs.answered.Reads as answered-reads
-use Rattle.check_operand.proofs.element_kind.Reads as element-kind-reads
-use Rattle.check_operand.proofs.kind_by.Reads as kind-by-reads
-use Rattle.check_operand.proofs.size_by.Reads as size-by-reads
-use Rattle.check_operand.proofs.within.Reads as within-reads
-use Rattle.fields.proofs.wide.Reads as wide-reads
-use borrow.Author.Needs.{needs}
 use mathlib.Core.Path.{_≡_, ap, _∙_}
 use mathlib.Core.List.{List, []}
 use Prim.Native.Nat.{ℕ, _+_}
@@ -37,13 +28,10 @@ use Rattle.check_operand.proofs.Tables.{scope-forms, kinds-get, kinds-n
 use Rattle.language.specs.Check as C
 use Rattle.check_operand.proofs.Wires.{leaves-form, leaves-stops, element-form, form-is}
 
-
--- src/lib.rt:356:16
 add-from : tie.Need-add-from
 add-from c =
     search needs
 
--- src/lib.rt:358:9
 returns : tie.Need-returns
 unfolding checkedPart
 returns c =
@@ -55,17 +43,14 @@ returns c =
     let d : Known → List ℤ → Due = λ fs z. wantedOf fs (a .wanted) z in
     (λ fs z. element-none (scopeAt fs (a .s) (now (a .kinds)) (now (a .sizes)) (now (a .lows)) (now (a .highs))) (d fs z) (a .at) (slice from (a .next) program) (slice-none from (a .next) program (c .if1 .taken)), (tt, λ fs. tt))
 
--- src/lib.rt:360:26
 shared-slice-read-wide : tie.Need-shared-slice-read-wide
 shared-slice-read-wide c =
     search needs
 
--- src/lib.rt:360:9
 wide-requires : tie.Need-wide-requires
 wide-requires c κs =
     search needs
 
--- src/lib.rt:362:9
 returns-2 : tie.Need-returns-2
 unfolding checkedPart
 returns-2 c =
@@ -80,37 +65,30 @@ returns-2 c =
     let v : c .before .before .wide .result ≡ n = c .before .before .wide .ensures .0 in
     (λ fs z. element-beyond (scopeAt fs (a .s) (now (a .kinds)) (now (a .sizes)) (now (a .lows)) (now (a .highs))) (d fs z) (a .at) (slice from (a .next) program) n program (a .next) e (kinds-none (fs .formals) (a .s .count) (a .s .first) n (now (a .kinds)) (now (a .sizes)) (let q = c .if2 .taken in omega arith)), (tt, λ fs. tt))
 
--- src/lib.rt:364:15
 add-row : tie.Need-add-row
 add-row c =
     search needs
 
--- src/lib.rt:365:17
 add-inner : tie.Need-add-inner
 add-inner c =
     search needs
 
--- src/lib.rt:366:21
 add-variables : tie.Need-add-variables
 add-variables c =
     search needs
 
--- src/lib.rt:367:9
 index-requires : tie.Need-index-requires
 index-requires c κs =
     search needs
 
--- src/lib.rt:368:20
 enum-known-r : tie.Need-enum-known-r
 enum-known-r c =
     search needs
 
--- src/lib.rt:369:9
 enum-told : tie.Need-enum-told
 enum-told c =
     search needs
 
--- src/lib.rt:369:9
 returns-3 : tie.Need-returns-3
 returns-3 c =
     let a = c .before .before .before .before .before .before .before .before .before .before .before .before .before .args in
@@ -128,7 +106,6 @@ returns-3 c =
     let i = due (readIndex 16) (badIndex 4 (a .at)) (fieldsAt program (a .at + 4) (a .next)) in
     (λ fs z. element-stops (scopeAt fs (a .s) (now (a .kinds)) (now (a .sizes)) (now (a .lows)) (now (a .highs))) (d fs z) (a .at) (slice from (a .next) program) n program (a .next) e (k fs) (kinds-get (fs .formals) (a .s .count) (a .s .first) n (now (a .kinds)) (now (a .sizes)) (let q = c .before .before .before .before .before .before .if2 .left in omega arith)) (c .before .before .index .result) l (c .before .before .index .ensures .0 ∙ scope-forms (tabulated (fs .declared) (a .s .families) 0) (ks fs) (a .s .variables) (a .s .loops) (now (a .lows)) (now (a .highs)) i) (c .before .match .keys2), (ends-stops (c .before .before .index .result) (a .next) (c .before .match .keys2), λ fs. leaves-stops _ _ (c .before .before .index .result) l (c .before .match .keys2)))
 
--- src/lib.rt:372:9
 returns-4 : tie.Need-returns-4
 unfolding checkedPart
 returns-4 c =
@@ -149,26 +126,22 @@ returns-4 c =
     let u = form-passes-upto program (a .at + 4) (a .next) (c .before .before .before .before .index .result) l end (c .before .before .r .given .1) (c .before .before .before .before .index .ensures .1) in
     (λ fs z. element-long (scopeAt fs (a .s) (now (a .kinds)) (now (a .sizes)) (now (a .lows)) (now (a .highs))) (d fs z) (a .at) (slice from (a .next) program) n program (a .next) e (k fs) (kinds-get (fs .formals) (a .s .count) (a .s .first) n (now (a .kinds)) (now (a .sizes)) (let q = c .before .before .before .before .before .before .before .before .if2 .left in omega arith)) (c .before .before .before .before .index .result) l (c .before .before .before .before .index .ensures .0 ∙ scope-forms (tabulated (fs .declared) (a .s .families) 0) (ks fs) (a .s .variables) (a .s .loops) (now (a .lows)) (now (a .highs)) i) end (c .before .before .r .given .1) (u .0) (c .if3 .taken) (c .before .before .before .before .before .before .before .before .before .before .before .before .before .before .before .pre .0 .1), (tt, λ fs. tt))
 
--- src/lib.rt:374:18
 mul-number : tie.Need-mul-number
 mul-number c =
     let b = c .before .before .before .before .before .before .before .before .before .before .before .before .before .before .before .pre .1 .kindRows in
     let q = c .before .before .before .before .before .before .before .before .if2 .left in
     omega (arith, c .before .before .before .before .before .before .before .before .before .before .before .before .before .before .before .good)
 
--- src/lib.rt:374:18
 shared-slice-read-number : tie.Need-shared-slice-read-number
 shared-slice-read-number c =
     let b = c .before .before .before .before .before .before .before .before .before .before .before .before .before .before .before .before .pre .1 .kindRows in
     let q = c .before .before .before .before .before .before .before .before .before .if2 .left in
     omega (arith, c .before .before .before .before .before .before .before .before .before .before .before .before .before .before .before .before .good)
 
--- src/lib.rt:375:9
 kind-by-requires : tie.Need-kind-by-requires
 kind-by-requires c κs =
     search needs
 
--- src/lib.rt:376:9
 element-kind-requires : tie.Need-element-kind-requires
 element-kind-requires c κs =
     search needs
@@ -177,12 +150,10 @@ enum-told-2 : tie.Need-enum-told-2
 enum-told-2 c =
     search needs
 
--- src/lib.rt:378:9
 enum-told-3 : tie.Need-enum-told-3
 enum-told-3 c =
     search needs
 
--- src/lib.rt:378:9
 returns-5 : tie.Need-returns-5
 returns-5 c =
     let a = c .before .before .before .before .before .before .before .before .before .before .before .before .before .before .before .before .before .before .before .before .args in
@@ -204,22 +175,18 @@ returns-5 c =
     let good : (fs : Known) (z : List ℤ) → (elementSize (a .at) (d fs z) (k fs) >>= λ size. checkWithin (a .at) (scopeAt fs (a .s) (now (a .kinds)) (now (a .sizes)) (now (a .lows)) (now (a .highs))) size (asForm l)) ≡ checkOperand (scopeAt fs (a .s) (now (a .kinds)) (now (a .sizes)) (now (a .lows)) (now (a .highs))) (d fs z) (readElement (a .at) (slice from (a .next) program)) = λ fs z. element-good (scopeAt fs (a .s) (now (a .kinds)) (now (a .sizes)) (now (a .lows)) (now (a .highs))) (d fs z) (a .at) (slice from (a .next) program) n program (a .next) e (k fs) (kinds-get (fs .formals) (a .s .count) (a .s .first) n (now (a .kinds)) (now (a .sizes)) (let q = c .before .before .before .before .before .before .before .before .before .before .before .before .before .if2 .left in omega arith)) (c .before .before .before .before .before .before .before .before .before .index .result) l (c .before .before .before .before .before .before .before .before .before .index .ensures .0 ∙ scope-forms (tabulated (fs .declared) (a .s .families) 0) (ks fs) (a .s .variables) (a .s .loops) (now (a .lows)) (now (a .highs)) i) end (c .before .before .before .before .before .before .before .r .given .1) (u .0) (c .before .before .before .before .before .if3 .left) in
     (λ fs z. kind-stops (elementSize (a .at) (d fs z) (k fs)) (λ m. checkWithin (a .at) (scopeAt fs (a .s) (now (a .kinds)) (now (a .sizes)) (now (a .lows)) (now (a .highs))) m (asForm l)) size (c .before .before .element-kind .result) (c .before .before .element-kind .ensures .0 size z fs (fs .formals (sizeOfRow (getD (now (a .kinds)) row 0))) ∙ ap (λ (k : Kind). elementSize (a .at) (d fs z) (kindIn k size (fs .formals (sizeOfRow (getD (now (a .kinds)) row 0))))) (c .before .before .before .kind-by .ensures ∙ ap (λ (j : ℕ). kindOfRow (getD (now (a .kinds)) (a .s .first + j) 0)) v)) (c .before .match2 .keys2) ∙ good fs z, (ends-stops (c .before .before .element-kind .result) (a .next) (c .before .match2 .keys2), λ fs. leaves-stops _ _ (c .before .before .element-kind .result) l (c .before .match2 .keys2)))
 
--- src/lib.rt:380:9
 size-by-requires : tie.Need-size-by-requires
 size-by-requires c κs =
     search needs
 
--- src/lib.rt:381:26
 mul-within : tie.Need-mul-within
 mul-within c =
     omega (arith, c .before .before .before .before .before .before .before .before .before .before .before .before .before .before .before .before .before .before .before .before .before .before .good, c .before .size-by .ensures, c .before .before .before .before .before .before .before .before .before .before .before .before .before .before .before .before .before .before .before .before .before .before .pre .1 .named (c .before .before .before .before .before .before .before .before .before .before .before .before .before .before .before .before .before .before .before .before .before .before .args .s .first + c .before .before .before .before .before .before .before .before .before .before .before .before .before .before .before .before .before .wide .result))
 
--- src/lib.rt:381:26
 shared-slice-element-within : tie.Need-shared-slice-element-within
 shared-slice-element-within c =
     omega (arith, c .before .before .before .before .before .before .before .before .before .before .before .before .before .before .before .before .before .before .before .before .before .before .good, c .before .size-by .ensures, c .before .before .before .before .before .before .before .before .before .before .before .before .before .before .before .before .before .before .before .before .before .before .pre .1 .named (c .before .before .before .before .before .before .before .before .before .before .before .before .before .before .before .before .before .before .before .before .before .before .args .s .first + c .before .before .before .before .before .before .before .before .before .before .before .before .before .before .before .before .before .wide .result))
 
--- src/lib.rt:381:9
 within-requires : tie.Need-within-requires
 within-requires c κs =
     let a = c .before .before .before .before .before .before .before .before .before .before .before .before .before .before .before .before .before .before .before .before .before .before .before .args in
@@ -243,12 +210,10 @@ within-requires c κs =
     let b = t .kindRows in
     (u .1, (t .sizeRows .each (c .before .before .size-by .result) (omega (arith, c .before .before .size-by .ensures, t .named (a .s .first + c .before .before .before .before .before .before .before .before .before .before .before .before .before .before .before .before .before .before .wide .result))), (omega arith, (fewer (t .lowRows) g, fewer (t .highRows) g))))
 
--- src/lib.rt:382:5
 answered-requires : tie.Need-answered-requires
 answered-requires c κs =
     search needs
 
--- src/lib.rt:338:1
 returns-6 : tie.Need-returns-6
 returns-6 c =
     let a = c .before .before .before .before .before .before .before .before .before .before .before .before .before .before .before .before .before .before .before .before .before .before .before .before .before .args in
@@ -273,10 +238,12 @@ returns-6 c =
           ∙ ap (λ (j : ℕ). checkWithin (a .at) (scopeAt fs (a .s) (now (a .kinds)) (now (a .sizes)) (now (a .lows)) (now (a .highs))) (asForm (widened (getD (now (a .sizes)) j []))) (asForm l)) (c .before .before .before .before .size-by .ensures ∙ ap (λ (j : ℕ). sizeOfRow (getD (now (a .kinds)) (a .s .first + j) 0)) v)
           ∙ kind-goes (elementSize (a .at) (d fs z) (k fs)) (λ m. checkWithin (a .at) (scopeAt fs (a .s) (now (a .kinds)) (now (a .sizes)) (now (a .lows)) (now (a .highs))) m (asForm l)) size (c .before .before .before .before .before .before .before .element-kind .result) (c .before .before .before .before .before .before .before .element-kind .ensures .0 size z fs (fs .formals (sizeOfRow (getD (now (a .kinds)) row 0))) ∙ ap (λ (k : Kind). elementSize (a .at) (d fs z) (kindIn k size (fs .formals (sizeOfRow (getD (now (a .kinds)) row 0))))) (c .before .before .before .before .before .before .before .before .kind-by .ensures ∙ ap (λ (j : ℕ). kindOfRow (getD (now (a .kinds)) (a .s .first + j) 0)) v)) (c .before .before .before .before .before .before .match2 .keys1)
           ∙ good fs z,
-      (c .answered .ensures .1,
-      λ fs. leaves-form (scopeAt fs (a .s) (now (a .kinds)) (now (a .sizes)) (now (a .lows)) (now (a .highs))) (readElement (a .at) (slice from (a .next) program)) (c .answered .result) l
-          (element-form (scopeAt fs (a .s) (now (a .kinds)) (now (a .sizes)) (now (a .lows)) (now (a .highs))) (a .at) n (a .next) program (slice from (a .next) program) l e
-          (form-is (c .before .before .before .before .before .before .before .before .before .before .before .before .before .before .index .result) l end _ (c .before .before .before .before .before .before .before .before .before .before .before .before .before .before .index .ensures .0 ∙ scope-forms (tabulated (fs .declared) (a .s .families) 0) (ks fs) (a .s .variables) (a .s .loops) (now (a .lows)) (now (a .highs)) i) (c .before .before .before .before .before .before .before .before .before .before .before .before .r .given .1)) (u .1))),
+      (
+        c .answered .ensures .1,
+        λ fs. leaves-form (scopeAt fs (a .s) (now (a .kinds)) (now (a .sizes)) (now (a .lows)) (now (a .highs))) (readElement (a .at) (slice from (a .next) program)) (c .answered .result) l
+            (element-form (scopeAt fs (a .s) (now (a .kinds)) (now (a .sizes)) (now (a .lows)) (now (a .highs))) (a .at) n (a .next) program (slice from (a .next) program) l e
+            (form-is (c .before .before .before .before .before .before .before .before .before .before .before .before .before .before .index .result) l end _ (c .before .before .before .before .before .before .before .before .before .before .before .before .before .before .index .ensures .0 ∙ scope-forms (tabulated (fs .declared) (a .s .families) 0) (ks fs) (a .s .variables) (a .s .loops) (now (a .lows)) (now (a .highs)) i) (c .before .before .before .before .before .before .before .before .before .before .before .before .r .given .1)) (u .1)),
+      ),
     )
 
 pub element-spec : {M : Type 1} → statement M

@@ -1,10 +1,7 @@
+-- `check_operand::one_wire` meets its contract. Assumes nothing.
 use borrow.Author.Needs.{needs}
 use Rattle.check_operand.proofs.one_wire.Statement.{statement}
 use Rattle.check_operand.proofs.one_wire.Tie as tie
-use Rattle.check_operand.proofs.one_wire.Reads as reads
-use Rattle.check_operand.proofs.one_wire.Lts as lts
-use Rattle.check_operand.proofs.operand.Reads as operand-reads
-use borrow.Author.Needs.{needs}
 use mathlib.Core.Path.{refl, sym, _∙_}
 use denote.Ref.{now}
 use lib.ListN.{drop}
@@ -17,23 +14,18 @@ use Rattle.check_operand.specs.Tables.{Known, scopeAt}
 use Rattle.check_operand.specs.Operands.{wantedOf}
 use Rattle.check_index.proofs.Answers.{ends-stops, part-goes, part-stops, passes-upto, left-some, left-none}
 
-
--- src/lib.rt:609:9
 operand-requires : tie.Need-operand-requires
 operand-requires c κs =
     (c .before .before .before .before .pre .0, (tt, (tt, c .before .before .before .before .pre .1)))
 
--- src/lib.rt:623:20
 enum-known-r : tie.Need-enum-known-r
 enum-known-r c =
     search needs
 
--- src/lib.rt:624:9
 enum-told : tie.Need-enum-told
 enum-told c =
     search needs
 
--- src/lib.rt:624:9
 returns : tie.Need-returns
 unfolding wantedOf checkOneWire
 returns c =
@@ -43,7 +35,6 @@ returns c =
     let y = noLeftover (a .at) (ending (drop 1 (fieldsAt program (a .from) (a .next)))) in
     (λ fs. part-stops (c .before .before .operand .result) (x fs) y (c .before .before .operand .ensures .0 fs) (c .before .match .keys2), ends-stops (c .before .before .operand .result) (a .next) (c .before .match .keys2))
 
--- src/lib.rt:627:9
 returns-2 : tie.Need-returns-2
 unfolding wantedOf checkOneWire checkedPart
 returns-2 c =
@@ -55,7 +46,6 @@ returns-2 c =
     let v = passes-upto program (a .from) (a .next) (c .before .before .before .before .operand .result) end (c .before .before .r .given .1) (c .before .before .before .before .operand .ensures .1 .0) in
     (λ fs. sym (part-goes (c .before .before .before .before .operand .result) (x fs) (c .before .before .before .before .operand .ensures .0 fs) end y (c .before .before .r .given .1) ∙ left-some program (a .at) (a .from) (a .next) end v (c .if1 .taken) (c .before .before .before .before .before .before .before .before .before .pre .0)), tt)
 
--- src/lib.rt:591:1
 returns-3 : tie.Need-returns-3
 unfolding wantedOf checkOneWire checkedPart
 returns-3 c =

@@ -1,10 +1,7 @@
+-- `check_operand::pair` meets its contract. Assumes nothing.
 use borrow.Author.Needs.{needs}
 use Rattle.check_operand.proofs.pair.Statement.{statement}
 use Rattle.check_operand.proofs.pair.Tie as tie
-use Rattle.check_operand.proofs.pair.Reads as reads
-use Rattle.check_operand.proofs.pair.Lts as lts
-use Rattle.check_operand.proofs.operand.Reads as operand-reads
-use borrow.Author.Needs.{needs}
 use mathlib.Core.Path.{sym, _∙_}
 use denote.Ref.{now}
 use lib.IntN.{pos}
@@ -20,23 +17,18 @@ use Rattle.check_index.proofs.Answers.{part-goes, part-stops, passes-upto, left
 use Rattle.check_operand.proofs.Operands.{second-is}
 use Rattle.check_operand.proofs.Wires.{leaves-upto, two-stops}
 
-
--- src/lib.rt:655:9
 operand-requires : tie.Need-operand-requires
 operand-requires c κs =
     (c .before .before .before .before .pre .0, (tt, (tt, c .before .before .before .before .pre .1 .1)))
 
--- src/lib.rt:669:20
 enum-known-r : tie.Need-enum-known-r
 enum-known-r c =
     search needs
 
--- src/lib.rt:670:9
 enum-told : tie.Need-enum-told
 enum-told c =
     search needs
 
--- src/lib.rt:670:9
 returns : tie.Need-returns
 unfolding wantedOf checkTwo
 returns c =
@@ -49,22 +41,18 @@ returns c =
     let y : Known → Checked (Unit {0}) = λ fs. (checkOperand (s fs) (d fs) (due readOperand (badOperand 4 (a .at)) (drop 1 (fieldsAt program from (a .next)))) >> noLeftover (a .at) (ending (drop 2 (fieldsAt program from (a .next))))) in
     (λ fs. part-stops (c .before .before .operand .result) (x fs) (y fs) (c .before .before .operand .ensures .0 fs) (c .before .match .keys2), λ fs. two-stops (s fs) program (a .at) from (a .next) (c .before .before .operand .result) _ _ (c .before .match .keys2))
 
--- src/lib.rt:672:9
 operand-requires-2 : tie.Need-operand-requires-2
 operand-requires-2 c κs =
     (c .before .before .before .before .before .before .before .before .before .before .pre .0, (c .before .before .before .before .before .before .before .before .before .before .pre .1 .0 .0 _, (c .before .before .before .before .before .before .before .before .before .before .pre .1 .0 .1 _, c .before .before .before .before .before .before .before .before .before .before .pre .1 .1)))
 
--- src/lib.rt:686:20
 enum-known-t : tie.Need-enum-known-t
 enum-known-t c =
     search needs
 
--- src/lib.rt:687:9
 enum-told-2 : tie.Need-enum-told-2
 enum-told-2 c =
     search needs
 
--- src/lib.rt:687:9
 returns-2 : tie.Need-returns-2
 unfolding wantedOf checkTwo
 returns-2 c =
@@ -81,7 +69,6 @@ returns-2 c =
     let l = noLeftover (a .at) (ending (drop 1 (fieldsAt program mid (a .next)))) in
     (λ fs. part-stops (c .before .before .operand2 .result) (z fs) l (c .before .before .operand2 .ensures .0 fs) (c .before .match2 .keys2) ∙ sym (part-goes (c .before .before .before .before .before .before .before .before .operand .result) (x fs) (c .before .before .before .before .before .before .before .before .operand .ensures .0 fs) mid (y fs) (c .before .before .before .before .before .before .r .given .1) ∙ second-is (s fs) (d fs) program (a .at) from (a .next) mid v), λ fs. two-stops (s fs) program (a .at) from (a .next) (c .before .before .operand2 .result) _ _ (c .before .match2 .keys2))
 
--- src/lib.rt:690:9
 returns-3 : tie.Need-returns-3
 unfolding wantedOf checkTwo checkedPart
 returns-3 c =
@@ -100,7 +87,6 @@ returns-3 c =
     let w = passes-upto program mid (a .next) (c .before .before .before .before .operand2 .result) end (c .before .before .t .given .1) (c .before .before .before .before .operand2 .ensures .1 .0) in
     (λ fs. sym (part-goes (c .before .before .before .before .before .before .before .before .before .before .operand .result) (x fs) (c .before .before .before .before .before .before .before .before .before .before .operand .ensures .0 fs) mid (y fs) (c .before .before .before .before .before .before .before .before .r .given .1) ∙ second-is (s fs) (d fs) program (a .at) from (a .next) mid v ∙ part-goes (c .before .before .before .before .operand2 .result) (z fs) (c .before .before .before .before .operand2 .ensures .0 fs) end l (c .before .before .t .given .1) ∙ left-some program (a .at) mid (a .next) end w (c .if1 .taken) (c .before .before .before .before .before .before .before .before .before .before .before .before .before .before .before .pre .0)), λ fs. tt)
 
--- src/lib.rt:634:1
 returns-4 : tie.Need-returns-4
 unfolding wantedOf checkTwo checkedPart
 returns-4 c =

@@ -1,82 +1,66 @@
-use borrow.Author.Needs.{needs}
+-- `check_operand::same_wire` meets its contract. Assumes nothing.
 use Rattle.check_operand.proofs.same_wire.Statement.{statement}
 use Rattle.check_operand.proofs.same_wire.Tie as tie
-use Rattle.check_operand.proofs.same_wire.Reads as reads
-use Rattle.check_operand.proofs.same_wire.Lts as lts
-use Rattle.forms.proofs.same.Reads as same-reads
-use borrow.Author.Needs.{needs}
 use mathlib.Core.Path.{sym, _∙_}
 use native.Mathlib.Omega.{arith}
 use denote.Ref.{now}
 use Rattle.check_operand.proofs.Wires.{other-tags, other-numbers, both-whole, by-forms}
 
-
--- src/lib.rt:743:15
 shared-slice-read-tag : tie.Need-shared-slice-read-tag
 shared-slice-read-tag c =
     let h = c .before .before .pre .0 .there in
     let k = c .before .before .pre .1 .there in
     omega (arith, c .before .before .good)
 
--- src/lib.rt:744:15
 shared-slice-read-if1 : tie.Need-shared-slice-read-if1
 shared-slice-read-if1 c =
     let h = c .before .before .before .pre .0 .there in
     let k = c .before .before .before .pre .1 .there in
     omega (arith, c .before .before .before .good)
 
--- src/lib.rt:745:9
 returns : tie.Need-returns
 returns c =
     let a = c .before .before .before .before .args in
     sym (other-tags (now (a .program)) (a .first) (a .second) (now (a .f)) (now (a .g)) (c .if1 .taken))
 
--- src/lib.rt:747:26
 add-number : tie.Need-add-number
 add-number c =
     let h = c .before .before .before .before .pre .0 .there in
     let k = c .before .before .before .before .pre .1 .there in
     omega (arith, c .before .before .before .before .good)
 
--- src/lib.rt:747:18
 shared-slice-read-number : tie.Need-shared-slice-read-number
 shared-slice-read-number c =
     let h = c .before .before .before .before .before .pre .0 .there in
     let k = c .before .before .before .before .before .pre .1 .there in
     omega (arith, c .before .before .before .before .before .good)
 
--- src/lib.rt:748:26
 add-if2 : tie.Need-add-if2
 add-if2 c =
     let h = c .before .before .before .before .before .pre .0 .there in
     let k = c .before .before .before .before .before .pre .1 .there in
     omega (arith, c .before .before .before .before .before .good)
 
--- src/lib.rt:748:18
 shared-slice-read-if2 : tie.Need-shared-slice-read-if2
 shared-slice-read-if2 c =
     let h = c .before .before .before .before .before .before .pre .0 .there in
     let k = c .before .before .before .before .before .before .pre .1 .there in
     omega (arith, c .before .before .before .before .before .before .good)
 
--- src/lib.rt:749:9
 returns-2 : tie.Need-returns-2
 returns-2 c =
     let a = c .before .before .before .before .before .before .before .args in
     sym (other-numbers (now (a .program)) (a .first) (a .second) (now (a .f)) (now (a .g)) (c .if2 .taken))
 
--- src/lib.rt:752:9
 returns-3 : tie.Need-returns-3
 returns-3 c =
     let a = c .before .before .before .before .before .before .before .before .args in
     sym (both-whole (now (a .program)) (a .first) (a .second) (now (a .f)) (now (a .g)) (c .before .before .before .before .if1 .left) (c .before .if2 .left) (c .if3 .taken))
 
--- src/lib.rt:754:5
 same-requires : tie.Need-same-requires
 same-requires c κs =
     (c .before .before .before .before .before .before .before .before .pre .0 .kept (c .if3 .left), c .before .before .before .before .before .before .before .before .pre .1 .kept (λ e. c .if3 .left (c .before .before .before .before .if1 .left ∙ e)))
 
--- src/lib.rt:738:1
 returns-4 : tie.Need-returns-4
 returns-4 c =
     let a = c .before .before .before .before .before .before .before .before .before .args in

@@ -1,16 +1,11 @@
+-- `check_operand::two_operands` meets its contract. Assumes nothing.
 use borrow.Author.Needs.{needs}
 use Rattle.check_operand.proofs.two_operands.Statement.{statement}
 use Rattle.check_operand.proofs.two_operands.Tie as tie
-use Rattle.check_operand.proofs.two_operands.Reads as reads
-use Rattle.check_operand.proofs.two_operands.Lts as lts
-use Rattle.check_operand.proofs.pair.Reads as pair-reads
-use borrow.Author.Needs.{needs}
 use mathlib.Core.Path.{refl, _∙_}
 use Rattle.check_index.proofs.Answers.{ends-stops}
 use Rattle.check_operand.proofs.Wires.{part-upto}
 
-
--- src/lib.rt:716:9
 pair-requires : tie.Need-pair-requires
 pair-requires c κs =
     c .before .before .before .before .pre
@@ -19,17 +14,14 @@ enum-told : tie.Need-enum-told
 enum-told c =
     search needs
 
--- src/lib.rt:731:9
 enum-told-2 : tie.Need-enum-told-2
 enum-told-2 c =
     search needs
 
--- src/lib.rt:731:9
 returns : tie.Need-returns
 returns c =
     (c .before .before .pair .ensures .0, ends-stops (c .before .before .pair .result) (c .before .before .before .before .before .before .before .args .next) (c .before .match .keys2))
 
--- src/lib.rt:696:1
 returns-2 : tie.Need-returns-2
 returns-2 c =
     (λ fs. part-upto (c .before .before .pair .result) (c .before .before .before .before .before .before .before .args .next) (c .before .match .keys1) ∙ c .before .before .pair .ensures .0 fs, refl)

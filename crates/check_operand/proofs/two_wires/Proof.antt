@@ -1,11 +1,7 @@
+-- `check_operand::two_wires` meets its contract. Assumes nothing.
 use borrow.Author.Needs.{needs}
 use Rattle.check_operand.proofs.two_wires.Statement.{statement}
 use Rattle.check_operand.proofs.two_wires.Tie as tie
-use Rattle.check_operand.proofs.two_wires.Reads as reads
-use Rattle.check_operand.proofs.two_wires.Lts as lts
-use Rattle.check_operand.proofs.pair.Reads as pair-reads
-use Rattle.check_operand.proofs.same_wire.Reads as same-wire-reads
-use borrow.Author.Needs.{needs}
 use mathlib.Core.Path.{_≡_, sym, ap, _∙_}
 use mathlib.Core.Bool.{Bool, not}
 use denote.Ref.{now}
@@ -19,23 +15,18 @@ use Rattle.check_operand.specs.Operands.{wantedOf, Both}
 use Rattle.check_index.proofs.Answers.{part-goes, part-stops}
 use Rattle.check_operand.proofs.Wires.{two-upto, fine-upto, nothingKnown, can-compare, twice-is}
 
-
--- src/lib.rt:775:9
 pair-requires : tie.Need-pair-requires
 pair-requires c κs =
     (c .before .before .before .before .pre .0, ((λ l. tt, λ o. tt), c .before .before .before .before .pre .1))
 
--- src/lib.rt:789:20
 enum-known-r : tie.Need-enum-known-r
 enum-known-r c =
     search needs
 
--- src/lib.rt:790:9
 enum-told : tie.Need-enum-told
 enum-told c =
     search needs
 
--- src/lib.rt:790:9
 returns : tie.Need-returns
 unfolding wantedOf checkWires
 returns c =
@@ -47,7 +38,6 @@ returns c =
     let y : Known → Checked (Unit {0}) = λ fs. require 35 (a .at) (not (sameWire (s fs) (operandDue (a .at) 0 all) (operandDue (a .at) 1 all))) in
     λ fs. part-stops (c .before .before .pair .result) (x fs) (y fs) (c .before .before .pair .ensures .0 fs) (c .before .match .keys2)
 
--- src/lib.rt:792:8
 same-wire-requires : tie.Need-same-wire-requires
 unfolding wantedOf
 same-wire-requires c κs =
@@ -56,13 +46,11 @@ same-wire-requires c κs =
     let s : Known → Scope = λ fs. scopeAt fs (a .s) (now (a .kinds)) (now (a .sizes)) (now (a .lows)) (now (a .highs)) in
     let all = fieldsAt program (a .from) (a .next) in
     let x : Known → Checked (Unit {0}) = λ fs. checkTwo (a .at) (s fs) wire (operandDue (a .at) 0 all) (operandDue (a .at) 1 all) (ending (drop 2 all)) in
-    let y : Known → Checked (Unit {0}) = λ fs. require 35 (a .at) (not (sameWire (s fs) (operandDue (a .at) 0 all) (operandDue (a .at) 1 all))) in
     let mid = c .before .before .before .r .given .0 .0 in
     let b : (fs : Known) → Both (s fs) program (a .at) (a .from) (a .next) mid _ _ = λ fs. two-upto (s fs) program (a .at) (a .from) (a .next) (c .before .before .before .before .before .pair .result) _ _ mid (c .before .before .before .r .given .1) (c .before .before .before .before .before .pair .ensures .1 fs) in
     let h : (fs : Known) → x fs ≡ fine = λ fs. fine-upto (c .before .before .before .before .before .pair .result) mid (x fs) (c .before .before .before .before .before .pair .ensures .0 fs) (c .before .before .before .r .given .1) in
     can-compare (s nothingKnown) program (a .at) (a .from) (a .next) mid (c .before .before .before .before .before .before .before .before .before .before .pre .0) _ _ (b nothingKnown) (h nothingKnown)
 
--- src/lib.rt:793:9
 returns-2 : tie.Need-returns-2
 unfolding wantedOf checkWires checkedPart require
 returns-2 c =
@@ -76,9 +64,8 @@ returns-2 c =
     let b : (fs : Known) → Both (s fs) program (a .at) (a .from) (a .next) mid _ _ = λ fs. two-upto (s fs) program (a .at) (a .from) (a .next) (c .before .before .before .before .before .before .before .pair .result) _ _ mid (c .before .before .before .before .before .r .given .1) (c .before .before .before .before .before .before .before .pair .ensures .1 fs) in
     let h : (fs : Known) → x fs ≡ fine = λ fs. fine-upto (c .before .before .before .before .before .before .before .pair .result) mid (x fs) (c .before .before .before .before .before .before .before .pair .ensures .0 fs) (c .before .before .before .before .before .r .given .1) in
     λ fs. sym (part-goes (c .before .before .before .before .before .before .before .pair .result) (x fs) (c .before .before .before .before .before .before .before .pair .ensures .0 fs) mid (y fs) (c .before .before .before .before .before .r .given .1)
-        ∙ ap (λ (t : Bool). require 35 (a .at) (not t)) (sym (twice-is (s fs) program (a .at) (a .from) (a .next) mid (c .before .before .before .before .before .before .before .before .before .before .before .before .pre .0) _ _ (b fs) (h fs)) ∙ sym (c .before .same-wire .ensures) ∙ c .if1 .taken))
+    ∙ ap (λ (t : Bool). require 35 (a .at) (not t)) (sym (twice-is (s fs) program (a .at) (a .from) (a .next) mid (c .before .before .before .before .before .before .before .before .before .before .before .before .pre .0) _ _ (b fs) (h fs)) ∙ sym (c .before .same-wire .ensures) ∙ c .if1 .taken))
 
--- src/lib.rt:758:1
 returns-3 : tie.Need-returns-3
 unfolding wantedOf checkWires checkedPart require
 returns-3 c =
@@ -92,7 +79,7 @@ returns-3 c =
     let b : (fs : Known) → Both (s fs) program (a .at) (a .from) (a .next) mid _ _ = λ fs. two-upto (s fs) program (a .at) (a .from) (a .next) (c .before .before .before .before .before .before .before .pair .result) _ _ mid (c .before .before .before .before .before .r .given .1) (c .before .before .before .before .before .before .before .pair .ensures .1 fs) in
     let h : (fs : Known) → x fs ≡ fine = λ fs. fine-upto (c .before .before .before .before .before .before .before .pair .result) mid (x fs) (c .before .before .before .before .before .before .before .pair .ensures .0 fs) (c .before .before .before .before .before .r .given .1) in
     λ fs. sym (part-goes (c .before .before .before .before .before .before .before .pair .result) (x fs) (c .before .before .before .before .before .before .before .pair .ensures .0 fs) mid (y fs) (c .before .before .before .before .before .r .given .1)
-        ∙ ap (λ (t : Bool). require 35 (a .at) (not t)) (sym (twice-is (s fs) program (a .at) (a .from) (a .next) mid (c .before .before .before .before .before .before .before .before .before .before .before .before .pre .0) _ _ (b fs) (h fs)) ∙ sym (c .before .same-wire .ensures) ∙ c .if1 .left))
+    ∙ ap (λ (t : Bool). require 35 (a .at) (not t)) (sym (twice-is (s fs) program (a .at) (a .from) (a .next) mid (c .before .before .before .before .before .before .before .before .before .before .before .before .pre .0) _ _ (b fs) (h fs)) ∙ sym (c .before .same-wire .ensures) ∙ c .if1 .left))
 
 pub two-wires-spec : {M : Type 1} → statement M
 two-wires-spec =

@@ -1,7 +1,6 @@
+-- `forms::same` meets its contract. Assumes nothing.
 use Rattle.forms.proofs.same.Statement.{statement}
 use Rattle.forms.proofs.same.Tie as tie
-use Rattle.forms.proofs.same.Reads as reads
-use Rattle.forms.proofs.same.Lts as lts
 use borrow.Author.Needs.{needs}
 use native.Mathlib.Omega.{arith}
 use mathlib.Core.Path.{_≡_, refl, sym, ap, _∙_}
@@ -14,7 +13,6 @@ use Rattle.language.proofs.Integers.{range-fits, bits-eq}
 use Rattle.language.specs.Form.{sameNumbers}
 use Rattle.forms.proofs.Lists.{each-at, ranges, number-same, number-other, pair-good, pair-bad, pair-none, same-flat}
 
-
 abbrev Inv-loop : tie.InvT-loop
 Inv-loop f g i₀ i =
     (i ≤ 13) × (sameNumbers f g ≡ sameNumbers (drop i f) (drop i g))
@@ -23,32 +21,26 @@ abbrev μ-loop : tie.MeasureT-loop
 μ-loop f g i₀ i =
     13 - i
 
--- src/lib.rt:210:5
 loop-holds : tie.Need-loop-holds Inv-loop μ-loop
 loop-holds c =
     (omega arith, refl)
 
--- src/lib.rt:211:17
 mul-x : tie.Need-mul-x Inv-loop μ-loop
 mul-x c =
     search needs
 
--- src/lib.rt:211:17
 element-copy-out-x : tie.Need-element-copy-out-x Inv-loop μ-loop
 element-copy-out-x c =
     search needs
 
--- src/lib.rt:212:17
 mul-if1 : tie.Need-mul-if1 Inv-loop μ-loop
 mul-if1 c =
     search needs
 
--- src/lib.rt:212:17
 element-copy-out-if1 : tie.Need-element-copy-out-if1 Inv-loop μ-loop
 element-copy-out-if1 c =
     search needs
 
--- src/lib.rt:213:13
 returns : tie.Need-returns Inv-loop μ-loop
 returns c =
     let f = c .before .before .before .before .before .args .f .now in
@@ -60,17 +52,14 @@ returns c =
     let m = b .long in
     sym (sym (same-flat f g a b) ∙ c .before .before .before .before .loop .inv .1 ∙ pair-bad f g i (omega arith) (omega arith) (number-other (λ e. c .if1 .taken (ap (ofZ w64) e))))
 
--- src/lib.rt:215:9
 add-i : tie.Need-add-i Inv-loop μ-loop
 add-i c =
     search needs
 
--- src/lib.rt:210:5
 loop-less : tie.Need-loop-less Inv-loop μ-loop
 loop-less c =
     search needs
 
--- src/lib.rt:210:5
 loop-again : tie.Need-loop-again Inv-loop μ-loop
 loop-again c =
     let f = c .before .before .before .before .before .args .f .now in
@@ -84,7 +73,6 @@ loop-again c =
     let y = each-at ranges g i (omega arith) (b .inside) in
     (omega arith, c .before .before .before .before .loop .inv .1 ∙ rw add-one (pair-good f g i (omega arith) (omega arith) (number-same (bits-eq (range-fits _ x) (range-fits _ y) (c .if1 .left)))))
 
--- src/lib.rt:204:1
 returns-2 : tie.Need-returns-2 Inv-loop μ-loop
 returns-2 c =
     let f = c .before .before .args .f .now in

@@ -7,10 +7,10 @@
 mod paint;
 mod rows;
 
-pub use rows::{numbered, parameters, registers, Rows};
+pub use rows::{named_twice, numbered, parameters, registers, Rows};
 
 use crate::listing::line;
-use crate::operations::{Line, Record, CONDITION_MARKS};
+use crate::operations::{Line, Record, CONDITION_MARKS, TWICE_MARK};
 
 /// The most rows that are drawn.
 pub const MOST_ROWS: usize = 100;
@@ -57,27 +57,41 @@ impl Circuit {
             free: vec![0; count],
         };
         for (number, record) in records.enumerate() {
-            circuit.add(number, &record)?;
+            let gate = circuit.gate(&record).ok_or_else(|| {
+                let line = line(&record);
+                format!("record {number} cannot be drawn, as it is none of a list: {line}")
+            })?;
+            circuit.add(&format!("record {number}"), &gate)?;
         }
         Ok(circuit)
     }
 
-    /// Puts one record into the first column that is free for it.
-    fn add(&mut self, number: usize, record: &Record) -> Result<(), String> {
-        let gate = self.gate(record).ok_or_else(|| {
-            let line = line(record);
-            format!("record {number} cannot be drawn, as it is none of a list: {line}")
-        })?;
+    /// The same circuit, with a mark at its end where a gate names a wire twice.
+    pub fn with_wire_twice(mut self, wire: u16) -> Result<Circuit, String> {
+        if let Some(row) = self.rows.row(Line::Wire, wire) {
+            let mark = Gate {
+                marks: vec![(row, TWICE_MARK.to_string())],
+                top: row,
+                bottom: row,
+                last_wire: row,
+            };
+            self.add(&format!("the mark {TWICE_MARK}"), &mark)?;
+        }
+        Ok(self)
+    }
+
+    /// Puts a gate into the first column that is free for it.
+    fn add(&mut self, what: &str, gate: &Gate) -> Result<(), String> {
         let span = gate.top..=gate.bottom;
         let column = self.free[span.clone()].iter().max().copied().unwrap_or(0);
         if column == MOST_COLUMNS {
             return Err(format!(
-                "record {number} needs a further column, and a drawing has at most {MOST_COLUMNS}: \
+                "{what} needs a further column, and a drawing has at most {MOST_COLUMNS}: \
                  choose smaller sizes, draw the first steps only with --limit, or use 'mqasm list'"
             ));
         }
         self.free[span].fill(column + 1);
-        self.put(column, &gate);
+        self.put(column, gate);
         Ok(())
     }
 

@@ -9,6 +9,8 @@ use crate::tool::family_field;
 
 /// The most characters of a name that a label shows.
 const MOST_NAME: usize = 16;
+/// The most characters of the label of a wire that a gate names twice.
+const MOST_LABEL: usize = 35;
 
 /// The labels of the rows: qubits first, then bits.
 #[derive(Default)]
@@ -99,6 +101,27 @@ pub fn parameters(fields: &[Field], family: u32, sizes: &[u32]) -> Rows {
         }
     }
     rows
+}
+
+/// The row of the wire that a gate names twice: as the program writes it, or both ways.
+pub fn named_twice(gate: &Field, scope: &Scope) -> Rows {
+    let operands = gate.operands().map(|operand| written(operand, scope));
+    let mut spellings: Vec<String> = operands.collect();
+    spellings.dedup();
+    Rows {
+        wires: vec![clipped(&spellings.join(" = "), MOST_LABEL)],
+        bits: Vec::new(),
+    }
+}
+
+/// A wire as the program writes it, with its name cut where that is long.
+fn written(operand: &Field, scope: &Scope) -> String {
+    let name = scope.operand_name(usize::from(operand.head[0]));
+    let name = clipped(&name, MOST_NAME);
+    match operand.parts.first() {
+        None => name,
+        Some(index) => format!("{name}[{}]", scope.index(index)),
+    }
 }
 
 /// The rows that records name, by number.

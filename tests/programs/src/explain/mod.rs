@@ -3,14 +3,16 @@
 mod below;
 mod kinds;
 mod locate;
+mod same_wire;
 mod shape;
 mod showing;
+
+pub use locate::locate;
 
 use crate::field::Field;
 use crate::print::join;
 use crate::scope::{parameter_name, parameter_types, variable_name};
 use crate::tool::{family_field, size_example, size_names, Loaded, Options};
-use locate::locate;
 use reference::{Outcome, RECORD_BYTES};
 
 /// The most bytes that a program may have.
@@ -43,6 +45,7 @@ pub fn explain(program: &Loaded, options: &Options, outcome: &Outcome) -> Option
         },
         9 => kinds::wrong_kind(&locate(&program.fields, place)?),
         12 => showing::not_shown(&locate(&program.fields, place)?),
+        35 => same_wire::named_twice(program, &locate(&program.fields, place)?, place),
         number => shape::misshapen(&locate(&program.fields, place)?, number),
     }
 }

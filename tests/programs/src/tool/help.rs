@@ -101,6 +101,11 @@ A family that is passed must have as many sizes and operands as the type of the
 parameter says, and operands of the same kinds, which take no more cells than
 the type gives them, whatever the sizes are. It must be declared before the
 family that it is passed to.
+
+A cx or cphase whose operands are the same wire can never run, and is refused
+wherever it stands, as cx a, a; or cx x[n+1], x[1+n]; where the indexes are only
+spelled differently. Where operands come to be one wire in a run, by what a call
+passes or by the values of their indexes, the run ends with 25 instead.
 ";
 
 /// The options that list, qasm and draw share.
@@ -157,6 +162,8 @@ has at most 100 rows and 300 columns.
   P(3)   phase with k = 3      P†(3)   its inverse, phasedg
   ●P(3)  cphase with k = 3     ●P†(3)  its inverse, cphasedg
   ●      on a bit: only if it is 1     ○  only if it is 0
+  ✗      a cx or cphase that names this wire twice. A run ends there; where the
+         check sees it, the program is refused, and only this wire is drawn.
 
   --width COLUMNS         how wide the drawing may be (100); the rest follows
                           below, block by block

@@ -2,6 +2,7 @@
 //! and draw programs.
 
 mod asked;
+mod drawings;
 mod help;
 mod input;
 mod options;
@@ -14,14 +15,12 @@ pub use options::{options, Command, Options};
 pub(crate) use sizes::{example as size_example, family_field, size_names};
 pub use sizes::{in_order as sizes_in_order, size_bytes};
 
-use crate::draw::{self, Circuit};
 use crate::explain::explain;
-use crate::listing::{end_line, written};
 use crate::names::clipped;
 use crate::numbers::{meaning, version};
 use crate::{disassemble, listing, Assembled};
 use asked::Asked;
-use input::{assemble_file, read_bytes, read_list, read_records, shown};
+use input::{assemble_file, read_bytes, shown};
 use options::Holds;
 use reference::Outcome;
 use std::ffi::OsString;
@@ -138,9 +137,9 @@ fn work(command: Command, options: &Options, input: &mut dyn Read) -> Answer<Don
         Command::List => list(options, input),
         Command::Qasm => qasm(options, input),
         Command::Draw => match options.holds {
-            Holds::Records => draw_records(options, input),
-            Holds::Listing => draw_list(options, input),
-            _ => draw_program(options, input),
+            Holds::Records => drawings::of_records(options, input),
+            Holds::Listing => drawings::of_list(options, input),
+            _ => drawings::of_program(options, input),
         },
     }
 }
@@ -175,56 +174,6 @@ fn qasm(options: &Options, input: &mut dyn Read) -> Answer<Done> {
     match note(&asked.program, options, &outcome) {
         None => done(text),
         Some(note) => unreadable(note),
-    }
-}
-
-/// Draws a run or an instance; a program that is refused has no drawing.
-fn draw_program(options: &Options, input: &mut dyn Read) -> Answer<Done> {
-    let asked = Asked::read(options, input)?;
-    let (outcome, records) = asked.answer(options, reference::run, reference::instance);
-    let mut drawing = String::new();
-    if !matches!(outcome.number, 1..=23 | 31 | 33 | 34) {
-        let fields = &asked.program.fields;
-        let rows = match asked.family {
-            None => draw::registers(fields),
-            Some(number) => draw::parameters(fields, number, &asked.sizes),
-        };
-        drawing = drawn(options, rows, written(&records, &outcome))?;
-    }
-    Ok(Done {
-        content: (drawing + &end_line(&outcome)).into_bytes(),
-        note: note(&asked.program, options, &outcome),
-    })
-}
-
-/// Draws records as the library writes them.
-fn draw_records(options: &Options, input: &mut dyn Read) -> Answer<Done> {
-    let records = read_records(&options.file, input)?;
-    let rows = draw::numbered(&records);
-    done(drawn(options, rows, records.into_iter())?)
-}
-
-/// Draws the lines of a list.
-fn draw_list(options: &Options, input: &mut dyn Read) -> Answer<Done> {
-    let (records, number) = read_list(&options.file, input)?;
-    let rows = draw::numbered(&records);
-    let spoken = || format!("the list ended with {number}: {}", meaning(number));
-    Ok(Done {
-        content: drawn(options, rows, records.into_iter())?.into_bytes(),
-        note: (number != 0).then(|| format!("{}: {}", shown(&options.file), spoken())),
-    })
-}
-
-/// A drawing, or why there is none.
-fn drawn(
-    options: &Options,
-    rows: draw::Rows,
-    records: impl Iterator<Item = crate::operations::Record>,
-) -> Answer<String> {
-    let file = shown(&options.file);
-    match Circuit::of(rows, records) {
-        Ok(circuit) => Ok(circuit.text(options.width)),
-        Err(message) => unreadable(format!("{file}: {message}")),
     }
 }
 

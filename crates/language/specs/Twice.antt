@@ -1,0 +1,242 @@
+-- A gate that uses one wire twice: what 35 is about, and what it changes. The laws are stated here; proofs/Twice, proofs/Unchanged and proofs/Caught prove them.
+use mathlib.Core.Path.{_≡_}
+use mathlib.Core.Logic.{_⊎_}
+use mathlib.Core.List.{List, [], _∷_}
+use mathlib.Core.Bool.{true, not}
+use Prim.Native.Nat.{ℕ, suc, _≤_}
+use lib.IntN.{ℤ}
+use lib.Dec.{leb, ltb}
+use lib.ListN.{length}
+use Rattle.language.specs.Limits.{longestProgram, mostFamilies, mostVariables, mostLoops}
+use Rattle.language.specs.Tree.{Place, Refusal, Ending, Number, Index, Operand, whole, element, ParameterType}
+use Rattle.language.specs.Tree.{Statement, Statements, gate, cx, phase, cphase, call, callParameter, reverse, for, badStatement, nil, cons}
+use Rattle.language.specs.Tree.{Top, family, qreg, creg, measure, reset, if, statement, badTop}
+use Rattle.language.specs.Read.{read}
+use Rattle.language.specs.Form.{Form, sameNumber, sameNumbers, sameForm}
+use Rattle.language.specs.Check.{Checked, good, refused, _>>=_, _>>_, fine, require, Kind, Scope, wire, bit, formOf, checkNatural, checkOperand, checkTwo, sameWire, checkBounds, inLoop, checkStatement}
+use Rattle.language.specs.Check.{Declared, topScope, checkCounts, kindsOf, familyScope, withFamily, checkTop, checkTops, nothingDeclared}
+use Rattle.language.specs.Machine as M
+use Rattle.language.specs.Machine.{Frame, State, Outcome, Family, runStatement}
+use Rattle.language.specs.Result.{checkProgram}
+
+-- ---- equal forms
+
+-- each test is true of what is equal, and of nothing else
+abbrev pub SameNumberLaw : Type 0
+SameNumberLaw = (x y : ℤ) → sameNumber x y ≡ true → x ≡ y
+
+abbrev pub NumberItselfLaw : Type 0
+NumberItselfLaw = (x : ℤ) → sameNumber x x ≡ true
+
+abbrev pub SameNumbersLaw : Type 0
+SameNumbersLaw = (xs ys : List ℤ) → sameNumbers xs ys ≡ true → xs ≡ ys
+
+abbrev pub NumbersItselfLaw : Type 0
+NumbersItselfLaw = (xs : List ℤ) → sameNumbers xs xs ≡ true
+
+abbrev pub SameFormLaw : Type 0
+SameFormLaw = (f g : Form) → sameForm f g ≡ true → f ≡ g
+
+abbrev pub FormItselfLaw : Type 0
+FormItselfLaw = (f : Form) → sameForm f f ≡ true
+
+-- an index that has forms in two scopes has the same one
+abbrev pub FormSameLaw : Type 0
+FormSameLaw = (s t : Scope) (i : Index) (f g : Form) → formOf s i ≡ good f → formOf t i ≡ good g → f ≡ g
+
+-- ---- two operands that are one wire
+
+-- they have one number, and both are whole, or both are elements whose indexes have one form
+pub data OneWire (s : Scope) : (first second : Operand) → Type 0 where
+  wholes : {p q : Place} {n : ℕ} {e d : Ending} → OneWire s (whole p n e) (whole q n d)
+  elements : {p q : Place} {n : ℕ} {i j : Index} {e d : Ending} (f : Form) → formOf s i ≡ good f → formOf s j ≡ good f → OneWire s (element p n i e) (element q n j d)
+
+abbrev pub SameWireLaw : Type 0
+SameWireLaw = (s : Scope) (c o : Operand) → (sameWire s c o ≡ true → OneWire s c o) × (OneWire s c o → sameWire s c o ≡ true)
+
+-- ---- why 35 is right: such a gate never writes its record
+
+-- the statement is a cx or a cphase at p on these operands
+pub data ActsOn : Statement → Place → (control target : Operand) → Type 0 where
+  byCx : {p : Place} {c o : Operand} {e : Ending} → ActsOn (cx p c o e) p c o
+  byCphase : {p : Place} {k : Index} {c o : Operand} {e : Ending} → ActsOn (cphase p k c o e) p c o
+
+-- a scope has no more index variables and loops than there may be
+abbrev pub Bounded : Scope → Type 0
+Bounded s = (s .variables ≤ mostVariables) × (length (s .loops) ≤ mostLoops)
+
+-- one step taken, nothing written
+abbrev pub stepped : State → State
+stepped t = record { records = t .records; steps = suc (t .steps) }
+
+-- a gate at p from t: no step is left, an index is out of range, both operands are one wire, or k or an operand has no meaning
+pub data Never (p : Place) (t : State) : Outcome (Unit {0}) → Type 0 where
+  noStep : Never p t (M.ended 26 p t)
+  outside : Never p t (M.ended 24 p (stepped t))
+  notApart : Never p t (M.ended 25 p (stepped t))
+  noMeaning : Never p t M.stuck
+
+-- whatever it is run under, and whatever its operands mean
+abbrev pub NeverRunsLaw : Type 0
+NeverRunsLaw =
+    (limit room : ℕ) (x : Statement) (p : Place) (c o : Operand) (s : Scope) (fs : List Family) (f : Frame) (t : State)
+    → ActsOn x p c o → Bounded s → sameWire s c o ≡ true → Never p t (runStatement limit room x fs f t)
+
+-- ---- the check before 35: a cx or cphase ends with its leftover bytes, all else is the check's own
+
+unfoldable mutual
+  pub statementBefore : Statement → Scope → Checked (Unit {0})
+  statementBefore (gate p g o e) s = checkStatement (gate p g o e) s
+  statementBefore (cx p c o e) s = checkTwo p s wire c o e
+  statementBefore (phase p k o e) s = checkStatement (phase p k o e) s
+  statementBefore (cphase p k c o e) s = do
+    checkNatural s k
+    checkTwo p s wire c o e
+  statementBefore (call p n more) s = checkStatement (call p n more) s
+  statementBefore (callParameter p n more) s = checkStatement (callParameter p n more) s
+  statementBefore (reverse p ss) s = statementsBefore ss s
+  statementBefore (for p low high ss) s = do
+    require 6 p (ltb (length (s .loops)) mostLoops)
+    loop ← checkBounds s low high
+    statementsBefore ss (inLoop s loop)
+  statementBefore (badStatement n p) s = checkStatement (badStatement n p) s
+
+  pub statementsBefore : Statements → Scope → Checked (Unit {0})
+  statementsBefore nil s = fine
+  statementsBefore (cons x xs) s = do
+    statementBefore x s
+    statementsBefore xs s
+
+unfoldable pub familyBefore : Declared → (variables : ℕ) → List ParameterType → (body : Statements) → Checked (List Kind)
+familyBefore d v types body = do
+  ks ← kindsOf (familyScope d v []) types
+  statementsBefore body (familyScope d v ks)
+  good ks
+
+unfoldable pub topBefore : Top → Declared → Checked Declared
+topBefore (family p variables parameters types body) d = do
+  require 6 p (ltb (length (d .families)) mostFamilies)
+  counts ← checkCounts p variables parameters
+  ks ← familyBefore d (counts .0) types body
+  good (withFamily d (record { variables = counts .0; parameters = ks }))
+topBefore (qreg p size e) d = checkTop (qreg p size e) d
+topBefore (creg p size e) d = checkTop (creg p size e) d
+topBefore (measure p w b e) d = checkTop (measure p w b e) d
+topBefore (reset p w e) d = checkTop (reset p w e) d
+topBefore (if p v b ss) d = do
+  require 13 p (leb v 1)
+  checkOperand (topScope d) bit b
+  statementsBefore ss (topScope d)
+  good d
+topBefore (statement x) d = do
+  statementBefore x (topScope d)
+  good d
+topBefore (badTop n p) d = checkTop (badTop n p) d
+
+unfoldable pub topsBefore : List Top → Declared → Checked Declared
+topsBefore [] d = good d
+topsBefore (x ∷ xs) d = do
+  after ← topBefore x d
+  topsBefore xs after
+
+unfoldable pub programBefore : List ℕ → Checked Declared
+programBefore program = require 1 0 (leb (length program) longestProgram) >> topsBefore (read program) nothingDeclared
+
+-- 35 is the last test of a gate on two wires: what the check before refuses there stays
+abbrev pub LastTestLaw : Type 0
+LastTestLaw = (x : Statement) (p : Place) (c o : Operand) (s : Scope) → ActsOn x p c o → checkStatement x s ≡ (statementBefore x s >> require 35 p (not (sameWire s c o)))
+
+-- ---- where such a gate stands
+
+mutual
+  -- the gate at p, in the statement or being it, acts on operands that are one wire in some scope; which one does not matter, since an index has one form
+  pub data TwiceAt (p : Place) : Statement → Type 0 where
+    here : {x : Statement} {c o : Operand} (s : Scope) → ActsOn x p c o → Bounded s → sameWire s c o ≡ true → TwiceAt p x
+    inReverse : {q : Place} {ss : Statements} → TwiceIn p ss → TwiceAt p (reverse q ss)
+    inFor : {q : Place} {low high : Index} {ss : Statements} → TwiceIn p ss → TwiceAt p (for q low high ss)
+
+  pub data TwiceIn (p : Place) : Statements → Type 0 where
+    first : {x : Statement} {xs : Statements} → TwiceAt p x → TwiceIn p (cons x xs)
+    later : {x : Statement} {xs : Statements} → TwiceIn p xs → TwiceIn p (cons x xs)
+
+pub data TwiceTop (p : Place) : Top → Type 0 where
+  inFamily : {q : Place} {v n : Number} {types : List ParameterType} {body : Statements} → TwiceIn p body → TwiceTop p (family q v n types body)
+  inIf : {q : Place} {v : ℕ} {b : Operand} {ss : Statements} → TwiceIn p ss → TwiceTop p (if q v b ss)
+  inStatement : {x : Statement} → TwiceAt p x → TwiceTop p (statement x)
+
+pub data TwiceTops (p : Place) : List Top → Type 0 where
+  first : {x : Top} {xs : List Top} → TwiceTop p x → TwiceTops p (x ∷ xs)
+  later : {x : Top} {xs : List Top} → TwiceTops p xs → TwiceTops p (x ∷ xs)
+
+-- a program has such a gate at p
+abbrev pub HasTwice : List ℕ → Place → Type 0
+HasTwice program p = TwiceTops p (read program)
+
+-- ---- what 35 changes
+
+-- the answer before, and now: it stays, or becomes 35 at such a gate
+pub data Only (At : Place → Type 0) {A : Type 0} (before : Checked A) : Checked A → Type 0 where
+  stays : Only At before before
+  becomes : {p : Place} → At p → Only At before (refused 35 p)
+
+abbrev pub CheckOnlyLaw : Type 0
+CheckOnlyLaw = (program : List ℕ) → Only (HasTwice program) (programBefore program) (checkProgram program)
+
+-- a program without such a gate has the answer that it had
+abbrev pub CheckSameLaw : Type 0
+CheckSameLaw = (program : List ℕ) → ((p : Place) → HasTwice program p → ⊥) → checkProgram program ≡ programBefore program
+
+-- what is accepted was accepted, with the same declared
+abbrev pub AcceptedBeforeLaw : Type 0
+AcceptedBeforeLaw = (program : List ℕ) (d : Declared) → checkProgram program ≡ good d → programBefore program ≡ good d
+
+-- ---- in reading order
+
+mutual
+  -- the second statement is the first, or goes on where it ends
+  pub data Begins : Statement → Statement → Type 0 where
+    alike : {x : Statement} → Begins x x
+    reverses : {p : Place} {xs ys : Statements} → BeginsIn xs ys → Begins (reverse p xs) (reverse p ys)
+    fors : {p : Place} {low high : Index} {xs ys : Statements} → BeginsIn xs ys → Begins (for p low high xs) (for p low high ys)
+
+  pub data BeginsIn : Statements → Statements → Type 0 where
+    none : {ys : Statements} → BeginsIn nil ys
+    last : {x y : Statement} {ys : Statements} → Begins x y → BeginsIn (cons x nil) (cons y ys)
+    next : {x : Statement} {xs ys : Statements} → BeginsIn xs ys → BeginsIn (cons x xs) (cons x ys)
+
+pub data BeginsTop : Top → Top → Type 0 where
+  alike : {x : Top} → BeginsTop x x
+  families : {p : Place} {v n : Number} {types : List ParameterType} {xs ys : Statements} → BeginsIn xs ys → BeginsTop (family p v n types xs) (family p v n types ys)
+  ifs : {p : Place} {v : ℕ} {b : Operand} {xs ys : Statements} → BeginsIn xs ys → BeginsTop (if p v b xs) (if p v b ys)
+  statements : {x y : Statement} → Begins x y → BeginsTop (statement x) (statement y)
+
+pub data BeginsTops : List Top → List Top → Type 0 where
+  none : {ys : List Top} → BeginsTops [] ys
+  last : {x y : Top} {ys : List Top} → BeginsTop x y → BeginsTops (x ∷ []) (y ∷ ys)
+  next : {x : Top} {xs ys : List Top} → BeginsTops xs ys → BeginsTops (x ∷ xs) (x ∷ ys)
+
+-- the first fault is the answer, 35 among them: whatever stands after it is hidden
+abbrev pub LaterHiddenLaw : Type 0
+LaterHiddenLaw = (xs ys : List Top) (d : Declared) (n : Refusal) (p : Place) → BeginsTops xs ys → checkTops xs d ≡ refused n p → checkTops ys d ≡ refused n p
+
+-- so a fault before which there is no such gate stays
+abbrev pub EarlierStaysLaw : Type 0
+EarlierStaysLaw =
+    (xs ys : List Top) (d : Declared) (n : Refusal) (p : Place) → BeginsTops xs ys → ((q : Place) → TwiceTops q xs → ⊥) → topsBefore xs d ≡ refused n p
+    → checkTops ys d ≡ refused n p
+
+-- ---- every such gate is caught
+
+-- a program that has one is not accepted, wherever the gate stands
+abbrev pub CaughtLaw : Type 0
+CaughtLaw = (program : List ℕ) (p : Place) → HasTwice program p → (d : Declared) → checkProgram program ≡ good d → ⊥
+
+-- how it is turned down: with 35 at one of its gates, or as before
+pub record TurnedDown (program : List ℕ) : Type 0 where
+  pub number : Refusal
+  pub place : Place
+  pub is : checkProgram program ≡ refused number place
+  pub how : ((number ≡ 35) × HasTwice program place) ⊎ (programBefore program ≡ refused number place)
+
+abbrev pub TwiceRefusedLaw : Type 0
+TwiceRefusedLaw = (program : List ℕ) (p : Place) → HasTwice program p → TurnedDown program
