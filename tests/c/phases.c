@@ -3,14 +3,10 @@
 #include "answers.h"
 #include "build.h"
 #include "expect.h"
+#include "tags.h"
 #include <metaqasm.h>
 
 #define QUBITS 2
-#define PHASE 40
-#define CPHASE 41
-#define REVERSE 37
-#define FOR 38
-#define DIFFERENCE 67
 #define LIMIT 100
 #define MARK 0xA5
 #define FIRST 5       /* where the first statement is, behind the qreg */

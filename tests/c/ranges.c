@@ -3,15 +3,11 @@
 #include "answers.h"
 #include "build.h"
 #include "expect.h"
+#include "tags.h"
 #include <metaqasm.h>
 
-#define H 32
-#define FOR 38
-#define ELEMENT 49
 #define LITERAL 64
 #define VARIABLE 65
-#define DIFFERENCE 67
-#define PRODUCT 68
 #define LIMIT 100
 #define MARK 0xA5
 #define N 0 /* the number of the family's index variable */

@@ -3,26 +3,9 @@
 #include "answers.h"
 #include "build.h"
 #include "expect.h"
+#include "tags.h"
 #include <metaqasm.h>
 
-#define FAMILY 1
-#define QREG 2
-#define CREG 3
-#define IF 6
-#define QBIT 16
-#define QBITS 17
-#define H 32
-#define CX 35
-#define CALL 36
-#define REVERSE 37
-#define FOR 38
-#define CPHASE 41
-#define WHOLE 48
-#define ELEMENT 49
-#define SLICE 50
-#define SUM 66
-#define DIFFERENCE 67
-#define PRODUCT 68
 #define LIMIT 1000
 #define MARK 0xA5
 #define CELLS 3       /* of the qreg at the top */
