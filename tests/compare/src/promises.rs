@@ -122,7 +122,7 @@ fn written(each: usize, count: u64, buffer: &[u8]) -> Option<&[u8]> {
 /// Whether a number is one of those that have a meaning for the call.
 fn known(question: &Question, outcome: &TextOutcome) -> bool {
     match outcome.number {
-        0..=13 | 31 | 33 => true,
+        0..=13 | 31 | 33 | 35 => true,
         20..=23 | 34 => matches!(question.call, Call::Instance { .. }),
         24..=27 | 32 => question.call != Call::Check,
         30 => prints(question),

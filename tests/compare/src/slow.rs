@@ -137,6 +137,18 @@ fn parameter_calls_in_eight_loops(calls: usize) -> Vec<Field> {
     vec![called, family(4, types, body)]
 }
 
+/// A family of 4 index variables that has so many times two gates inside 8 loops from 0 to 0,
+/// each on two elements of its register: the forms of the first gate differ in nothing but the
+/// coefficient of the last variable, those of the second in nothing but the constant.
+fn pairs_in_eight_loops(times: usize) -> Vec<Field> {
+    let (none, one) = (|| at(0, 0), at(0, 1));
+    let last = element(0, variable(11));
+    let both = vec![cx(none(), last), cx(none(), one)];
+    let around = |inside, _| vec![repeat(literal(0), literal(0), inside)];
+    let body = (0..8).fold(vec![both; times].concat(), around);
+    vec![family(4, vec![qbits(literal(2))], body)]
+}
+
 /// A program of as many statements as fit into one.
 fn full(made: fn(usize) -> Vec<Field>) -> Vec<Field> {
     let bytes = |count| program(&made(count)).len();
@@ -185,6 +197,11 @@ pub fn passed_check() -> Vec<Field> {
 /// The program of calls of a parameter that takes the longest to check for each byte.
 pub fn parameter_check() -> Vec<Field> {
     full(parameter_calls_in_eight_loops)
+}
+
+/// The program of gates on two wires that compares the most numbers for each byte.
+pub fn paired_check() -> Vec<Field> {
+    full(pairs_in_eight_loops)
 }
 
 /// The index 0 as a sum of so many literals, halved at each level.

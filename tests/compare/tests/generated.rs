@@ -4,7 +4,7 @@ use compare::harness::{reference_answer, whole_text};
 use compare::{compared, promises, Call, Question, Tally};
 use generate::build::*;
 use generate::random::Random;
-use generate::targeted::passing;
+use generate::targeted::{passing, twice};
 use generate::{case, libraries, library, Case};
 use reference::RECORD_BYTES;
 use std::collections::BTreeSet;
@@ -22,6 +22,8 @@ compared!(run_text_on_every_change, has_run_text, printed_changes);
 compared!(check_on_every_beginning, has_check, beginnings);
 compared!(all_calls_on_12000_that_pass, has_run, passing_programs);
 compared!(texts_of_2000_that_pass, has_run_text, printed_passing);
+compared!(all_calls_on_12000_of_one_wire, has_run, twice_programs);
+compared!(texts_of_2000_of_one_wire, has_run_text, printed_twice);
 compared!(all_calls_on_200_libraries, has_run, sound_libraries);
 compared!(all_calls_on_300_damaged, has_run, damaged_libraries);
 compared!(texts_of_15_libraries, has_run_text, printed_libraries);
@@ -139,6 +141,24 @@ fn printed_passing(tally: &mut Tally) -> Result<(), String> {
     })
 }
 
+/// A program about one wire twice.
+fn twice_case(seed: u64) -> Case {
+    twice::case(&mut Random::new(seed))
+}
+
+/// Programs about one wire twice, with check, instance and run.
+fn twice_programs(tally: &mut Tally) -> Result<(), String> {
+    every_made(tally, twice_case, 12_000)
+}
+
+/// Some of them with all calls, those that print too.
+fn printed_twice(tally: &mut Tally) -> Result<(), String> {
+    (0..2_000).try_for_each(|seed| {
+        let compared = tally.case(&twice_case(seed));
+        compared.map_err(|message| format!("seed {seed}: {message}"))
+    })
+}
+
 /// A few libraries with all calls, those that print too.
 fn printed_libraries(tally: &mut Tally) -> Result<(), String> {
     (0..15).try_for_each(|seed| tally.case(&libraries::sound(seed)))
@@ -165,7 +185,38 @@ fn small_programs() -> Vec<Vec<u8>> {
     programs.push(program(&slices()));
     programs.push(program(&ranges()));
     programs.push(program(&passed_families()));
+    programs.push(program(&close_pairs()));
     programs
+}
+
+/// Gates on two wires that one byte would make one: whole wires, elements of one register by
+/// sizes and by loops, and the same element of two registers.
+fn close_pairs() -> Vec<Field> {
+    let cell = |register, index| element(register, index);
+    let sides = [
+        cell(1, sum(variable(0), literal(1))),
+        cell(1, sum(literal(2), variable(0))),
+    ];
+    let looped = cx(
+        cell(1, variable(1)),
+        cell(1, difference(plus(1, 1), variable(2))),
+    );
+    let inner = repeat(literal(0), literal(0), vec![looped]);
+    let [one, other] = sides;
+    let types = vec![qbit(), qbits(plus(0, 3)), qbit()];
+    let body = vec![
+        cx(whole(0), whole(2)),
+        cphase(literal(5), one, other),
+        repeat(literal(0), variable(0), vec![inner]),
+    ];
+    let pair = |first, second| cx(at(0, first), at(1, second));
+    vec![
+        family(1, types, body),
+        qreg(3),
+        qreg(3),
+        reverse(vec![pair(1, 1), cphase(literal(9), at(0, 2), at(0, 1))]),
+        call(0, vec![literal(0)], vec![at(0, 0), whole(1), at(0, 1)]),
+    ]
 }
 
 /// A wire, a register and two families as parameters: both are called, with a slice, in a loop

@@ -33,6 +33,7 @@ compared!(the_slowest_check_of_tried_slices, has_check, tried_slices);
 compared!(the_slowest_check_of_family_types, has_check, typed_check);
 compared!(the_slowest_check_of_passes, has_check, passed_check);
 compared!(the_slowest_parameter_calls, has_check, parameter_check);
+compared!(the_slowest_check_of_two_wires, has_check, paired_check);
 compared!(the_slowest_steps, has_run, slowest_steps);
 compared!(
     the_passed_product_of_100_wires,
@@ -505,6 +506,11 @@ fn passed_check(tally: &mut Tally) -> Result<(), String> {
 /// Checks the program of parameter calls that takes the longest for each byte.
 fn parameter_check(tally: &mut Tally) -> Result<(), String> {
     full_check(tally, &slow::parameter_check())
+}
+
+/// Checks the program of gates on two wires that compares the most numbers for each byte.
+fn paired_check(tally: &mut Tally) -> Result<(), String> {
+    full_check(tally, &slow::paired_check())
 }
 
 /// Runs steps that evaluate an index of 60,000 bytes.

@@ -61,7 +61,7 @@ const LIST: &[Damage] = &[
         "a number that means nothing",
     ),
     (
-        |answer| answer.outcome.number = 35,
+        |answer| answer.outcome.number = 36,
         "a number that means nothing",
     ),
     (
@@ -72,6 +72,7 @@ const LIST: &[Damage] = &[
     (|answer| answer.outcome.number = 4, "counts without a run"),
     (|answer| answer.outcome.number = 31, "counts without a run"),
     (|answer| answer.outcome.number = 33, "counts without a run"),
+    (|answer| answer.outcome.number = 35, "counts without a run"),
     (
         |answer| answer.outcome.length = 1,
         "more text than there is room",

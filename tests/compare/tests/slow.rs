@@ -156,6 +156,33 @@ fn every_pass_shows_eight_differences_in_all_numbers() {
     assert!(fields.len() > 1_300, "{}", fields.len());
 }
 
+/// The statements inside the loops of a program's only family.
+fn statements(fields: &[Field]) -> &[Field] {
+    let mut inside = &fields[0].parts[1..];
+    while let [Field { tag: 38, parts, .. }] = inside {
+        inside = &parts[2..];
+    }
+    inside
+}
+
+#[test]
+fn every_two_wires_differ_in_the_last_coefficient_or_in_the_constant() {
+    let fields = slow::paired_check();
+    hold_full(&fields);
+    let gates = statements(&fields);
+    assert!(gates.len() > 3_000, "{}", gates.len());
+    for (place, gate) in gates.iter().enumerate() {
+        let [first, second] = &gate.parts[..] else {
+            panic!("no gate on two wires: {gate:?}");
+        };
+        assert_eq!((gate.tag, &first.head), (35, &second.head));
+        let [one, other] = [first, second].map(|wire| form(&wire.parts[0]));
+        let differs = |number: &usize| one[*number] != other[*number];
+        let numbers: Vec<usize> = (0..FORM_NUMBERS).filter(differs).collect();
+        assert_eq!(numbers, [[FORM_NUMBERS - 1], [0]][place % 2]);
+    }
+}
+
 #[test]
 fn parameters_are_called_as_families_are() {
     let [called, other] = [slow::parameter_check(), slow::called_check()];

@@ -46,6 +46,7 @@ fn damaged_tree(random: &mut Random) -> Case {
         0..=14 => damage::some_phase(&mut fields, random),
         15..=34 => damage::some_slice(&mut fields, random),
         35..=59 => damage::some_passing(&mut fields, random),
+        60..=69 => damage::some_pair(&mut fields, random),
         _ => damage::tree(&mut fields, random),
     }
     arguments(program(&fields), &families, random)

@@ -1,8 +1,10 @@
 //! Damage: small changes to a program's tree or to its bytes.
 
+mod pairs;
 mod passing;
 mod slices;
 
+pub use pairs::{pair_field, some_pair};
 pub use passing::{passing_field, some_passing};
 pub use slices::{slice_field, some_slice};
 

@@ -9,7 +9,7 @@ use std::ops::Range;
 
 /// All numbers that an input can be turned down with.
 pub fn all_numbers() -> impl Iterator<Item = u32> {
-    (1..=13).chain(20..=27).chain(31..=34)
+    (1..=13).chain(20..=27).chain(31..=35)
 }
 
 /// All ops that a record can have.

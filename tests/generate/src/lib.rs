@@ -11,6 +11,7 @@ pub mod linear;
 pub mod random;
 pub mod read;
 pub mod shapes;
+pub mod spelling;
 pub mod targeted;
 pub mod texts;
 pub mod typed;

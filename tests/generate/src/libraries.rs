@@ -29,13 +29,15 @@ pub fn sound(seed: u64) -> Case {
     arguments(program(&written.fields), &written.families, &mut random)
 }
 
-/// A library with one damaged call, with damage to what is passed or, less often, any other.
+/// A library with one damaged call, with damage to what is passed, to a gate on two wires or,
+/// less often, any other.
 pub fn damaged(seed: u64) -> Case {
     let mut random = Random::new(seed);
     let mut written = written(&mut random);
     match random.below(100) {
         0..=59 => damage::some_call(&mut written.fields, &mut random),
-        60..=84 => damage::some_passing(&mut written.fields, &mut random),
+        60..=79 => damage::some_passing(&mut written.fields, &mut random),
+        80..=88 => damage::some_pair(&mut written.fields, &mut random),
         _ => damage::tree(&mut written.fields, &mut random),
     }
     arguments(program(&written.fields), &written.families, &mut random)

@@ -164,6 +164,25 @@ impl Parameters {
         }
     }
 
+    /// The same, with a wire more where there is only one.
+    fn two_or_more(self) -> Parameters {
+        match self {
+            Wires(1) => Wires(2),
+            others => others,
+        }
+    }
+
+    /// Two wires, with indexes of 16 levels where they are of one register: its first and its
+    /// last.
+    fn two_wires(self) -> [Field; 2] {
+        match self {
+            Wires(_) => [whole(0), whole(1)],
+            Registers { .. } | Slices { .. } => {
+                [left_deep(), last_deep()].map(|index| element(0, index))
+            }
+        }
+    }
+
     /// A parameter as it is passed on: all of it.
     fn passed(self, number: u8) -> Field {
         match (self, number) {
@@ -365,24 +384,30 @@ impl Shape {
     /// with a number of one byte and of two, in a cx and in phases; and in the type of a
     /// family parameter and its call.
     pub fn deepest_indexes(&self) -> Vec<Field> {
+        let parameters = self.parameters.two_or_more();
+        let shape = Shape {
+            parameters,
+            ..*self
+        };
         let small = family(1, vec![qbit()], vec![]);
         let mut fields = vec![small; 256];
-        fields.push(self.family(vec![]));
-        let wire = |index| self.parameters.wire(index);
+        fields.push(shape.family(vec![]));
+        let wire = |index| parameters.wire(index);
+        let [first, last] = parameters.two_wires();
         let mut statements = vec![
             call(255, vec![right_deep()], vec![wire(left_deep())]),
-            self.deep_call(256),
-            cx(wire(left_deep()), wire(right_deep())),
+            shape.deep_call(256),
+            cx(first.clone(), last.clone()),
             phase(right_deep(), wire(left_deep())),
-            cphase(left_deep(), wire(left_deep()), wire(right_deep())),
+            cphase(left_deep(), first, last),
         ];
-        if self.passes {
-            let (formal, inner) = self.deep_parameter(self.parameters.count());
+        if shape.passes {
+            let (formal, inner) = shape.deep_parameter(parameters.count());
             statements.push(inner);
-            fields.push(self.taking(formal, statements));
+            fields.push(shape.taking(formal, statements));
             return fields;
         }
-        fields.push(self.family(statements));
+        fields.push(shape.family(statements));
         fields
     }
 }
@@ -395,4 +420,9 @@ fn left_deep() -> Field {
 /// The index 0 as a sum of 16 levels to the right.
 fn right_deep() -> Field {
     (1..16).fold(literal(0), |inner, _| sum(literal(0), inner))
+}
+
+/// The last index of a register of n + 1 wires, as such a sum.
+fn last_deep() -> Field {
+    (1..16).fold(variable(0), |inner, _| sum(literal(0), inner))
 }

@@ -4,6 +4,7 @@ pub mod passing;
 mod phases;
 pub mod ranges;
 mod slices;
+pub mod twice;
 
 use crate::build::*;
 use crate::case::Case;
@@ -64,6 +65,7 @@ pub fn case(random: &mut Random) -> Case {
         0 => random.pick(&LONG_WRITERS)(random),
         1..=7 => ranges::case(random),
         8..=15 => passing::case(random),
+        16..=20 => twice::case(random),
         _ => random.pick(&WRITERS)(random),
     }
 }

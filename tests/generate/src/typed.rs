@@ -388,7 +388,8 @@ impl Writer<'_> {
         self.near_misses && self.random.below(2_000) == 0
     }
 
-    /// Writes two wires that are mostly different, if they are found.
+    /// Writes two wires that are mostly different, if they are found; they have the same
+    /// number and index as a near miss only.
     fn pair(&mut self, scope: &Scope) -> Option<[Field; 2]> {
         let first = self.choose(scope)?;
         let found = (0..LOOKS)
@@ -396,10 +397,18 @@ impl Writer<'_> {
             .find(|other| apart(&first, other));
         let second = match found {
             Some(second) => second,
-            None if self.random.percent(10) => self.choose(scope)?,
+            None if self.misses() => first,
+            None if self.random.percent(10) => self.other(scope, &first)?,
             None => return None,
         };
         Some([first, second].map(|wire| self.chosen(wire)))
+    }
+
+    /// Chooses a wire with another number or index, if one is found; it may be the same wire.
+    fn other(&mut self, scope: &Scope, first: &Chosen) -> Option<Chosen> {
+        (0..LOOKS)
+            .filter_map(|_| self.choose(scope))
+            .find(|chosen| chosen != first)
     }
 
     /// Writes an operand that is one bit, if there is one.

@@ -286,13 +286,13 @@ impl Scope<'_> {
             32 => self.gate(Gate::H, content)?,
             33 => self.gate(Gate::T, content)?,
             34 => self.gate(Gate::Tdg, content)?,
-            35 => self.cx(content)?,
+            35 => self.cx(content, place)?,
             36 => self.family_call(u16::from(content.byte()?), content, place)?,
             37 => Action::Reverse(self.statements(content, depth + 1)?),
             38 => self.open_loop(content, place, depth)?,
             39 => self.family_call(far_family(content, place)?, content, place)?,
             40 => self.phase(content)?,
-            41 => self.cphase(content)?,
+            41 => self.cphase(content, place)?,
             _ => self.parameter_call(content, place)?,
         };
         Ok(Statement { place, action })
@@ -306,10 +306,8 @@ impl Scope<'_> {
     }
 
     /// Reads the operands of a cx.
-    fn cx(&self, content: &mut Content) -> Result<Action, Refusal> {
-        let control = self.wire(content)?;
-        let target = self.wire(content)?;
-        content.end()?;
+    fn cx(&self, content: &mut Content, place: u32) -> Result<Action, Refusal> {
+        let [control, target] = self.two_wires(content, place)?;
         Ok(Action::Cx(control, target))
     }
 
@@ -322,11 +320,9 @@ impl Scope<'_> {
     }
 
     /// Reads the part of a turn and the operands of a cphase.
-    fn cphase(&self, content: &mut Content) -> Result<Action, Refusal> {
+    fn cphase(&self, content: &mut Content, place: u32) -> Result<Action, Refusal> {
         let (k, _) = self.natural(content)?;
-        let control = self.wire(content)?;
-        let target = self.wire(content)?;
-        content.end()?;
+        let [control, target] = self.two_wires(content, place)?;
         let cphase = Cphase { k, control, target };
         Ok(Action::Cphase(Box::new(cphase)))
     }

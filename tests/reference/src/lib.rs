@@ -10,6 +10,7 @@ mod form;
 mod index;
 mod machine;
 mod operand;
+mod pair;
 mod showing;
 mod text;
 mod tree;

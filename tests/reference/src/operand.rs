@@ -49,9 +49,20 @@ impl Family {
     }
 }
 
+/// A wire that has been typed: its operand and, for an element, the form of its index.
+pub struct TypedWire {
+    pub operand: WireOperand,
+    pub form: Option<Form>,
+}
+
 impl Scope<'_> {
     /// Reads an operand that must be a wire.
     pub fn wire(&self, content: &mut Content) -> Result<WireOperand, Refusal> {
+        Ok(self.typed_wire(content)?.operand)
+    }
+
+    /// The same with the form of its index.
+    pub fn typed_wire(&self, content: &mut Content) -> Result<TypedWire, Refusal> {
         self.as_wire(self.operand(content, None)?)
     }
 
@@ -77,19 +88,25 @@ impl Scope<'_> {
     ) -> Result<Argument, Refusal> {
         let operand = self.operand(content, Some(called))?;
         match wanted {
-            Wanted::Wire => Ok(Argument::Wire(self.as_wire(operand)?)),
+            Wanted::Wire => Ok(Argument::Wire(self.as_wire(operand)?.operand)),
             Wanted::Wires(asked) => self.as_register(operand, asked, forms),
             Wanted::Family(formal) => self.as_family(operand, formal),
         }
     }
 
     /// Types an operand that must be a wire.
-    fn as_wire(&self, Operand { place, named }: Operand) -> Result<WireOperand, Refusal> {
+    fn as_wire(&self, Operand { place, named }: Operand) -> Result<TypedWire, Refusal> {
         match named {
-            Named::Whole(number, Kind::Wire) => Ok(WireOperand::Whole(number)),
+            Named::Whole(number, Kind::Wire) => Ok(TypedWire {
+                operand: WireOperand::Whole(number),
+                form: None,
+            }),
             Named::Element(number, Kind::Wires(size), (index, form)) => {
                 self.inside(&form, size, place)?;
-                Ok(WireOperand::Element(number, index))
+                Ok(TypedWire {
+                    operand: WireOperand::Element(number, index),
+                    form: Some(form),
+                })
             }
             _ => refuse(9, place),
         }

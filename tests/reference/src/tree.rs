@@ -82,6 +82,15 @@ pub enum WireOperand {
     Element(u8, Index),
 }
 
+impl WireOperand {
+    /// The number of the operand.
+    pub fn number(&self) -> u8 {
+        match self {
+            WireOperand::Whole(number) | WireOperand::Element(number, _) => *number,
+        }
+    }
+}
+
 /// An operand that stands for one bit.
 pub struct BitOperand(pub u8, pub Index);
 

@@ -185,6 +185,7 @@ fn checks() -> Vec<Workload> {
         Workload::check("check, family types", &slow::typed_check()),
         Workload::check("check, passed families", &slow::passed_check()),
         Workload::check("check, parameter calls", &slow::parameter_check()),
+        Workload::check("check, two wires", &slow::paired_check()),
     ]
 }
 

@@ -2,13 +2,14 @@
 //!
 //! Use: `compare [FIRST_SEED [COUNT]]`. It holds both to the recorded answers
 //! and asks them about a range of generated programs, as many about families as
-//! arguments and as many showings of forms, and for every hundredth seed about two
-//! libraries of many families. It fails where an archive lacks a call.
+//! arguments, as many about one wire twice and as many showings of forms, and for
+//! every hundredth seed about two libraries of many families. It fails where an
+//! archive lacks a call.
 
 use compare::recorded::{recorded, showings};
 use compare::{library, showing, Tally};
 use generate::random::Random;
-use generate::targeted::passing;
+use generate::targeted::{passing, twice};
 use generate::{forms, libraries, Case};
 use std::io::Write;
 use std::process::ExitCode;
@@ -80,6 +81,11 @@ fn passing_case(seed: u64) -> Case {
     passing::case(&mut Random::new(seed))
 }
 
+/// A program about one wire twice.
+fn twice_case(seed: u64) -> Case {
+    twice::case(&mut Random::new(seed))
+}
+
 /// Compares everything and prints what was counted.
 fn compare_all() -> Result<(), String> {
     let (first, last) = seeds()?;
@@ -95,6 +101,7 @@ fn compare_all() -> Result<(), String> {
     let some = || all().step_by(LIBRARY_SEEDS);
     compare_made("generated programs", generate::case, Tally::case, all())?;
     compare_made("that pass families", passing_case, Tally::case, all())?;
+    compare_made("of one wire twice", twice_case, Tally::case, all())?;
     compare_made("generated showings", forms::showing, Tally::showing, all())?;
     compare_made("libraries", libraries::sound, Tally::case, some())?;
     compare_made("damaged libraries", libraries::damaged, Tally::case, some())

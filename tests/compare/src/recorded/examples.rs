@@ -48,6 +48,11 @@ const DOWN_REVERSED: &str = "01 3a 00 01 01 11 04 00 41 01 00 00 25 2e 00 \
 pub(super) const ONE_WIRE: &str = "02 02 00 01 00 \
     23 12 00 31 06 00 00 40 02 00 00 00 31 06 00 00 40 02 00 00 00";
 
+/// One qubit, for i=0..0 cx(q[i],q[0]), which stands at 18.
+pub(super) const ONE_IN_A_ROUND: &str = "02 02 00 01 00 \
+    26 1e 00 40 02 00 00 00 40 02 00 00 00 \
+    23 11 00 31 05 00 00 41 01 00 00 31 06 00 00 40 02 00 00 00";
+
 /// The records of BELL.
 pub(super) const BELL_RECORDS: &str = "01 00 00 00 00 00 00 00 00 00 00 00 \
     04 00 00 00 01 00 00 00 00 00 00 00";
@@ -90,7 +95,8 @@ fn checked() -> Vec<Recorded> {
         row("h(x[n-1-i])", DOWN, 0, 0),
         row("i=0..3, j=0..3, q[i-j] of size 1", DISTANCE, 12, 34),
         row("i=1..n-1, h(x[0]), x:Qbit[n]", FIRST_IN_LOOP, 0, 0),
-        row("cx on one wire is accepted", ONE_WIRE, 0, 0),
+        row("cx on one wire", ONE_WIRE, 35, 5),
+        row("cx on one wire in a round", ONE_IN_A_ROUND, 0, 0),
     ]
 }
 
@@ -142,7 +148,13 @@ fn whole_runs() -> Vec<Recorded> {
             [0, 0, 1, 3],
             "02 00 00 00 00 00 00 00 00 00 00 00",
         ),
-        row("cx on one wire", ONE_WIRE, [25, 5, 0, 1], ""),
+        row("cx on one wire", ONE_WIRE, [35, 5, 0, 0], ""),
+        row(
+            "cx on one wire in a round",
+            ONE_IN_A_ROUND,
+            [25, 18, 0, 3],
+            "",
+        ),
     ]
 }
 

@@ -11,6 +11,7 @@ pub mod showings;
 mod slices;
 mod states;
 mod texts;
+mod twice;
 
 use crate::ask::{ask, untouched, Answer, Call, Question, Who};
 use reference::{Outcome, TextOutcome};
@@ -51,6 +52,7 @@ pub fn recorded() -> Vec<Recorded> {
     rows.extend(slices::rows());
     rows.extend(ranges::rows());
     rows.extend(passing::rows());
+    rows.extend(twice::rows());
     rows.extend(states::rows());
     rows.extend(texts::rows());
     rows

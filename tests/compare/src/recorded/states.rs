@@ -1,6 +1,6 @@
 //! Hand-made calls that are turned down for the state, and what runs write.
 
-use super::examples::{L, ONE_WIRE};
+use super::examples::{L, ONE_IN_A_ROUND, ONE_WIRE};
 use super::{bytes, Recorded};
 
 /// x:Qbit[60000n], nothing in the body.
@@ -119,8 +119,10 @@ fn limits() -> Vec<Recorded> {
         row("L at 3 into 12 bytes", three, [27, 24, 1, 5], h).into_bytes(12),
         run("declarations take no step", "02 02 00 01 00", [0, 0, 0, 0]).limit(0),
         run("an empty reverse takes one", "25 00 00", [26, 0, 0, 0]).limit(0),
-        run("one wire before no room", ONE_WIRE, [25, 5, 0, 1]).into_bytes(0),
-        run("no step before one wire", ONE_WIRE, [26, 5, 0, 0]).limit(0),
+        run("one wire before no room", ONE_IN_A_ROUND, [25, 18, 0, 3]).into_bytes(0),
+        run("no step before one wire", ONE_IN_A_ROUND, [26, 18, 0, 2]).limit(2),
+        run("one wire twice before no step", ONE_WIRE, [35, 5, 0, 0]).limit(0),
+        run("one wire twice before no room", ONE_WIRE, [35, 5, 0, 0]).into_bytes(0),
         run("a refused run", "25 00 00 20", [2, 3, 0, 0]).limit(0),
     ]
 }

@@ -1,6 +1,7 @@
 //! Lists printed as OpenQASM 2.0 text, and calls that print nothing.
 
-use super::examples::{BELL, BELL_RECORDS, FIRST_OF_N, H, L, ONE_WIRE, REVERSED, REVERSED_RECORDS};
+use super::examples::{BELL, BELL_RECORDS, FIRST_OF_N, H, L, ONE_IN_A_ROUND, ONE_WIRE};
+use super::examples::{REVERSED, REVERSED_RECORDS};
 use super::states::{BEHIND, COMMANDS, COMMANDS_RECORDS, FAR, TWO, WIDE};
 use super::{bytes, nested, Recorded};
 
@@ -279,6 +280,7 @@ fn refused() -> Vec<Recorded> {
         (bytes(FIRST_OF_N), 12, 15),
         (bytes("06 01 00 02"), 13, 0),
         (bytes("27 02 00 00 00"), 31, 0),
+        (bytes(ONE_WIRE), 35, 5),
     ];
     let rows = table.into_iter().flat_map(|(program, number, place)| {
         let name = format!("refused with {number}, no room for text");
@@ -314,7 +316,7 @@ fn ended() -> Vec<Recorded> {
         ),
         row("23, no room for text", TWO, most, [23, 12, 0, 0], ""),
         row("24, no room for text", FAR, far, [24, 15, 1, 2], t),
-        run("25, no room for text", ONE_WIRE, [25, 5, 0, 1]),
+        run("25, no room for text", ONE_IN_A_ROUND, [25, 18, 0, 3]),
         row("26, no room for text", L, three, [26, 24, 2, 6], &two).limit(6),
         row("27, no room for text", L, three, [27, 24, 2, 7], &two).into_bytes(35),
         run("26 of a run, no room for text", reset, [26, 5, 0, 0]).limit(0),

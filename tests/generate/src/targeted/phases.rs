@@ -83,13 +83,16 @@ pub fn read(random: &mut Random) -> Case {
     at_top(statement, random)
 }
 
-/// Runs in which several ends are near: no step, no room, one wire twice, k too large.
+/// Runs in which several ends are near: no step, no room, one wire twice, k too large. The
+/// second wire is that of a loop's variable.
 pub fn ended(random: &mut Random) -> Case {
     let k = literal(near(random));
-    let operands = [0, 1].map(|_| at(0, random.below(3) as u16));
-    let statement = gate(k, operands, random);
+    let [first, second] = [0, 1].map(|_| random.below(3) as u16);
+    let operands = [at(0, first), element(0, variable(0))];
+    let inner = gate(k, operands, random);
+    let statement = repeat(literal(second), literal(second), vec![inner]);
     let mut case = at_top(statement, random);
-    case.limit = random.pick(&[0, 1, 2, 3, 10_000]);
+    case.limit = random.pick(&[0, 1, 2, 3, 4, 5, 10_000, 10_000]);
     case.output = random.pick(&[
         0,
         RECORD_BYTES - 1,
@@ -100,7 +103,8 @@ pub fn ended(random: &mut Random) -> Case {
     case
 }
 
-/// Values out of range in k, in an operand or in both, beside a k that is too large.
+/// Values out of range in k, in an operand or in both, beside a k that is too large and one
+/// wire twice.
 pub fn far_values(random: &mut Random) -> Case {
     let big = || product(literal(50_000), variable(0));
     let zero = || difference(big(), big());
@@ -110,17 +114,20 @@ pub fn far_values(random: &mut Random) -> Case {
         2 => big(),
         _ => variable(0),
     };
-    let operands = [0, 1].map(|_| match random.below(3) {
+    let operands = [0, 1].map(|_| match random.below(5) {
         0 => element(0, zero()),
-        wire => at(0, wire as u16 - 1),
+        1 => element(0, sum(variable(1), zero())),
+        2 => element(0, variable(1)),
+        wire => at(0, wire as u16 - 3),
     });
-    let statement = gate(k, operands, random);
-    let types = vec![qbits(literal(2)), qbits(variable(0))];
+    let inner = gate(k, operands, random);
+    let statement = repeat(literal(0), literal(0), vec![inner]);
+    let types = vec![qbits(literal(3)), qbits(variable(0))];
     let body = around(statement, random);
     let number = random.pick(&[0, 1, 63, 64, 40_000, 40_001]);
     let mut case = with(&[family(1, types, body)], &[number]);
     case.output = random.pick(&[0, RECORD_BYTES, RECORD_BYTES * 500]);
-    case.limit = random.pick(&[0, 1, 10_000]);
+    case.limit = random.pick(&[0, 1, 3, 10_000]);
     case
 }
 

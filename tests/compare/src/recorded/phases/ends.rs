@@ -1,7 +1,7 @@
 //! How runs of phases end, and which end comes first.
 
-use super::{in_a_loop, made, on_qubits, over_n, turns};
-use super::{CPHASE, K63, K64, PHASE, QUBITS, W0, W1, WHOLE};
+use super::{in_a_loop, in_a_round, made, on_qubits, over_n, turns};
+use super::{CPHASE, K63, K64, PHASE, QUBITS, W0, W1, WHOLE, WI};
 use crate::recorded::examples::H;
 use crate::recorded::{bytes, field, joined, Recorded};
 
@@ -19,7 +19,9 @@ pub fn rows() -> Vec<Recorded> {
     let mut rows = large_ks();
     rows.extend(in_families());
     rows.extend(in_loops());
+    rows.extend(one_wire());
     rows.extend(values());
+    rows.extend(order_on_one_wire());
     rows.extend(order());
     rows
 }
@@ -95,10 +97,29 @@ fn in_loops() -> Vec<Recorded> {
     ]
 }
 
+/// Two wires that are one, by their forms at 8, or by their values in a loop of one round over
+/// j, at 26; k may leave the range.
+fn one_wire() -> Vec<Recorded> {
+    let twice = over_n("10 00 00", &made(CPHASE, &[FAR, WHOLE, WHOLE]));
+    let cell = "31 05 00 00 41 01 00 01";
+    let bounds = bytes("40 02 00 00 00 40 02 00 00 00");
+    let turn = made(CPHASE, &[FAR, W0, cell]);
+    let looped = field(0x26, &joined(&[&bounds, &turn]));
+    let met = over_n("11 05 00 40 02 00 01 00", &looped);
+    let row = |name, program: &Vec<u8>, size, expected| {
+        Recorded::instance(name, program.clone(), (0, size), expected, "")
+    };
+    vec![
+        row("35 where k is in range", &twice, ONE, [35, 8, 0, 0]),
+        row("35 where k is out of range", &twice, PAST, [35, 8, 0, 0]),
+        row("25 where k is in range", &met, ONE, [25, 26, 0, 3]),
+        row("24 in k before 25", &met, PAST, [24, 26, 0, 3]),
+    ]
+}
+
 /// Values that leave the range in k, before and beside other ends.
 fn values() -> Vec<Recorded> {
     let wire = over_n("10 00 00", &made(PHASE, &[FAR, WHOLE]));
-    let twice = over_n("10 00 00", &made(CPHASE, &[FAR, WHOLE, WHOLE]));
     let far_wire = format!("31 1c 00 00 {FAR}");
     let cell = over_n("11 05 00 40 02 00 01 00", &made(PHASE, &[K64, &far_wire]));
     let row = |name, program: &Vec<u8>, size, expected, records: &str| {
@@ -116,8 +137,6 @@ fn values() -> Vec<Recorded> {
         row("24 in k", &wire, PAST, [24, 8, 0, 1], ""),
         row("26 before 24 in k", &wire, PAST, [26, 8, 0, 0], "").limit(0),
         row("24 in k before 27", &wire, PAST, [24, 8, 0, 1], "").into_bytes(0),
-        row("25 where k is in range", &twice, ONE, [25, 8, 0, 1], ""),
-        row("24 in k before 25", &twice, PAST, [24, 8, 0, 1], ""),
         row(
             "32 where the operand is in range",
             &cell,
@@ -135,12 +154,32 @@ fn values() -> Vec<Recorded> {
     ]
 }
 
+/// Which end comes first at a phase on one wire, in a round; by its forms it is no end.
+fn order_on_one_wire() -> Vec<Recorded> {
+    let met = |name, k, expected| {
+        let program = in_a_round(CPHASE, &[k, WI, W0]);
+        Recorded::run(name, program, expected, "")
+    };
+    let twice = |name| {
+        let program = on_qubits(CPHASE, &[K64, W0, W0]);
+        Recorded::run(name, program, [35, 5, 0, 0], "")
+    };
+    vec![
+        met("25 before 32", K64, [25, 18, 0, 3]),
+        met("26 before 25 and 32", K64, [26, 18, 0, 2]).limit(2),
+        met("25 before 32 and 27", K64, [25, 18, 0, 3]).into_bytes(0),
+        met("25 by itself", K63, [25, 18, 0, 3]),
+        twice("35 before 32"),
+        twice("35 before 26 and 32").limit(0),
+        twice("35 before 32 and 27").into_bytes(0),
+    ]
+}
+
 /// Which end comes first at a phase.
 fn order() -> Vec<Recorded> {
     let row = |name, tag, parts: &[&str], expected| {
         Recorded::run(name, on_qubits(tag, parts), expected, "")
     };
-    let both = |name, expected| row(name, CPHASE, &[K64, W0, W0], expected);
     let h = bytes(&format!("20 09 00 {W0}"));
     let phase = made(PHASE, &[K64, W0]);
     let between = joined(&[&bytes(QUBITS), &h, &phase, &h]);
@@ -154,10 +193,6 @@ fn order() -> Vec<Recorded> {
         &first,
     );
     vec![
-        both("25 before 32", [25, 5, 0, 1]),
-        both("26 before 25 and 32", [26, 5, 0, 0]).limit(0),
-        both("25 before 32 and 27", [25, 5, 0, 1]).into_bytes(0),
-        row("25 by itself", CPHASE, &[K63, W1, W1], [25, 5, 0, 1]),
         row("26 before 32", PHASE, &[K64, W0], [26, 5, 0, 0]).limit(0),
         row("32 before 27", PHASE, &[K64, W0], [32, 5, 0, 1]).into_bytes(0),
         row(

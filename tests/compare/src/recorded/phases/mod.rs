@@ -18,6 +18,9 @@ const QUBITS: &str = "02 02 00 02 00";
 const W0: &str = "31 06 00 00 40 02 00 00 00";
 const W1: &str = "31 06 00 00 40 02 00 01 00";
 
+/// The operand q[i] in a loop over i that stands in nothing else, 8 bytes.
+const WI: &str = "31 05 00 00 41 01 00 00";
+
 /// The operand with number 0 as a whole: the register, or a family's first parameter.
 const WHOLE: &str = "30 01 00 00";
 
@@ -58,6 +61,13 @@ fn in_a_loop(low: &str, high: &str, k: &str) -> Vec<u8> {
     let bounds = bytes(&format!("40 02 00 {low} 40 02 00 {high}"));
     let looped = field(0x26, &joined(&[&bounds, &phase]));
     joined(&[&bytes("02 02 00 01 00"), &looped])
+}
+
+/// Two qubits and a loop of one round, over i from 0 to 0, with a field in it at 18.
+fn in_a_round(tag: u8, parts: &[&str]) -> Vec<u8> {
+    let bounds = bytes("40 02 00 00 00 40 02 00 00 00");
+    let looped = field(0x26, &joined(&[&bounds, &made(tag, parts)]));
+    joined(&[&bytes(QUBITS), &looped])
 }
 
 /// The records of phases on the first wire, by their k.

@@ -167,7 +167,7 @@ fn operands() -> Vec<Recorded> {
             [12, 22],
         ),
         row("k for the second", CPHASE, &[K3, W0, K3], [3, 22]),
-        row("one wire twice is accepted", CPHASE, &[K3, W0, W0], [0, 0]),
+        row("one wire twice", CPHASE, &[K3, W0, W0], [35, 5]),
         Recorded::check("a bit", bit, 9, 13),
     ]
 }

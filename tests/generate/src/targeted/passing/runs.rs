@@ -118,11 +118,13 @@ pub fn values(random: &mut Random) -> Case {
         0 => sum(literal(value), difference(big(), big())),
         _ => literal(value),
     };
-    let inner = parameter_call(
-        1,
-        vec![far(1)],
-        vec![element(0, far(0)), element(0, far(1))],
-    );
+    let [k, first, other, same] = [1, 0, 1, 0].map(&mut far);
+    let second = match random.percent(25) {
+        true => same,
+        false => other,
+    };
+    let operands = vec![element(0, first), element(0, second)];
+    let inner = parameter_call(1, vec![k], operands);
     let types = vec![
         qbits(literal(2)),
         family_type(1, vec![qbit(), qbit()]),
@@ -132,7 +134,7 @@ pub fn values(random: &mut Random) -> Case {
     let gate = match random.below(4) {
         0 => cphase(product(literal(64), variable(0)), whole(0), whole(1)),
         1 => cphase(variable(0), whole(0), whole(1)),
-        2 => cx(whole(1), whole(1)),
+        2 => cx(whole(1), whole(0)),
         _ => cx(whole(0), whole(1)),
     };
     let pair = family(1, vec![qbit(), qbit()], vec![gate]);
