@@ -1,7 +1,7 @@
 -- Two wires: the forms that are left beside the answers, and one wire twice. Assumes nothing.
 use mathlib.Core.Path.{_≡_, refl, sym, ap, _∙_, subst}
 use mathlib.Core.List.{List, [], _∷_}
-use mathlib.Core.Bool.{Bool, true, false, _&&_, _||_}
+use mathlib.Core.Bool.{Bool, true, false, not, _&&_, _||_}
 use Prim.Native.Nat.{ℕ, _+_, _≤_, _<_}
 use native.Mathlib.Omega.{arith}
 use lib.IntN.{ℤ}
@@ -9,24 +9,27 @@ use lib.Dec.{leb, eqb}
 use lib.ListN.{length, getD, drop, getElem?}
 use lib.Seq.{slice}
 use borrow.Author.Tests.{leb-true, leb-false, eqb-true, eqb-false, eq-eqb, ne-eqb}
-use types.Run.{OneOf}
+use types.Run.{OneOf, miss}
 use denote.Enum.Declared.{tagOf}
 use Rattle.language.specs.Tree.{Ending, Index, Operand, whole, element, badIndex, badOperand}
 use Rattle.language.specs.Read.{Field, fields, ending, due, outerIndex, readWhole, readElement, elementOf, readSlice, sliceOf, readPassed, readOperand, operandDue}
 use Rattle.language.specs.Form.{Form, sameForm}
 use Rattle.language.specs.Check as C
-use Rattle.language.specs.Check.{Checked, good, fine, noLeftover, inScope, formOf, wire, slicedSize, sliceFits, familyFits, checkOperand, checkTwo, equalForms, sameWire}
-use Rattle.language.proofs.Safe.{not-good, both, then-both, two-good}
+use Rattle.language.specs.Check.{Checked, good, refused, _>>_, fine, require, noLeftover, inScope, formOf, wire, slicedSize, sliceFits, familyFits, checkOperand, checkTwo, checkWires, equalForms, sameWire}
+use Rattle.language.proofs.Safe.{not-good, both, then-both}
 use Rattle.fields.specs.Header.{fieldsAt}
 use Rattle.fields.proofs.Headers.{Wholly, View, ends, cuts, goes, view, slice-none, one-byte}
 use Rattle.forms.specs.Flat.{Kept, asForm}
-use Rattle.check_index.specs.Answers.{checkedForm, checkedPart}
+use Rattle.check_index.specs.Answers.{checkedForm, checkedPart, PastField}
 use Rattle.check_index.specs.declared.Read.{Read}
 use Rattle.check_index.specs.declared.Read.the-variants.{Upto, Refused}
 use Rattle.check_index.proofs.Read.{the-type}
-use Rattle.check_index.proofs.Answers.{not-first, not-second}
+use Rattle.check_index.proofs.Answers.{not-first}
 use Rattle.check_operand.specs.Tables.{Known}
-use Rattle.check_operand.specs.Operands.{FormOf, Leaves, Both, LeavesTwo, Comparable, sameBy}
+use Rattle.check_operand.specs.Operands.{wantedOf, checkedTwo, FormOf, Leaves, Comparable, sameBy}
+use Rattle.check_operand.specs.declared.Wanted.{Wanted}
+use Rattle.check_operand.specs.declared.Wanted.the-variants.{Wire, Bit, Register, Family}
+use Rattle.check_operand.proofs.Wanted.{the-type as wanted-type}
 use Rattle.check_operand.proofs.Operands.{whole-none, element-none, operand-end, operand-cut, operand-other, reads-whole, reads-element, reads-slice, reads-passed}
 
 -- ---- the forms that are left
@@ -41,19 +44,6 @@ leaves-stops s o (Refused n p) l h = tt
 
 pub leaves-upto : (s : C.Scope) (o : Operand) (r : Read) (l : List ℤ) (n : ℕ) → r ≡ Upto n → Leaves s o r l → FormOf s o l
 leaves-upto s o r l n e h = rw e at h
-
-pub two-stops : (s : C.Scope) (program : List ℕ) (p from next : ℕ) (r : Read) (l m : List ℤ) → OneOf (1 ∷ []) (tagOf the-type r) → LeavesTwo s program p from next r l m
-two-stops s program p from next (Upto n) l m h = not-first h
-two-stops s program p from next (Refused n q) l m h = tt
-
-pub two-upto : (s : C.Scope) (program : List ℕ) (p from next : ℕ) (r : Read) (l m : List ℤ) (mid : ℕ) → r ≡ Upto mid → LeavesTwo s program p from next r l m → Both s program p from next mid l m
-two-upto s program p from next r l m mid e h = rw e at h
-
--- an answer that goes on stands for the same, whatever its position
-pub part-upto : (r : Read) (n : ℕ) → OneOf (0 ∷ []) (tagOf the-type r) → checkedPart (Upto n) ≡ checkedPart r
-unfolding checkedPart
-part-upto (Upto m) n h = refl
-part-upto (Refused m p) n h = not-second h
 
 pub fine-upto : (r : Read) (n : ℕ) (x : Checked (Unit {0})) → checkedPart r ≡ x → r ≡ Upto n → x ≡ fine
 unfolding checkedPart
@@ -214,23 +204,52 @@ module _ (program : List ℕ) (first second : ℕ) (l m : List ℤ) where
 abbrev pub nothingKnown : Known
 nothingKnown = record { declared = λ n. record { variables = 0; parameters = [] }; formals = λ n. record { variables = 0; sizes = [] } }
 
+-- what is left to test after two operands: two wires are not one
+abbrev pub lastTest : ℕ → C.Scope → C.Due → (first second : Operand) → Checked (Unit {0})
+lastTest p s C.wire w o = require 35 p (not (sameWire s w o))
+lastTest p s C.bit w o = fine
+lastTest p s (C.register i) w o = fine
+lastTest p s (C.fitting g) w o = fine
+
+then-fine : (x : Checked (Unit {0})) → (x >> fine) ≡ x
+unfolding _>>_
+then-fine (good tt) = refl
+then-fine (refused n p) = refl
+
+pub two-then : (p : ℕ) (s : C.Scope) (d : C.Due) (w o : Operand) (e : Ending) → (checkTwo p s d w o e >> lastTest p s d w o) ≡ checkedTwo p s d w o e
+unfolding checkWires
+two-then p s C.wire w o e = refl
+two-then p s C.bit w o e = then-fine (checkTwo p s C.bit w o e)
+two-then p s (C.register i) w o e = then-fine (checkTwo p s (C.register i) w o e)
+two-then p s (C.fitting g) w o e = then-fine (checkTwo p s (C.fitting g) w o e)
+
+pub second-wire : (k : Known) (a : Wanted) (l : List ℤ) → OneOf (0 ∷ []) (tagOf wanted-type a) → wantedOf k a l ≡ C.wire
+unfolding wantedOf
+second-wire k Wire l h = refl
+second-wire k Bit l h = absurd (miss (0 ∷ []) 1 tt h)
+second-wire k (Register t) l h = absurd (miss (0 ∷ []) 2 tt h)
+second-wire k (Family x) l h = absurd (miss (0 ∷ []) 3 tt h)
+
+pub second-other : (p : ℕ) (s : C.Scope) (k : Known) (a : Wanted) (l : List ℤ) (w o : Operand) → OneOf (1 ∷ 2 ∷ 3 ∷ []) (tagOf wanted-type a) → lastTest p s (wantedOf k a l) w o ≡ fine
+unfolding wantedOf
+second-other p s k Wire l w o h = absurd (miss (1 ∷ 2 ∷ 3 ∷ []) 0 tt h)
+second-other p s k Bit l w o h = refl
+second-other p s k (Register t) l w o h = refl
+second-other p s k (Family x) l w o h = refl
+
 -- two wires that are right, the second of which starts at `mid`
-module _ (s : C.Scope) (program : List ℕ) (p from next mid : ℕ) (k : next ≤ length program) (l m : List ℤ) (b : Both s program p from next mid l m) where
+module _ (s : C.Scope) (program : List ℕ) (p from next mid : ℕ) (k : next ≤ length program) (v : PastField program from next mid) (l m : List ℤ) where
   abbrev all : List Field
   all = fieldsAt program from next
 
-  module _ (h : checkTwo p s wire (operandDue p 0 all) (operandDue p 1 all) (ending (drop 2 all)) ≡ fine) where
-    second-read : operandDue p 1 all ≡ operandDue p 0 (fieldsAt program mid next)
-    second-read = ap (due readOperand (badOperand 4 p)) (b .past .rest)
+  abbrev rest : List Field
+  rest = fieldsAt program mid next
 
-    first-named : Named program from (operandDue p 0 all)
-    first-named = named s program from next p k (two-good p s wire (operandDue p 0 all) (operandDue p 1 all) (ending (drop 2 all)) h .0)
-
-    second-named : Named program mid (operandDue p 0 (fieldsAt program mid next))
-    second-named = named s program mid next p k (ap (checkOperand s wire) (sym second-read) ∙ two-good p s wire (operandDue p 0 all) (operandDue p 1 all) (ending (drop 2 all)) h .1)
-
+  module _ (f : FormOf s (operandDue p 0 all) l) (g : FormOf s (operandDue p 0 rest) m) (x : checkOperand s wire (operandDue p 0 all) ≡ fine) (y : checkOperand s wire (operandDue p 0 rest) ≡ fine) where
     pub can-compare : Comparable program from l × Comparable program mid m
-    can-compare = (comparable s program from (operandDue p 0 all) l first-named (b .first), comparable s program mid (operandDue p 0 (fieldsAt program mid next)) m second-named (b .second))
+    can-compare = (comparable s program from (operandDue p 0 all) l (named s program from next p k x) f, comparable s program mid (operandDue p 0 rest) m (named s program mid next p k y) g)
 
     pub twice-is : sameBy program from mid l m ≡ sameWire s (operandDue p 0 all) (operandDue p 1 all)
-    twice-is = same-is s program from mid (operandDue p 0 all) (operandDue p 0 (fieldsAt program mid next)) l m first-named second-named (b .first) (b .second) ∙ ap (sameWire s (operandDue p 0 all)) (sym second-read)
+    twice-is =
+        same-is s program from mid (operandDue p 0 all) (operandDue p 0 rest) l m (named s program from next p k x) (named s program mid next p k y) f g
+        ∙ ap (λ (fs : List Field). sameWire s (operandDue p 0 all) (due readOperand (badOperand 4 p) fs)) (sym (v .rest))

@@ -7,13 +7,11 @@ use lib.IntN.{ℤ}
 use lib.Dec.{eqb}
 use lib.ListN.{length, getD, drop}
 use Rattle.language.specs.Form.{Form, sameForm}
-use Rattle.language.specs.Tree.{Operand, whole, element, slice, passed, badOperand}
+use Rattle.language.specs.Tree.{Ending, Operand, whole, element, slice, passed, badOperand}
 use Rattle.language.specs.Check.{Checked, good, refused, _>>_, byShowing, formOf, checkOneWire, checkTwo, checkWires}
 use Rattle.language.specs.Read.{Field, ending, operandDue}
-use Rattle.fields.specs.Header.{fieldsAt}
 use Rattle.forms.specs.Flat.{Kept, asForm, builtOf, shownOf}
 use Rattle.forms.specs.declared.Verdict.{Verdict}
-use Rattle.check_index.specs.Answers.{PastField}
 use Rattle.check_index.specs.declared.Read.{Read}
 use Rattle.check_index.specs.declared.Read.the-variants.{Upto, Refused}
 use Rattle.check_operand.specs.declared.Wanted.{Wanted}
@@ -63,13 +61,16 @@ Answerable (Family x) o = NoFamily o
 abbrev pub oneWire : C.Scope → ℕ → List Field → Checked (Unit {0})
 oneWire s p fs = checkOneWire p s (operandDue p 0 fs) (ending (drop 1 fs))
 
--- a wire and another operand, which are due to be the only fields in the field at p
-abbrev pub twoOperands : C.Scope → C.Due → ℕ → List Field → Checked (Unit {0})
-twoOperands s d p fs = checkTwo p s d (operandDue p 0 fs) (operandDue p 1 fs) (ending (drop 2 fs))
+-- a wire and another operand, and nothing after them; two wires are not one
+abbrev pub checkedTwo : ℕ → C.Scope → C.Due → (first second : Operand) → Ending → Checked (Unit {0})
+checkedTwo p s C.wire w o e = checkWires p s w o e
+checkedTwo p s C.bit w o e = checkTwo p s C.bit w o e
+checkedTwo p s (C.register i) w o e = checkTwo p s (C.register i) w o e
+checkedTwo p s (C.fitting g) w o e = checkTwo p s (C.fitting g) w o e
 
--- two wires, which are due to be the only fields in the field at p
-abbrev pub twoWires : C.Scope → ℕ → List Field → Checked (Unit {0})
-twoWires s p fs = checkWires p s (operandDue p 0 fs) (operandDue p 1 fs) (ending (drop 2 fs))
+-- they are due to be the only fields in the field at p
+abbrev pub twoOperands : C.Scope → C.Due → ℕ → List Field → Checked (Unit {0})
+twoOperands s d p fs = checkedTwo p s d (operandDue p 0 fs) (operandDue p 1 fs) (ending (drop 2 fs))
 
 -- ---- the forms of indexes, which are left beside the answers
 
@@ -85,16 +86,6 @@ FormOf s (badOperand n p) l = Unit {0}
 abbrev pub Leaves : C.Scope → Operand → Read → List ℤ → Type 0
 Leaves s o (Upto n) l = FormOf s o l
 Leaves s o (Refused n p) l = Unit {0}
-
--- what the answer on two operands that are right tells: where the second starts, and both forms
-pub record Both (s : C.Scope) (program : List ℕ) (p from next mid : ℕ) (l m : List ℤ) : Type 0 where
-  pub past : PastField program from next mid
-  pub first : FormOf s (operandDue p 0 (fieldsAt program from next)) l
-  pub second : FormOf s (operandDue p 0 (fieldsAt program mid next)) m
-
-abbrev pub LeavesTwo : C.Scope → List ℕ → (p from next : ℕ) → Read → List ℤ → List ℤ → Type 0
-LeavesTwo s program p from next (Upto mid) l m = Both s program p from next mid l m
-LeavesTwo s program p from next (Refused n q) l m = Unit {0}
 
 -- ---- one wire twice, by the bytes at two places and the forms beside them
 

@@ -9,13 +9,13 @@ ghost use lib.IntN.{ℤ, pos};
 ghost use Rattle.language.specs.Tree.{Place, Operand, badOperand};
 ghost use Rattle.language.specs.Read.{due, readOperand, readWhole, readElement, readSlice, readPassed};
 ghost use Rattle.language.specs.Form.{Form, built, differenceOf, _thenBuild_, shown, showing};
-ghost use Rattle.language.specs.Check.{Formal, Kind, Signature, sizeScope, elementSize, roomAfter, byShowing, mustShow, wholeFits, checkWithin, sliceSize, checkSlice, sliceFits, checkOperand};
+ghost use Rattle.language.specs.Check.{Formal, Kind, Signature, sizeScope, elementSize, roomAfter, byShowing, mustShow, wire, wholeFits, checkWithin, sliceSize, checkSlice, sliceFits, checkOperand};
 ghost use Rattle.language.specs.Limits.{mostVariables, allVariables};
 ghost use Rattle.fields.specs.Header.{fieldsAt};
 ghost use Rattle.forms.specs.Flat.{formNumbers, Kept, Short, widened, asForm, builtOf, shownOf};
 ghost use Rattle.forms.specs.Rows.{Rows, loopsOf};
 ghost use Rattle.check_operand.specs.Tables.{Known, kindIn, kindOfRow, sizeOfRow, TablesRight, scopeWith, scopeAt};
-ghost use Rattle.check_operand.specs.Operands.{checkedSize, shownForm, wantedOf, SizeRight, Answerable, oneWire, twoOperands, twoWires, Leaves, LeavesTwo, Comparable, sameBy};
+ghost use Rattle.check_operand.specs.Operands.{checkedSize, shownForm, wantedOf, SizeRight, Answerable, oneWire, twoOperands, Leaves, Comparable, sameBy};
 ghost use Rattle.check_index.specs.Answers.{checkedPart, EndsAt, Passes};
 use check_index::Read;
 use fields::Header;
@@ -629,110 +629,6 @@ pub fn one_wire(
     Read::Upto(next)
 }
 
-// A wire, and then a wire or a bit, and no more, from `from` to `next` in the field at `at`. The answer is where the second starts,
-// and the forms of elements' indexes are left in `f` and `g`.
-fn pair(
-    program: &[u8],
-    from: usize,
-    next: usize,
-    at: usize,
-    second: Wanted,
-    f: &mut Form,
-    g: &mut Form,
-    s: Visible,
-    kinds: &[u16],
-    sizes: &[Size],
-    lows: &[Form],
-    highs: &[Form],
-) -> Read
-    requires { ⌜ next ≤ length (now program) ⌝ }
-    requires { ⌜ ((l : List ℤ) → SizeRight second l) × ((o : Operand) → Answerable second o) ⌝ }
-    requires { ⌜ TablesRight s (now kinds) (now sizes) (now lows) (now highs) ⌝ }
-    ensures { λ r. ⌜ ((k : Known) → checkedPart r ≡ twoOperands (scopeAt k s (now (kinds .entry)) (now (sizes .entry)) (now (lows .entry)) (now (highs .entry))) (wantedOf k second (replicate formNumbers (pos 0))) at (fieldsAt (now (program .entry)) from next)) ⌝ }
-    ensures { λ r. ⌜ ((k : Known) → LeavesTwo (scopeAt k s (now (kinds .entry)) (now (sizes .entry)) (now (lows .entry)) (now (highs .entry))) (now (program .entry)) at from next r (now (f .exit)) (now (g .exit))) ⌝ }
-{
-    let none = [0i64; FORM_NUMBERS];
-    let r = operand(
-        program,
-        from,
-        next,
-        at,
-        Wanted::Wire,
-        &none,
-        f,
-        s,
-        kinds,
-        sizes,
-        lows,
-        highs,
-    );
-    let Read::Upto(mid) = r else {
-        return r;
-    };
-    let t = operand(
-        program,
-        mid,
-        next,
-        at,
-        second,
-        &none,
-        g,
-        s,
-        kinds,
-        sizes,
-        lows,
-        highs,
-    );
-    let Read::Upto(end) = t else {
-        return t;
-    };
-    if end < next {
-        return Read::Refused(4, at);
-    }
-    Read::Upto(mid)
-}
-
-// A wire, and then a wire or a bit, and no more, from `from` to `next` in the field at `at`.
-pub fn two_operands(
-    program: &[u8],
-    from: usize,
-    next: usize,
-    at: usize,
-    second: Wanted,
-    s: Visible,
-    kinds: &[u16],
-    sizes: &[Size],
-    lows: &[Form],
-    highs: &[Form],
-) -> Read
-    requires { ⌜ next ≤ length (now program) ⌝ }
-    requires { ⌜ ((l : List ℤ) → SizeRight second l) × ((o : Operand) → Answerable second o) ⌝ }
-    requires { ⌜ TablesRight s (now kinds) (now sizes) (now lows) (now highs) ⌝ }
-    ensures { λ r. ⌜ ((k : Known) → checkedPart r ≡ twoOperands (scopeAt k s (now (kinds .entry)) (now (sizes .entry)) (now (lows .entry)) (now (highs .entry))) (wantedOf k second (replicate formNumbers (pos 0))) at (fieldsAt (now (program .entry)) from next)) ⌝ }
-    ensures { λ r. ⌜ EndsAt next r ⌝ }
-{
-    let mut f = [0i64; FORM_NUMBERS];
-    let mut g = [0i64; FORM_NUMBERS];
-    let r = pair(
-        program,
-        from,
-        next,
-        at,
-        second,
-        &mut f,
-        &mut g,
-        s,
-        kinds,
-        sizes,
-        lows,
-        highs,
-    );
-    let Read::Upto(_) = r else {
-        return r;
-    };
-    Read::Upto(next)
-}
-
 // Whether the wires at two places, whose fields are right, are one: both are whole, or elements of equal forms, and have the same
 // number.
 fn same_wire(program: &[u8], first: usize, second: usize, f: &Form, g: &Form) -> bool
@@ -754,7 +650,76 @@ fn same_wire(program: &[u8], first: usize, second: usize, f: &Form, g: &Form) ->
     forms::same(f, g)
 }
 
-// Two wires, and no more, from `from` to `next` in the field at `at`; one wire twice is refused after all else.
+// A wire, and then a wire or a bit, and no more, from `from` to `next` in the field at `at`; one wire twice is refused after all
+// else.
+pub fn two_operands(
+    program: &[u8],
+    from: usize,
+    next: usize,
+    at: usize,
+    second: Wanted,
+    s: Visible,
+    kinds: &[u16],
+    sizes: &[Size],
+    lows: &[Form],
+    highs: &[Form],
+) -> Read
+    requires { ⌜ next ≤ length (now program) ⌝ }
+    requires { ⌜ ((l : List ℤ) → SizeRight second l) × ((o : Operand) → Answerable second o) ⌝ }
+    requires { ⌜ TablesRight s (now kinds) (now sizes) (now lows) (now highs) ⌝ }
+    ensures { λ r. ⌜ ((k : Known) → checkedPart r ≡ twoOperands (scopeAt k s (now (kinds .entry)) (now (sizes .entry)) (now (lows .entry)) (now (highs .entry))) (wantedOf k second (replicate formNumbers (pos 0))) at (fieldsAt (now (program .entry)) from next)) ⌝ }
+    ensures { λ r. ⌜ EndsAt next r ⌝ }
+{
+    let none = [0i64; FORM_NUMBERS];
+    let mut f = [0i64; FORM_NUMBERS];
+    let mut g = [0i64; FORM_NUMBERS];
+    let r = operand(
+        program,
+        from,
+        next,
+        at,
+        Wanted::Wire,
+        &none,
+        &mut f,
+        s,
+        kinds,
+        sizes,
+        lows,
+        highs,
+    );
+    let Read::Upto(mid) = r else {
+        return r;
+    };
+    let t = operand(
+        program,
+        mid,
+        next,
+        at,
+        second,
+        &none,
+        &mut g,
+        s,
+        kinds,
+        sizes,
+        lows,
+        highs,
+    );
+    let Read::Upto(end) = t else {
+        return t;
+    };
+    if end < next {
+        return Read::Refused(4, at);
+    }
+    let Wanted::Wire = second else {
+        return Read::Upto(next);
+    };
+    if same_wire(program, from, mid, &f, &g) {
+        return Read::Refused(35, at);
+    }
+    Read::Upto(next)
+}
+
+// Two wires, and no more, from `from` to `next` in the field at `at`.
 pub fn two_wires(
     program: &[u8],
     from: usize,
@@ -768,29 +733,18 @@ pub fn two_wires(
 ) -> Read
     requires { ⌜ next ≤ length (now program) ⌝ }
     requires { ⌜ TablesRight s (now kinds) (now sizes) (now lows) (now highs) ⌝ }
-    ensures { λ r. ⌜ ((k : Known) → checkedPart r ≡ twoWires (scopeAt k s (now (kinds .entry)) (now (sizes .entry)) (now (lows .entry)) (now (highs .entry))) at (fieldsAt (now (program .entry)) from next)) ⌝ }
+    ensures { λ r. ⌜ ((k : Known) → checkedPart r ≡ twoOperands (scopeAt k s (now (kinds .entry)) (now (sizes .entry)) (now (lows .entry)) (now (highs .entry))) wire at (fieldsAt (now (program .entry)) from next)) ⌝ }
 {
-    let mut f = [0i64; FORM_NUMBERS];
-    let mut g = [0i64; FORM_NUMBERS];
-    let r = pair(
+    two_operands(
         program,
         from,
         next,
         at,
         Wanted::Wire,
-        &mut f,
-        &mut g,
         s,
         kinds,
         sizes,
         lows,
         highs,
-    );
-    let Read::Upto(mid) = r else {
-        return r;
-    };
-    if same_wire(program, from, mid, &f, &g) {
-        return Read::Refused(35, at);
-    }
-    Read::Upto(next)
+    )
 }

@@ -13,7 +13,7 @@ use denote.Enum.Declared.{tagOf}
 use Rattle.language.specs.Tree.{Place, Operation, sum, difference, product, Index, badIndex, placeOf, badOperand}
 use Rattle.language.specs.Read.{Field, field, badHeader, Reader, ofFields, due, fieldsAfter, firstField, fieldOf, twoBytes, fields, ending, operandDue, readOperand, readIndex, outerIndex, readLiteral, readVariable, operationOf, indexBy, phaseOf, cphaseOf}
 use Rattle.language.specs.Form.{built}
-use Rattle.language.specs.Check.{Checked, Scope, formOf, mustShow, checkNatural, checkOneWire, checkWires, checkStatement, _>>=_, _>>_}
+use Rattle.language.specs.Check.{Checked, Scope, formOf, mustShow, checkNatural, checkOneWire, checkWires, checkStatement, wire, _>>=_, _>>_}
 use Rattle.language.proofs.ReadLaws.{AllRows, choose-all}
 use Rattle.fields.specs.Header.{fieldsAt}
 use Rattle.forms.specs.Flat.{asForm}
@@ -22,7 +22,7 @@ use Rattle.check_index.specs.declared.Read.the-variants.{Upto, Refused}
 use Rattle.check_index.specs.Answers.{checkedPart, checkedForm, EndsAt, Passes, PastField}
 use Rattle.check_index.proofs.Read.{the-type}
 use Rattle.check_index.proofs.Answers.{not-first, checked-then, form-stops}
-use Rattle.check_operand.specs.Operands.{oneWire, twoWires}
+use Rattle.check_operand.specs.Operands.{oneWire, twoOperands}
 use Rattle.check_phase.specs.Phases.{phaseDue, cphaseDue}
 
 -- ---- the place of an index as it is read
@@ -101,8 +101,8 @@ unfolding phaseOf checkStatement
 phase-is s p fs gs e = ap (λ (hs : List Field). checkNatural s (due outerIndex (badIndex 4 p) fs) >> oneWire s p hs) (sym e)
     ∙ ap (λ (hs : List Field). checkNatural s (due outerIndex (badIndex 4 p) fs) >> checkOneWire p s (operandDue p 1 fs) (ending hs)) (drop-drop 1 1 fs)
 
-pub cphase-is : (s : Scope) (p : Place) (fs gs : List Field) → drop 1 fs ≡ gs → (checkNatural s (due outerIndex (badIndex 4 p) fs) >> twoWires s p gs) ≡ cphaseDue s p fs
+pub cphase-is : (s : Scope) (p : Place) (fs gs : List Field) → drop 1 fs ≡ gs → (checkNatural s (due outerIndex (badIndex 4 p) fs) >> twoOperands s wire p gs) ≡ cphaseDue s p fs
 unfolding cphaseOf checkStatement
-cphase-is s p fs gs e = ap (λ (hs : List Field). checkNatural s (due outerIndex (badIndex 4 p) fs) >> twoWires s p hs) (sym e)
+cphase-is s p fs gs e = ap (λ (hs : List Field). checkNatural s (due outerIndex (badIndex 4 p) fs) >> twoOperands s wire p hs) (sym e)
     ∙ ap (λ (hs : List Field). checkNatural s (due outerIndex (badIndex 4 p) fs) >> checkWires p s (operandDue p 1 fs) (due readOperand (badOperand 4 p) hs) (ending (drop 2 (drop 1 fs)))) (drop-drop 1 1 fs)
     ∙ ap (λ (hs : List Field). checkNatural s (due outerIndex (badIndex 4 p) fs) >> checkWires p s (operandDue p 1 fs) (operandDue p 2 fs) (ending hs)) (three fs)

@@ -7,12 +7,12 @@ use denote.Ref.{now}
 use lib.ListN.{drop}
 use Rattle.language.specs.Tree.{badIndex}
 use Rattle.language.specs.Read.{due, outerIndex}
-use Rattle.language.specs.Check.{Signature, Kind, Scope, checkNatural}
+use Rattle.language.specs.Check.{Signature, Kind, Scope, checkNatural, wire}
 use mathlib.Core.List.{List}
 use Rattle.fields.specs.Header.{fieldsAt}
 use Rattle.check_index.proofs.Answers.{part-goes, part-stops, passes-upto}
 use Rattle.check_operand.specs.Tables.{Known, tabulated, kindsAt, scopeAt}
-use Rattle.check_operand.specs.Operands.{twoWires}
+use Rattle.check_operand.specs.Operands.{twoOperands}
 use Rattle.check_phase.proofs.Naturals.{cphase-is}
 
 natural-requires : tie.Need-natural-requires
@@ -36,7 +36,7 @@ returns c =
     let gs = fieldsAt program (a .from) (a .next) in
     let fs : Known → List Signature = λ k. tabulated (k .declared) (a .s .families) 0 in
     let ks : Known → List Kind = λ k. kindsAt (k .formals) (a .s .count) (a .s .first) (now (a .kinds)) (now (a .sizes)) in
-    λ k. part-stops (c .before .before .natural .result) (checkNatural (s k) (due outerIndex (badIndex 4 (a .at)) gs)) (twoWires (s k) (a .at) (drop 1 gs)) (c .before .before .natural .ensures .0 (fs k) (ks k)) (c .before .match .keys2) ∙ cphase-is (s k) (a .at) gs (drop 1 gs) refl
+    λ k. part-stops (c .before .before .natural .result) (checkNatural (s k) (due outerIndex (badIndex 4 (a .at)) gs)) (twoOperands (s k) wire (a .at) (drop 1 gs)) (c .before .before .natural .ensures .0 (fs k) (ks k)) (c .before .match .keys2) ∙ cphase-is (s k) (a .at) gs (drop 1 gs) refl
 
 two-wires-requires : tie.Need-two-wires-requires
 two-wires-requires c κs =
@@ -52,7 +52,7 @@ returns-2 c =
     let ks : Known → List Kind = λ k. kindsAt (k .formals) (a .s .count) (a .s .first) (now (a .kinds)) (now (a .sizes)) in
     let mid = c .before .before .r .given .0 .0 in
     let v = passes-upto program (a .from) (a .next) (c .before .before .before .before .natural .result) mid (c .before .before .r .given .1) (c .before .before .before .before .natural .ensures .1) in
-    λ k. c .two-wires .ensures k ∙ sym (part-goes (c .before .before .before .before .natural .result) (checkNatural (s k) (due outerIndex (badIndex 4 (a .at)) gs)) (c .before .before .before .before .natural .ensures .0 (fs k) (ks k)) mid (twoWires (s k) (a .at) (fieldsAt program mid (a .next))) (c .before .before .r .given .1)) ∙ cphase-is (s k) (a .at) gs (fieldsAt program mid (a .next)) (v .rest)
+    λ k. c .two-wires .ensures k ∙ sym (part-goes (c .before .before .before .before .natural .result) (checkNatural (s k) (due outerIndex (badIndex 4 (a .at)) gs)) (c .before .before .before .before .natural .ensures .0 (fs k) (ks k)) mid (twoOperands (s k) wire (a .at) (fieldsAt program mid (a .next))) (c .before .before .r .given .1)) ∙ cphase-is (s k) (a .at) gs (fieldsAt program mid (a .next)) (v .rest)
 
 pub cphase-spec : {M : Type 1} → statement M
 cphase-spec =
