@@ -111,8 +111,8 @@ module _ (s : C.Scope) (program : List ℕ) (at to parent : ℕ) (k : to ≤ len
     abbrev content : List ℕ
     content = slice (at + 3) next program
 
-    some-content : next ≤ at + 3 → content ≡ []
-    some-content q = slice-none (at + 3) next program q
+    no-content : next ≤ at + 3 → content ≡ []
+    no-content q = slice-none (at + 3) next program q
 
     first-byte : at + 3 < next → content ≡ (getD program (at + 3) 0 ∷ slice (at + 3 + 1) next program)
     first-byte q = let u = w .high in one-byte (at + 3) next program q (omega arith)
@@ -125,7 +125,7 @@ module _ (s : C.Scope) (program : List ℕ) (at to parent : ℕ) (k : to ≤ len
         r = reads-whole program at to parent tag next w e
 
         by : (b : Bool) → (b ≡ true → next ≤ at + 3) → (b ≡ false → at + 3 < next) → Named program at (readWhole at content)
-        by true f g = absurd (not-good (whole-none s wire at content (some-content (f refl)) ∙ ap (checkOperand s wire) (sym r) ∙ h))
+        by true f g = absurd (not-good (whole-none s wire at content (no-content (f refl)) ∙ ap (checkOperand s wire) (sym r) ∙ h))
         by false f g = let u = w .high in let q = g refl in subst (λ (c : List ℕ). Named program at (readWhole at c)) (sym (first-byte q)) (wholly (sym (w .byte) ∙ e) refl (omega arith))
 
     as-element : tag ≡ 49 → Named program at operandRead
@@ -136,7 +136,7 @@ module _ (s : C.Scope) (program : List ℕ) (at to parent : ℕ) (k : to ≤ len
         r = reads-element program at to parent tag next w e
 
         by : (b : Bool) → (b ≡ true → next ≤ at + 3) → (b ≡ false → at + 3 < next) → Named program at (readElement at content)
-        by true f g = absurd (not-good (element-none s wire at content (some-content (f refl)) ∙ ap (checkOperand s wire) (sym r) ∙ h))
+        by true f g = absurd (not-good (element-none s wire at content (no-content (f refl)) ∙ ap (checkOperand s wire) (sym r) ∙ h))
         by false f g = let u = w .high in let q = g refl in subst (λ (c : List ℕ). Named program at (readElement at c)) (sym (first-byte q)) (partly (sym (w .byte) ∙ e) refl (omega arith))
 
     by-tag : Named program at operandRead
