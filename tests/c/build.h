@@ -13,6 +13,15 @@ typedef struct {
 
 static program built;
 
+/* A field that is put at the end, and what it is refused with at how many bytes past its start. */
+typedef struct {
+    const char *name;
+    uint8_t bytes[40];
+    size_t length;
+    uint32_t number;
+    size_t within;
+} refusal;
+
 /* Puts bytes at the end. */
 static inline void put(const uint8_t *bytes, size_t length)
 {

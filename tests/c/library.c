@@ -129,31 +129,23 @@ static void runs(void)
     expect(are_lasts(output + METAQASM_RECORD_BYTES * LASTS_RECORDS, 1), "family 299 reversed", "its records, backward");
 }
 
-/* A call by a two-byte number, and what it is refused with. */
-typedef struct {
-    const char *name;
-    uint8_t bytes[8];
-    size_t length;
-    uint32_t number;
-} refusal;
-
-/* Calls at the top of a program without families. */
+/* Calls by a two-byte number at the top of a program without families. */
 static const refusal alone[] = {
-    {"family 0 by two bytes, of none", {39, 2, 0, 0, 0}, 5, METAQASM_LOW_NUMBER},
-    {"family 256 of none", {39, 2, 0, 0, 1}, 5, METAQASM_NOT_IN_SCOPE},
+    {"family 0 by two bytes, of none", {39, 2, 0, 0, 0}, 5, METAQASM_LOW_NUMBER, 0},
+    {"family 256 of none", {39, 2, 0, 0, 1}, 5, METAQASM_NOT_IN_SCOPE, 0},
 };
 
 /* Calls behind 300 families. */
 static const refusal behind[] = {
-    {"no byte of a number", {39, 0, 0}, 3, METAQASM_BAD_CONTENT},
-    {"one byte of a number", {39, 1, 0, 44}, 4, METAQASM_BAD_CONTENT},
-    {"family 0 by two bytes", {39, 2, 0, 0, 0}, 5, METAQASM_LOW_NUMBER},
-    {"family 1 by two bytes", {39, 2, 0, 1, 0}, 5, METAQASM_LOW_NUMBER},
-    {"family 255 by two bytes", {39, 2, 0, 255, 0}, 5, METAQASM_LOW_NUMBER},
-    {"family 255 by two bytes, before a bad part", {39, 3, 0, 255, 0, 99}, 6, METAQASM_LOW_NUMBER},
-    {"family 256 without its operand", {39, 2, 0, 0, 1}, 5, METAQASM_BAD_CONTENT},
-    {"family 300", {39, 2, 0, FAMILIES & 255, FAMILIES >> 8}, 5, METAQASM_NOT_IN_SCOPE},
-    {"family 65,535", {39, 2, 0, 255, 255}, 5, METAQASM_NOT_IN_SCOPE},
+    {"no byte of a number", {39, 0, 0}, 3, METAQASM_BAD_CONTENT, 0},
+    {"one byte of a number", {39, 1, 0, 44}, 4, METAQASM_BAD_CONTENT, 0},
+    {"family 0 by two bytes", {39, 2, 0, 0, 0}, 5, METAQASM_LOW_NUMBER, 0},
+    {"family 1 by two bytes", {39, 2, 0, 1, 0}, 5, METAQASM_LOW_NUMBER, 0},
+    {"family 255 by two bytes", {39, 2, 0, 255, 0}, 5, METAQASM_LOW_NUMBER, 0},
+    {"family 255 by two bytes, before a bad part", {39, 3, 0, 255, 0, 99}, 6, METAQASM_LOW_NUMBER, 0},
+    {"family 256 without its operand", {39, 2, 0, 0, 1}, 5, METAQASM_BAD_CONTENT, 0},
+    {"family 300", {39, 2, 0, FAMILIES & 255, FAMILIES >> 8}, 5, METAQASM_NOT_IN_SCOPE, 0},
+    {"family 65,535", {39, 2, 0, 255, 255}, 5, METAQASM_NOT_IN_SCOPE, 0},
 };
 
 /* What is built is refused with one number at one place, by every call, and the output stays as it was. */

@@ -253,15 +253,7 @@ static void each_family(void)
     }
 }
 
-/* A field behind the families and registers, and what it is refused with at how many bytes past its start. */
-typedef struct {
-    const char *name;
-    uint8_t bytes[40];
-    size_t length;
-    uint32_t number;
-    size_t within;
-} refusal;
-
+/* Fields behind the families and registers. */
 static const refusal refusals[] = {
     {"a family passed for a size", {CALL, 6, 0, EACH, PASSED, 2, 0, TURN, 0}, 9, METAQASM_BAD_TAG, 4},
     {"a family passed for a register", {CALL, 11, 0, EACH, ZERO, PASSED, 2, 0, TURN, 0}, 14, METAQASM_WRONG_KIND, 9},

@@ -245,18 +245,10 @@ static void surrounded(void)
     }
 }
 
-/* A field behind the registers, and what it is refused with at how many bytes past its start. */
-typedef struct {
-    const char *name;
-    uint8_t bytes[40];
-    size_t length;
-    uint32_t number;
-    size_t within;
-} fault;
-
 #define CELL(number) ELEMENT, 6, 0, 0, LITERAL(number) /* 9 bytes */
 
-static const fault faults[] = {
+/* Fields behind the registers. */
+static const refusal faults[] = {
     {"a first cell past the register", {CX, 18, 0, CELL(CELLS), CELL(CELLS)}, 21, METAQASM_NOT_SHOWN, 3},
     {"a second cell past the register", {CX, 18, 0, CELL(0), CELL(CELLS)}, 21, METAQASM_NOT_SHOWN, 12},
     {"no second operand", {CX, 9, 0, CELL(0)}, 12, METAQASM_BAD_CONTENT, 0},

@@ -277,20 +277,12 @@ static void reversed(void)
            "a slice in a reversal", "h 2, h 1");
 }
 
-/* A field behind the families and the qreg, and what it is refused with at how many bytes past its start. */
-typedef struct {
-    const char *name;
-    uint8_t bytes[32];
-    size_t length;
-    uint32_t number;
-    size_t within;
-} refusal;
-
 /* A call of each with size 1, and the literals 0 and 1. */
 #define EACH_1(length) CALL, length, 0, EACH, 64, 2, 0, 1, 0
 #define ZERO 64, 2, 0, 0, 0
 #define ONE 64, 2, 0, 1, 0
 
+/* Fields behind the families and the qreg. */
 static const refusal refusals[] = {
     {"a slice as a wire", {H, 14, 0, SLICE, 11, 0, 0, ZERO, ZERO}, 17, METAQASM_WRONG_KIND, 3},
     {"a slice past the register as a wire", {H, 14, 0, SLICE, 11, 0, 0, ONE, 64, 2, 0, 9, 0}, 17, METAQASM_WRONG_KIND, 3},

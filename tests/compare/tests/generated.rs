@@ -113,6 +113,14 @@ fn every_made(tally: &mut Tally, made: fn(u64) -> Case, seeds: u64) -> Result<()
     Ok(())
 }
 
+/// Asks all calls, those that print too, about what some seeds make.
+fn every_printed(tally: &mut Tally, made: fn(u64) -> Case, seeds: u64) -> Result<(), String> {
+    (0..seeds).try_for_each(|seed| {
+        let compared = tally.case(&made(seed));
+        compared.map_err(|message| format!("seed {seed}: {message}"))
+    })
+}
+
 /// Libraries of hundreds to thousands of families.
 fn sound_libraries(tally: &mut Tally) -> Result<(), String> {
     every_made(tally, libraries::sound, 200)
@@ -135,10 +143,7 @@ fn passing_programs(tally: &mut Tally) -> Result<(), String> {
 
 /// Some of them with all calls, those that print too.
 fn printed_passing(tally: &mut Tally) -> Result<(), String> {
-    (0..2_000).try_for_each(|seed| {
-        let compared = tally.case(&passing_case(seed));
-        compared.map_err(|message| format!("seed {seed}: {message}"))
-    })
+    every_printed(tally, passing_case, 2_000)
 }
 
 /// A program about one wire twice.
@@ -153,15 +158,12 @@ fn twice_programs(tally: &mut Tally) -> Result<(), String> {
 
 /// Some of them with all calls, those that print too.
 fn printed_twice(tally: &mut Tally) -> Result<(), String> {
-    (0..2_000).try_for_each(|seed| {
-        let compared = tally.case(&twice_case(seed));
-        compared.map_err(|message| format!("seed {seed}: {message}"))
-    })
+    every_printed(tally, twice_case, 2_000)
 }
 
 /// A few libraries with all calls, those that print too.
 fn printed_libraries(tally: &mut Tally) -> Result<(), String> {
-    (0..15).try_for_each(|seed| tally.case(&libraries::sound(seed)))
+    every_printed(tally, libraries::sound, 15)
 }
 
 /// Asks for the text of a program's run, with room for a small one.
