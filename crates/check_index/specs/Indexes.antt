@@ -4,7 +4,7 @@ use mathlib.Core.List.{List, []}
 use Prim.Native.Nat.{ℕ}
 use Rattle.language.specs.Tree.{Index, badIndex}
 use Rattle.language.specs.Read.{Field, field, Reader, ofFields, readLiteral, readVariable, operationOf, indexBy}
-use Rattle.language.specs.Check.{Scope}
+use Rattle.language.specs.Check.{allRules, Scope}
 use Rattle.check_index.specs.declared.Operation.{Operation}
 use Rattle.check_index.specs.declared.Operation.the-variants.{Sum, Difference, Product}
 use Rattle.check_index.specs.declared.IndexTag.{IndexTag}
@@ -29,4 +29,4 @@ IndexSays tag k = (part : Field → Index) (p : ℕ) (content : List ℕ) → in
 
 -- a scope with so many index variables; forms ask no more of a scope
 unfoldable pub scopeOf : ℕ → Scope
-scopeOf n = record { families = []; operands = []; variables = n; loops = [] }
+scopeOf n = record { families = []; operands = []; variables = n; loops = []; rules = allRules }

@@ -3,7 +3,7 @@ use mathlib.Core.Path.{_≡_, refl, sym, ap, _∙_}
 use mathlib.Core.Bool.{false}
 use Prim.Native.Nat.{ℕ}
 use native.Mathlib.Omega.{arith}
-use Rattle.language.specs.Form.{Form, Showing, shown, notShown, beyondRange, isShown, built, showing}
+use Rattle.language.specs.Form.{Form, Showing, shown, notShown, beyondRange, isShown, built}
 use Rattle.language.specs.Check.{Checked, _>>_, fine, byShowing, mustShow, roomAfter, checkWithin}
 use Rattle.language.specs.Check as C
 
@@ -27,7 +27,7 @@ module _ (p : ℕ) where
   alone beyondRange = refl
 
 -- the index f within a size, where x is what is shown of f
-module _ (p : ℕ) (s : C.Scope) (size f : Form) {x : Showing} (e : x ≡ showing (s .variables) (s .loops) (built f)) where
+module _ (p : ℕ) (s : C.Scope) (size f : Form) {x : Showing} (e : x ≡ C.showingIn s (built f)) where
   within-is : (byShowing p x >> mustShow p s (roomAfter size f)) ≡ checkWithin p s size f
   unfolding checkWithin mustShow
   within-is = ap (λ (y : Showing). byShowing p y >> mustShow p s (roomAfter size f)) e
@@ -35,6 +35,6 @@ module _ (p : ℕ) (s : C.Scope) (size f : Form) {x : Showing} (e : x ≡ showin
   pub within-stops : false ≡ isShown x → byShowing p x ≡ checkWithin p s size f
   within-stops h = alone p x ∙ stops p x h fine (mustShow p s (roomAfter size f)) ∙ within-is
 
-  pub within-goes : x ≡ shown → {y : Showing} → y ≡ showing (s .variables) (s .loops) (roomAfter size f) → byShowing p y ≡ checkWithin p s size f
+  pub within-goes : x ≡ shown → {y : Showing} → y ≡ C.showingIn s (roomAfter size f) → byShowing p y ≡ checkWithin p s size f
   unfolding mustShow
   within-goes h q = ap (byShowing p) q ∙ goes p h (mustShow p s (roomAfter size f)) ∙ within-is

@@ -12,7 +12,7 @@ use types.Run.{OneOf, miss}
 use denote.Enum.Declared.{tagOf}
 use Rattle.language.specs.Tree.{badIndex}
 use Rattle.language.specs.Read.{Field, ending, due, outerIndex, readSlice, sliceOf}
-use Rattle.language.specs.Form.{Form, Loop, Built, built, outOfRange, Showing, shown, notShown, beyondRange, isShown, showing}
+use Rattle.language.specs.Form.{Form, Loop, Built, built, outOfRange, Showing, shown, notShown, beyondRange, isShown}
 use Rattle.language.specs.Check.{Checked, good, refused, _>>=_, _>>_, noLeftover, inForm, inScope, formOf, Formal, Kind, byShowing, mustShow, wholeFits, roomAfter, slicedSize, sliceSize, checkSlice, sliceFits, checkOperand}
 use Rattle.kinds.specs.declared.Kind.the-variants.{Qubit, Quantum, Classical, Family}
 use Rattle.fields.specs.Header.{fieldsAt}
@@ -46,7 +46,7 @@ module _ (at : ℕ) (s : C.Scope) (size first last : Form) where
   abbrev lastShown : Checked Form
   lastShown = mustShow at s (roomAfter size last) >> sizeShown (sliceSize first last)
 
-  module _ {x : Showing} (e : x ≡ showing (s .variables) (s .loops) (built first)) where
+  module _ {x : Showing} (e : x ≡ C.showingIn s (built first)) where
     first-is : (byShowing at x >> lastShown) ≡ checkSlice at s size first last
     unfolding checkSlice mustShow
     first-is = ap (λ (z : Showing). byShowing at z >> lastShown) e
@@ -54,7 +54,7 @@ module _ (at : ℕ) (s : C.Scope) (size first last : Form) where
     pub first-stops : (l : List ℤ) → false ≡ isShown x → withForm at x l ≡ checkSlice at s size first last
     first-stops l h = stops at x h (good (asForm l)) lastShown ∙ first-is
 
-    module _ (h : x ≡ shown) {y : Showing} (d : y ≡ showing (s .variables) (s .loops) (roomAfter size last)) where
+    module _ (h : x ≡ shown) {y : Showing} (d : y ≡ C.showingIn s (roomAfter size last)) where
       last-is : (byShowing at y >> sizeShown (sliceSize first last)) ≡ checkSlice at s size first last
       unfolding mustShow
       last-is = ap (λ (z : Showing). byShowing at z >> sizeShown (sliceSize first last)) d ∙ goes at h lastShown ∙ first-is
@@ -70,7 +70,7 @@ module _ (at : ℕ) (s : C.Scope) (size first last : Form) where
         unfolding inForm _>>=_ byShowing _>>_
         size-outside l q = sym (ap sizeShown q) ∙ size-is
 
-        pub size-shown : (l : List ℤ) → sliceSize first last ≡ built (asForm l) → {z : Showing} → z ≡ showing (s .variables) (s .loops) (built (asForm l)) → withForm at z l ≡ checkSlice at s size first last
+        pub size-shown : (l : List ℤ) → sliceSize first last ≡ built (asForm l) → {z : Showing} → z ≡ C.showingIn s (built (asForm l)) → withForm at z l ≡ checkSlice at s size first last
         unfolding inForm _>>=_ mustShow
         size-shown l q v = ap (λ (z : Showing). withForm at z l) v ∙ sym (ap sizeShown q) ∙ size-is
 

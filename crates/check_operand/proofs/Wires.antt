@@ -206,7 +206,7 @@ nothingKnown = record { declared = λ n. record { variables = 0; parameters = []
 
 -- what is left to test after two operands: two wires are not one
 abbrev pub lastTest : ℕ → C.Scope → C.Due → (first second : Operand) → Checked (Unit {0})
-lastTest p s C.wire w o = require 35 p (not (sameWire s w o))
+lastTest p s C.wire w o = require 35 p (not (s .rules .twice && sameWire s w o))
 lastTest p s C.bit w o = fine
 lastTest p s (C.register i) w o = fine
 lastTest p s (C.fitting g) w o = fine

@@ -53,7 +53,7 @@ kindsAt formals n i kinds sizes = tabulated (λ j. kindAt formals j kinds sizes)
 
 -- a scope by its parts
 abbrev pub scopeWith : List Signature → List Kind → ℕ → List Loop → C.Scope
-scopeWith fs ks m ls = record { families = fs; operands = ks; variables = m; loops = ls }
+scopeWith fs ks m ls = record { families = fs; operands = ks; variables = m; loops = ls; rules = C.allRules }
 
 -- the scope that the tables stand for, with what is known of families
 abbrev pub scopeAt : Known → Visible → List ℕ → List (List ℤ) → List (List ℤ) → List (List ℤ) → C.Scope

@@ -15,7 +15,7 @@ use denote.Enum.Declared.{tagOf}
 use Rattle.language.specs.Read.{Field, fields, typesOf, statementsBy, outerStatement, familyOf, readFamily}
 use Rattle.language.specs.Limits.{mostFamilies, mostRegisters, mostVariables, mostParameters}
 use Rattle.language.specs.Tree.{Number, number, missing}
-use Rattle.language.specs.Check.{Checked, good, _>>=_, _>>_, require, checkNumber, Kind, Signature, kindsOf, checkStatements, Declared, familyScope, withFamily, checkCounts, checkFamily, checkTop}
+use Rattle.language.specs.Check.{Checked, good, _>>=_, _>>_, require, checkNumber, Kind, Signature, allRules, kindsOf, checkStatements, Declared, familyScope, familyScopeBy, withFamily, checkCounts, checkFamilyBy, checkTop, checkTopBy}
 use Rattle.fields.specs.Header.{fieldsAt}
 use Rattle.forms.specs.Rows.{loopsOf}
 use Rattle.check_operand.specs.Tables.{Formals, kindsAt, tabulated}
@@ -55,7 +55,7 @@ module _ (bytes : ℕ) (t : SoFar) (at m p : ℕ) (program : List ℕ) (from nex
   bodyAfter ks = checkStatements (statementsBy outerStatement (drop p (fieldsAt program from next))) (familyScope (declaredIn t f₀ k₀ s₀) m ks) >> good ks
 
   pub body-stops : OneOf (1 ∷ []) (tagOf the-type r) → checkedRows taking r p (t .rows) k₁ s₁ ≡ familyIn (declaredIn t f₀ k₀ s₀) at m p (fieldsAt program from next)
-  unfolding checkedRows checkFamily _>>=_
+  unfolding checkedRows checkFamilyBy _>>=_
   body-stops o = by r o ∙ ap (λ (c : Checked (List Kind)). c >>= bodyAfter) e
     where
       by : (r : Read) → OneOf (1 ∷ []) (tagOf the-type r) → checkedRows taking r p (t .rows) k₁ s₁ ≡ (checkedRows taking r p (t .rows) k₁ s₁ >>= bodyAfter)
@@ -63,13 +63,13 @@ module _ (bytes : ℕ) (t : SoFar) (at m p : ℕ) (program : List ℕ) (from nex
       by (Refused n q) o = refl
 
   family-scope : (lows highs : List (List ℤ)) → scopeFull (familyRows t m p) f₁ k₁ s₁ lows highs ≡ familyScope (declaredIn t f₀ k₀ s₀) m (kindsAt taking p (t .rows) k₁ s₁)
-  unfolding familyScope loopsOf
-  family-scope lows highs = ap (λ (fs : List Signature). record { families = fs; operands = kindsAt taking p (t .rows) k₁ s₁; variables = m; loops = [] }) (families-below bytes at t h from q a)
+  unfolding familyScopeBy loopsOf
+  family-scope lows highs = ap (λ (fs : List Signature). record { families = fs; operands = kindsAt taking p (t .rows) k₁ s₁; variables = m; loops = []; rules = allRules }) (families-below bytes at t h from q a)
 
   pub body-goes : (mid : ℕ) → r ≡ Upto mid → Beyond program from next p mid → (o : Read) (lows highs : List (List ℤ))
       → checkedPart o ≡ checkStatements (statementsBy outerStatement (fieldsAt program mid next)) (scopeFull (familyRows t m p) f₁ k₁ s₁ lows highs)
       → checkedRows taking o p (t .rows) k₁ s₁ ≡ familyIn (declaredIn t f₀ k₀ s₀) at m p (fieldsAt program from next)
-  unfolding checkedRows checkFamily _>>=_
+  unfolding checkedRows checkFamilyBy _>>=_
   body-goes mid u b o lows highs d =
       rows-then taking o p (t .rows) k₁ s₁
       ∙ ap (λ (c : Checked (Unit {0})). c >> good (kindsAt taking p (t .rows) k₁ s₁)) (d ∙ (λ i. checkStatements (statementsBy outerStatement (sym (b .rest) i)) (family-scope lows highs i)))
@@ -111,7 +111,7 @@ abbrev roomed : Declared → ℕ → List ℕ → Bool → Checked Declared
 roomed d q content b = require 6 q b >> (countsIn q content >>= familyAfter d q content)
 
 family-is : (q : ℕ) (content : List ℕ) (d : Declared) → checkTop (readFamily q content) d ≡ roomed d q content (ltb (length (d .families)) mostFamilies)
-unfolding checkTop readFamily familyOf firstIn secondIn
+unfolding checkTopBy readFamily familyOf firstIn secondIn
 family-is q [] d = ap (λ (c : Checked Declared). require 6 q (ltb (length (d .families)) mostFamilies) >> c) (counts-same q _ (familyAfter d q []) missing missing tt)
 family-is q (m ∷ []) d = ap (λ (c : Checked Declared). require 6 q (ltb (length (d .families)) mostFamilies) >> c) (counts-same q _ (familyAfter d q (m ∷ [])) (number m) missing tt)
 family-is q (m ∷ p ∷ rest) d = ap (λ (c : Checked Declared). require 6 q (ltb (length (d .families)) mostFamilies) >> c) (counts-same q _ (familyAfter d q (m ∷ p ∷ rest)) (number m) (number p) (λ k. refl))

@@ -10,7 +10,7 @@ use Rattle.language.specs.Limits.{mostWires, mostBits}
 use Rattle.language.specs.Tree.{qreg, creg}
 use Rattle.language.specs.Read.{readRegister}
 use Rattle.language.specs.Form.{constantForm}
-use Rattle.language.specs.Check.{Checked, good, refused, _>>=_, Formal, Declared, withQubits, withBits, checkTop}
+use Rattle.language.specs.Check.{Checked, good, refused, _>>=_, Formal, Declared, withQubits, withBits, checkTop, checkTopBy}
 use Rattle.kinds.specs.declared.Kind.{Kind}
 use Rattle.kinds.specs.declared.Kind.the-variants.{Quantum, Classical}
 use Rattle.check_operand.specs.Tables.{Formals, kindIn, sizeOfRow, kindAt, kindsAt, tabulated}
@@ -42,11 +42,11 @@ module _ (t : SoFar) (families : List (List ℕ)) (kinds : List ℕ) (sizes : Li
   registers-now = length-rows (λ j. kindAt (formalAt families kinds sizes) j kinds sizes) (t .registers) 0
 
   qreg-meant : checkTop (readRegister qreg at content) now ≡ (registerIn at (t .registers) (t .qubits) mostWires content >>= λ n. good (withQubits now n))
-  unfolding readRegister checkTop
+  unfolding readRegister checkTopBy
   qreg-meant = ap (λ (k : ℕ). registerIn at k (t .qubits) mostWires content >>= λ n. good (withQubits now n)) registers-now
 
   creg-meant : checkTop (readRegister creg at content) now ≡ (registerIn at (t .registers) (t .bits) mostBits content >>= λ n. good (withBits now n))
-  unfolding readRegister checkTop
+  unfolding readRegister checkTopBy
   creg-meant = ap (λ (k : ℕ). registerIn at k (t .bits) mostBits content >>= λ n. good (withBits now n)) registers-now
 
   module _ (r : Read) where

@@ -64,7 +64,7 @@ abbrev pub topRows : SoFar → Visible
 topRows t = record { families = t .families; first = 0; count = t .registers; variables = 0; loops = 0 }
 
 pub top-scope : (t : SoFar) (families : List (List ℕ)) (kinds : List ℕ) (sizes lows highs : List (List ℤ)) → C.topScope (declaredIn t families kinds sizes) ≡ scopeFull (topRows t) families kinds sizes lows highs
-unfolding C.topScope loopsOf
+unfolding C.topScopeBy loopsOf
 top-scope t families kinds sizes lows highs = refl
 
 -- the families so far, in tables where none of their rows changes

@@ -15,7 +15,7 @@ use Rattle.check_declaration.specs.Types.{sizeRow, mostRows, FormalsIn}
 use Rattle.check_declaration.proofs.Tables.{in-use-later}
 use Rattle.check_declaration.proofs.Formals.{formals-later}
 use Rattle.language.specs.Read.{Field, field, badHeader, fields, choose, readFamily, readRegister, readTop, read}
-use Rattle.language.specs.Check.{Checked, _>>=_, _>>_, require, Declared, checkTop, checkTops, check}
+use Rattle.language.specs.Check.{Checked, _>>=_, _>>_, require, Declared, checkTop, checkTopBy, checkTops, checkTopsBy, check}
 use Rattle.language.specs.Tree.{qreg, creg}
 use Rattle.language.specs.Result.{verdict, checkProgram, checkResult}
 use Rattle.language.specs.Form.{inRange, allInRange}
@@ -63,17 +63,17 @@ topsAt p at to d = checkTops (map readTop (fieldsAt p at to)) d
 
 module _ (program : List ℕ) (at to : ℕ) (d : Declared) where
   pub tops-end : fieldsAt program at to ≡ [] → resultTold Accepted ≡ verdict (topsAt program at to d)
-  unfolding checkTops resultTold verdict
+  unfolding checkTopsBy resultTold verdict
   tops-end e = sym (ap (λ (fs : List Field). verdict (checkTops (map readTop fs) d)) e)
 
   pub tops-cut : fieldsAt program at to ≡ (badHeader at ∷ []) → resultTold (Turned 2 at) ≡ verdict (topsAt program at to d)
-  unfolding checkTops checkTop readTop resultTold verdict _>>=_
+  unfolding checkTopsBy checkTopBy readTop resultTold verdict _>>=_
   tops-cut e = sym (ap (λ (fs : List Field). verdict (checkTops (map readTop fs) d)) e)
 
   module _ (tag next : ℕ) (w : Wholly program at to tag next) (s : Step) (families : List (List ℕ)) (kinds : List ℕ) (sizes : List (List ℤ))
       (e : checkedStep s families kinds sizes ≡ checkTop (readTop (field at tag (slice (at + 3) next program))) d) where
     tops-next : topsAt program at to d ≡ (checkedStep s families kinds sizes >>= topsAt program next to)
-    unfolding checkTops
+    unfolding checkTopsBy
     tops-next = ap (λ (fs : List Field). checkTops (map readTop fs) d) (w .first) ∙ ap (λ (c : Checked Declared). c >>= topsAt program next to) (sym e)
 
     pub tops-stop : (n q : ℕ) → s ≡ Stopped n q → resultTold (Turned n q) ≡ verdict (topsAt program at to d)

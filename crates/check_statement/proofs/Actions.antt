@@ -11,7 +11,7 @@ use types.Run.{OneOf}
 use denote.Enum.Declared.{tagOf}
 use Rattle.language.specs.Tree.{badOperand}
 use Rattle.language.specs.Read.{Field, field, choose, due, readOperand, readStatement, statementsBy, readIf, ifOf, readTop, measureOf, resetOf}
-use Rattle.language.specs.Check.{Checked, good, refused, _>>_, require, checkOperand, checkStatement, checkStatements, Declared, topScope, checkTop}
+use Rattle.language.specs.Check.{Checked, good, refused, _>>_, require, checkOperand, checkStatement, checkStatements, Declared, topScope, checkTop, checkTopBy}
 use Rattle.fields.specs.Header.{fieldsAt}
 use Rattle.check_index.proofs.Read.{the-type}
 use Rattle.check_index.specs.Answers.{checkedPart}
@@ -41,11 +41,11 @@ module _ (d : Declared) (at next tag : ℕ) (program : List ℕ) where
   topped = checkTop (readTop (field at tag (slice (at + 3) next program))) d
 
   pub top-measure : tag ≡ 4 → (twoOperands (topScope d) C.bit at (fieldsAt program (at + 3) next) >> good d) ≡ topped
-  unfolding readTop choose measureOf checkTop fieldsAt
+  unfolding readTop choose measureOf checkTopBy fieldsAt
   top-measure e = sym (ap (λ (t : ℕ). checkTop (readTop (field at t (slice (at + 3) next program))) d) e)
 
   pub top-reset : tag ≡ 5 → (oneWire (topScope d) at (fieldsAt program (at + 3) next) >> good d) ≡ topped
-  unfolding readTop choose resetOf checkTop fieldsAt
+  unfolding readTop choose resetOf checkTopBy fieldsAt
   top-reset e = sym (ap (λ (t : ℕ). checkTop (readTop (field at t (slice (at + 3) next program))) d) e)
 
   pub top-if : tag ≡ 6 → checkTop (readIf at (slice (at + 3) next program)) d ≡ topped
@@ -53,13 +53,13 @@ module _ (d : Declared) (at next tag : ℕ) (program : List ℕ) where
   top-if e = sym (ap (λ (t : ℕ). checkTop (readTop (field at t (slice (at + 3) next program))) d) e)
 
   pub top-statement : (tag ≡ 1 → ⊥) → (tag ≡ 2 → ⊥) → (tag ≡ 3 → ⊥) → (tag ≡ 4 → ⊥) → (tag ≡ 5 → ⊥) → (tag ≡ 6 → ⊥) → (checkStatement (readStatement 16 (field at tag (slice (at + 3) next program))) (topScope d) >> good d) ≡ topped
-  unfolding readTop choose checkTop
+  unfolding readTop choose checkTopBy
   top-statement a b c x y z =
       sym (rw (ne-eqb tag 1 a, ne-eqb tag 2 b, ne-eqb tag 3 c, ne-eqb tag 4 x, ne-eqb tag 5 y, ne-eqb tag 6 z))
 
 module _ (d : Declared) (at : ℕ) (content : List ℕ) where
   pub if-none : content ≡ [] → refused 4 at ≡ checkTop (readIf at content) d
-  unfolding readIf checkTop
+  unfolding readIf checkTopBy
   if-none e = sym (ap (λ (l : List ℕ). checkTop (readIf at l) d) e)
 
   module _ (v : ℕ) (program : List ℕ) (next : ℕ) (e : content ≡ (v ∷ slice (at + 3 + 1) next program)) where
@@ -73,7 +73,7 @@ module _ (d : Declared) (at : ℕ) (content : List ℕ) where
     bit = checkOperand (topScope d) C.bit (due readOperand (badOperand 4 at) inside)
 
     if-is : checkTop (readIf at content) d ≡ (require 13 at (leb v 1) >> (bit >> rest (drop 1 inside)))
-    unfolding readIf ifOf checkTop fieldsAt
+    unfolding readIf ifOf checkTopBy fieldsAt
     if-is =
         let q : at + 3 + 1 ≡ at + 4 = omega arith in
         ap (λ (l : List ℕ). checkTop (readIf at l) d) (e ∙ ap (λ (k : ℕ). v ∷ slice k next program) q)

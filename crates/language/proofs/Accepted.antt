@@ -49,7 +49,7 @@ counts-good p missing n c e = absurd (not-good e)
 
 family-good : (d : C.Declared) (m : ℕ) (types : List ParameterType) (body : Statements) (ks : List Kind) → C.checkFamily d m types body ≡ good ks
     → (C.kindsOf (C.familyScope d m []) types ≡ good ks) × (checkStatements body (C.familyScope d m ks) ≡ fine)
-unfolding C.checkFamily
+unfolding C.checkFamilyBy
 family-good d m types body ks e =
     let k = both (C.kindsOf (C.familyScope d m []) types) _ ks e in
     let c = then-both (checkStatements body (C.familyScope d m (k .value))) (good (k .value)) ks (k .second) in
@@ -84,7 +84,7 @@ unfolding C.checkRegister C.checkNumber C._>>=_
 no-register p registers total most en size e = not-good (then-both (require 6 p (ltb registers mostRegisters)) _ size e .1)
 
 pub top-good : (x : Top) (d after : C.Declared) → C.checkTop x d ≡ good after → TopGood d x after
-unfolding C.checkTop
+unfolding C.checkTopBy
 top-good (family p v n types body) d d′ e =
     let a = then-both (require 6 p (ltb (length (d .families)) mostFamilies)) _ d′ e in
     let x = both (C.checkCounts p v n) _ d′ (a .1) in
@@ -125,7 +125,7 @@ pub data TopsGood : C.Declared → List Top → C.Declared → Type 0 where
   andThen : {d d₁ d₂ : C.Declared} {x : Top} {xs : List Top} → TopGood d x d₁ → TopsGood d₁ xs d₂ → TopsGood d (x ∷ xs) d₂
 
 pub tops-good : (xs : List Top) (d after : C.Declared) → C.checkTops xs d ≡ good after → TopsGood d xs after
-unfolding C.checkTops
+unfolding C.checkTopsBy
 tops-good [] d d′ e = subst (λ (y : C.Declared). TopsGood d [] y) (same-good e) noMore
 tops-good (x ∷ xs) d d′ e =
     let b = both (C.checkTop x d) (C.checkTops xs) d′ e in

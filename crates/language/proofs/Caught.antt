@@ -2,26 +2,28 @@
 use mathlib.Core.Path.{_≡_, refl, ap, _∙_, subst}
 use mathlib.Core.Logic.{_⊎_, inl, inr}
 use mathlib.Core.List.{List}
-use mathlib.Core.Bool.{true, not}
-use Prim.Native.Nat.{ℕ, _+_}
+use mathlib.Core.Bool.{true, false, not, _&&_}
+use Prim.Native.Nat.{ℕ, _+_, _≤_}
 use lib.Dec.{ltb}
-use borrow.Author.Tests.{not-true}
+use native.Mathlib.Omega.{arith}
+use borrow.Author.Tests.{not-true, le-leb}
 use lib.ListN.{length, getElem?}
-use Rattle.language.specs.Limits.{mostLoops}
+use Rattle.language.specs.Limits.{mostLoops, longestProgram}
 use Rattle.language.specs.Tree.{Place, Ending, Index, literal, variable, operation, badIndex, Operand, element, Statement, Statements}
 use Rattle.language.specs.Tree.{Top}
 use Rattle.language.specs.Read.{read}
 use Rattle.language.specs.Form.{Form, variableForm}
 use Rattle.language.specs.Check as C
-use Rattle.language.specs.Check.{Checked, good, refused, fine, require, noLeftover, inScope, Scope, wire, formOf, checkOperand, sameWire, checkWires, checkBounds, inLoop, checkStatement, checkStatements, Declared, check}
-use Rattle.language.specs.Result.{checkProgram}
-use Rattle.language.specs.Twice.{FormSameLaw, OneWire, wholes, elements, ActsOn, byCx, byCphase, programBefore, TwiceAt, here, inReverse, inFor, TwiceIn, TwiceTop, inFamily, inIf, inStatement, TwiceTops, HasTwice, Only, stays, becomes, CaughtLaw, TurnedDown, TwiceRefusedLaw}
+use Rattle.language.specs.Check.{Checked, good, refused, fine, require, noLeftover, inScope, Scope, wire, formOf, checkOperand, sameWire, checkWires, checkBounds, inLoop, checkStatement, checkStatements, Declared, topScope, topScopeBy, familyScope, familyScopeBy, check, checkTopsBy, checkTops, nothingDeclared}
+use Rattle.language.specs.Rules.{noTwice, checkProgramBy}
+use Rattle.language.specs.Result.{checkProgram, checkResult, verdict, turnedDown}
+use Rattle.language.specs.Twice.{FormSameLaw, OneWire, wholes, elements, ActsOn, byCx, byCphase, TwiceAt, here, inReverse, inFor, TwiceIn, TwiceTop, inFamily, inIf, inStatement, TwiceTops, HasTwice, Only, stays, becomes, CaughtLaw, TurnedDown, TwiceRefusedLaw, BecomesLaw, EveryCallLaw}
 use Rattle.language.proofs.Integers.{clash}
 use Rattle.language.proofs.Safe.{not-good, both, then-both, wires-good, required}
 use Rattle.language.proofs.Accepted.{TopGood, aFamily, anIf, aStatement, TopsGood, andThen, tops-good}
-use Rattle.language.proofs.Soundness.{checked}
+use Rattle.language.proofs.Soundness.{checked, run-refused, instance-refused}
 use Rattle.language.proofs.Twice.{same-wire}
-use Rattle.language.proofs.Unchanged.{check-only}
+use Rattle.language.proofs.Unchanged.{check-only, only-tops, later-hidden}
 
 -- ---- the scope does not matter
 
@@ -59,39 +61,41 @@ one-here s t c o (elements {p = p} {q = q} {n = n} {i = i} {j = j} {e = e} {d = 
 
 -- ---- so every such gate is caught
 
-caught-wires : (p : Place) (s t : Scope) (c o : Operand) (e : Ending) → sameWire t c o ≡ true → checkWires p s c o e ≡ fine → ⊥
+caught-wires : (p : Place) (s t : Scope) (c o : Operand) (e : Ending) → s .rules .twice ≡ true → sameWire t c o ≡ true → checkWires p s c o e ≡ fine → ⊥
 unfolding checkWires
-caught-wires p s t c o e w h =
+caught-wires p s t c o e on w h =
     let a = wires-good p s c o e h in
-    let b = then-both (C.checkTwo p s wire c o e) (require 35 p (not (sameWire s c o))) tt h in
-    let n = not-true (sameWire s c o) (required 35 p (not (sameWire s c o)) (b .1)) in
+    let b = then-both (C.checkTwo p s wire c o e) (require 35 p (not (s .rules .twice && sameWire s c o))) tt h in
+    let n = not-true (s .rules .twice && sameWire s c o) (required 35 p (not (s .rules .twice && sameWire s c o)) (b .1)) in
     let y = same-wire s c o .1 (one-here s t c o (same-wire t c o .0 w) (a .0) (a .1)) in
-    clash (cc (n, y))
+    let z : (true && true) ≡ false = cc (n, y, on) in
+    clash z
 
-caught-gate : {p : Place} {x : Statement} {c o : Operand} (s t : Scope) → ActsOn x p c o → sameWire t c o ≡ true → checkStatement x s ≡ fine → ⊥
+caught-gate : {p : Place} {x : Statement} {c o : Operand} (s t : Scope) → s .rules .twice ≡ true → ActsOn x p c o → sameWire t c o ≡ true → checkStatement x s ≡ fine → ⊥
 unfolding checkStatement
-caught-gate s t (byCx {p = p} {c = c} {o = o} {e = e}) w h = caught-wires p s t c o e w h
-caught-gate s t (byCphase {p = p} {k = k} {c = c} {o = o} {e = e}) w h = caught-wires p s t c o e w (then-both (C.checkNatural s k) (checkWires p s c o e) tt h .1)
+caught-gate s t on (byCx {p = p} {c = c} {o = o} {e = e}) w h = caught-wires p s t c o e on w h
+caught-gate s t on (byCphase {p = p} {k = k} {c = c} {o = o} {e = e}) w h = caught-wires p s t c o e on w (then-both (C.checkNatural s k) (checkWires p s c o e) tt h .1)
 
 mutual
-  unfolding checkStatement
+  unfolding checkStatement inLoop
 
-  caught-statement : {p : Place} {x : Statement} (s : Scope) → TwiceAt p x → checkStatement x s ≡ fine → ⊥
-  caught-statement s (here t a few w) h = caught-gate s t a w h
-  caught-statement s (inReverse i) h = caught-statements s i h
-  caught-statement s (inFor {q = q} {low = low} {high = high} i) h =
+  caught-statement : {p : Place} {x : Statement} (s : Scope) → s .rules .twice ≡ true → TwiceAt p x → checkStatement x s ≡ fine → ⊥
+  caught-statement s on (here t a few w) h = caught-gate s t on a w h
+  caught-statement s on (inReverse i) h = caught-statements s on i h
+  caught-statement s on (inFor {q = q} {low = low} {high = high} i) h =
       let a = then-both (require 6 q (ltb (length (s .loops)) mostLoops)) _ tt h in
       let l = both (checkBounds s low high) _ tt (a .1) in
-      caught-statements (inLoop s (l .value)) i (l .second)
+      caught-statements (inLoop s (l .value)) on i (l .second)
 
-  caught-statements : {p : Place} {xs : Statements} (s : Scope) → TwiceIn p xs → checkStatements xs s ≡ fine → ⊥
-  caught-statements s (TwiceIn.first {x = x} {xs = xs} t) h = caught-statement s t (then-both (checkStatement x s) (checkStatements xs s) tt h .0)
-  caught-statements s (TwiceIn.later {x = x} {xs = xs} t) h = caught-statements s t (then-both (checkStatement x s) (checkStatements xs s) tt h .1)
+  caught-statements : {p : Place} {xs : Statements} (s : Scope) → s .rules .twice ≡ true → TwiceIn p xs → checkStatements xs s ≡ fine → ⊥
+  caught-statements s on (TwiceIn.first {x = x} {xs = xs} t) h = caught-statement s on t (then-both (checkStatement x s) (checkStatements xs s) tt h .0)
+  caught-statements s on (TwiceIn.later {x = x} {xs = xs} t) h = caught-statements s on t (then-both (checkStatement x s) (checkStatements xs s) tt h .1)
 
 caught-top : {p : Place} {d after : Declared} {x : Top} → TwiceTop p x → TopGood d x after → ⊥
-caught-top (inFamily t) (aFamily m n ks room few count e c) = caught-statements _ t c
-caught-top (inIf t) (anIf l h k) = caught-statements _ t k
-caught-top (inStatement t) (aStatement h) = caught-statement _ t h
+unfolding topScopeBy familyScopeBy
+caught-top {d = d} (inFamily t) (aFamily m n ks room few count e c) = caught-statements (familyScope d m ks) refl t c
+caught-top {d = d} (inIf t) (anIf l h k) = caught-statements (topScope d) refl t k
+caught-top {d = d} (inStatement t) (aStatement h) = caught-statement (topScope d) refl t h
 
 caught-tops : {p : Place} {d after : Declared} {xs : List Top} → TwiceTops p xs → TopsGood d xs after → ⊥
 caught-tops (TwiceTops.first t) (andThen a b) = caught-top t a
@@ -104,10 +108,38 @@ caught program p t d e = caught-tops t (tops-good (read program) C.nothingDeclar
 pub twice-refused : TwiceRefusedLaw
 twice-refused program p t = go (checkProgram program) refl (check-only program)
   where
-    how : {c : Checked Declared} (n : ℕ) (q : Place) → Only (HasTwice program) (programBefore program) c → c ≡ refused n q → ((n ≡ 35) × HasTwice program q) ⊎ (programBefore program ≡ refused n q)
+    how : {c : Checked Declared} (n : ℕ) (q : Place) → Only (HasTwice program) (checkProgramBy noTwice program) c → c ≡ refused n q → ((n ≡ 35) × HasTwice program q) ⊎ (checkProgramBy noTwice program ≡ refused n q)
     how n q stays e = inr e
     how n q (becomes {p = r} x) e = let y : r ≡ q = cc in inl (cc, subst (λ (z : Place). HasTwice program z) y x)
 
-    go : (c : Checked Declared) → checkProgram program ≡ c → Only (HasTwice program) (programBefore program) c → TurnedDown program
+    go : (c : Checked Declared) → checkProgram program ≡ c → Only (HasTwice program) (checkProgramBy noTwice program) c → TurnedDown program
     go (good d) e o = absurd (caught program p t d e)
     go (refused n q) e o = record { number = n; place = q; is = e; how = how n q o refl }
+
+-- ---- any other answer becomes 35
+
+pub becomes-35 : BecomesLaw
+becomes-35 xs ys d after p b t h = go (checkTops xs d) refl (only-tops xs d)
+  where
+    go : (c : Checked Declared) → checkTops xs d ≡ c → Only (λ q. TwiceTops q xs) (checkTopsBy noTwice xs d) c → (q : Place) × TwiceTops q xs × (checkTops ys d ≡ refused 35 q)
+    go c k stays = absurd (caught-tops t (tops-good xs d after (k ∙ h)))
+    go c k (becomes {p = r} x) = (r, x, later-hidden xs ys d 35 r b k)
+
+-- the check of bytes that are not too many is that of their tree
+of-tree : (program : List ℕ) (q : Place) → length program ≤ longestProgram → checkTops (read program) nothingDeclared ≡ refused 35 q → checkResult program ≡ turnedDown 35 q
+unfolding checkResult checkProgram check require verdict C._>>_
+of-tree program q l e = rw (le-leb (length program) longestProgram l) (ap (verdict {A = Declared}) e)
+
+pub every-call : EveryCallLaw
+every-call program xs after p l b t h =
+    let a = becomes-35 xs (read program) nothingDeclared after p b t h in
+    let c = of-tree program (a .0) l (a .2) in
+    let few : 1 ≤ checkResult program .number = rw c (omega arith) in (
+      a .0,
+      a .1,
+      record {
+        checks = c;
+        runs = λ limit output. rw (run-refused program limit output few) (rw c refl);
+        instances = λ family sizes limit output. rw (instance-refused program family sizes limit output few) (rw c refl);
+      },
+    )

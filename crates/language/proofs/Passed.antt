@@ -17,7 +17,7 @@ use Rattle.language.specs.Machine.{Meaning}
 use Rattle.language.proofs.Integers.{_≼_, ≼-trans, ≼-from-difference, and-both}
 use Rattle.language.proofs.FormLaws.{value, Within, Naturals, start, naturals-length, value-difference, within-difference}
 use Rattle.language.proofs.Safe.{World, then-both, required}
-use Rattle.language.proofs.Fits.{single, quantums, AllMean, end, more, AllProper, qubits, sized, by-showing, showing-is-built, must-show}
+use Rattle.language.proofs.Fits.{single, quantums, AllMean, end, more, AllProper, qubits, sized, shown-by, showing-is-built, must-show}
 
 proper-wire : {n : ℕ} {ks : List Kind} → AllProper n (qubit ∷ ks) → AllProper n ks
 proper-wire (qubits pr) = pr
@@ -27,9 +27,8 @@ proper-register (sized w pr) = (w, pr)
 
 -- an actual size that the check compared is not above the formal one
 size-below : (p : Place) (m : ℕ) (i j : Form) (ys : List ℤ) → C.mustShow p (C.sizeScope m) (differenceOf i j) ≡ fine → Within m i → Within m j → Naturals m ys → value j ys ≼ value i ys
-unfolding C.mustShow
 size-below p m i j ys e wi wj n =
-    let g = showing-is-built m [] (differenceOf i j) (by-showing p _ e) in
+    let g = showing-is-built m [] (differenceOf i j) (shown-by p (C.sizeScope m) (differenceOf i j) e) in
     let w : Within (length ys) (g .0) = subst (λ (x : ℕ). Within x (g .0)) (sym (naturals-length n)) (within-difference i j (g .0) (g .1) wi wj) in
     let q : value (g .0) ys ≡ value i ys -ℤ value j ys = value-difference i j (g .0) ys (g .1) (wi .full) (wj .full) in
     ≼-from-difference (subst (λ (x : ℤ). pos 0 ≼ x) q (must-show p (C.sizeScope m) (differenceOf i j) (g .0) ys e (start n) (g .1) w))

@@ -13,13 +13,13 @@ use Rattle.language.specs.Limits.{allVariables}
 use Rattle.language.specs.Tree.{Place, Ending, Index, literal, variable, operation, badIndex, Operand, whole, element, slice, passed, badOperand, Statement}
 use Rattle.language.specs.Form.{Form, inRange, constantForm, variableForm, sameNumber, sameNumbers, sameForm}
 use Rattle.language.specs.Check as C
-use Rattle.language.specs.Check.{Checked, good, refused, fine, Scope, wire, formOf, noLeftover, require, equalForms, sameWire}
+use Rattle.language.specs.Check.{Checked, good, refused, fine, Scope, formOf, noLeftover, require, equalForms, sameWire}
 use Rattle.language.specs.Machine as M
 use Rattle.language.specs.Machine.{Wire, Meaning, aWire, aBit, wires, bits, theFamily, Frame, State, Outcome, going, ended, stuck, Run, Family, begin, after, evaluate, elementAt, asWire, meaningOf, wireOf, runStatement}
-use Rattle.language.specs.Twice.{SameNumberLaw, NumberItselfLaw, SameNumbersLaw, NumbersItselfLaw, SameFormLaw, FormItselfLaw, OneWire, wholes, elements, SameWireLaw, ActsOn, byCx, byCphase, Bounded, stepped, Never, NeverRunsLaw, statementBefore}
+use Rattle.language.specs.Twice.{SameNumberLaw, NumberItselfLaw, SameNumbersLaw, NumbersItselfLaw, SameFormLaw, FormItselfLaw, OneWire, wholes, elements, SameWireLaw, ActsOn, byCx, byCphase, Bounded, stepped, Never, NeverRunsLaw}
 use Rattle.language.proofs.Integers.{and-both}
 use Rattle.language.proofs.FormLaws.{value, Within, constant-within, constant-value, variable-within, variable-value}
-use Rattle.language.proofs.Safe.{World, Held, Safe, goes, ends, Any, ok-then, ok-step, both, then-both, two-good, required, and-is}
+use Rattle.language.proofs.Safe.{World, Held, Safe, goes, ends, Any, ok-then, ok-step, both, then-both, wires-good, required, and-is}
 use Rattle.language.proofs.Fits.{Agrees, combined-sound}
 use Rattle.language.proofs.Statements.{safe-cx, safe-cphase}
 
@@ -297,14 +297,14 @@ not-stuck : {W : World} {o : Outcome (Unit {0})} → Safe W Any o → o ≡ stuc
 not-stuck (goes u v) e = let z : _≡_ {A = ℕ} 0 1 = cc in omega arith
 not-stuck (ends u v) e = let z : _≡_ {A = ℕ} 0 1 = cc in omega arith
 
--- one that the check before 35 accepts is not stuck either: it ends with 24, 25 or 26
+-- one that the check accepts, by whatever rules, is not stuck either: it ends with 24, 25 or 26
 pub never-stuck : (W : World) (x : Statement) (p : Place) (c o : Operand) (s : Scope) (fs : List Family) (r : Frame) (t : State)
-    → ActsOn x p c o → statementBefore x s ≡ fine → Agrees W s fs r → Held W t → runStatement (W .limit) (W .room) x fs r t ≡ stuck → ⊥
-unfolding statementBefore runStatement
+    → ActsOn x p c o → C.checkStatement x s ≡ fine → Agrees W s fs r → Held W t → runStatement (W .limit) (W .room) x fs r t ≡ stuck → ⊥
+unfolding C.checkStatement runStatement
 never-stuck W x p c o s fs r t (byCx {e = e}) h a l =
-    let b = two-good p s wire c o e h in
+    let b = wires-good p s c o e h in
     not-stuck (ok-then (ok-step W (a .busy) p) (safe-cx p c o s fs r (b .0) (b .1) a) .safe t l)
 never-stuck W x p c o s fs r t (byCphase {k = k} {e = e}) h a l =
-    let n = then-both (C.checkNatural s k) (C.checkTwo p s wire c o e) tt h in
-    let b = two-good p s wire c o e (n .1) in
+    let n = then-both (C.checkNatural s k) (C.checkWires p s c o e) tt h in
+    let b = wires-good p s c o e (n .1) in
     not-stuck (ok-then (ok-step W (a .busy) p) (safe-cphase p k c o s fs r (n .0) (b .0) (b .1) a) .safe t l)

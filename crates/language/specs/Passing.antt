@@ -9,7 +9,7 @@ use Rattle.language.specs.Tree.{number, ended, leftover, literal, qbit, 
 use Rattle.language.specs.Tree as T
 use Rattle.language.specs.Form as F
 use Rattle.language.specs.Form.{Form, constantForm, variableForm}
-use Rattle.language.specs.Check.{fine, good, refused, Kind, qubit, quantum, formal, Signature, Due, wire, register, fitting, familyFits, sizeScope, declaredBefore, kindOf}
+use Rattle.language.specs.Check.{fine, good, refused, Kind, qubit, quantum, formal, Signature, allRules, Due, wire, register, fitting, familyFits, sizeScope, declaredBefore, kindOf}
 use Rattle.language.specs.Check as C
 use Rattle.language.specs.Machine.{Meaning, aWire, wires, theFamily, Outcome, stuck, forward, always, Family, takes, runStatement, layout, begin}
 use Rattle.language.specs.Machine as M
@@ -471,7 +471,7 @@ register-due = refl
 
 -- three families, and the operand at 7 that names one of them, in a call of the family 2
 abbrev threeFamilies : C.Scope
-threeFamilies = record { families = has 0 [] ∷ has 0 [] ∷ has 0 [] ∷ []; operands = []; variables = 0; loops = [] }
+threeFamilies = record { families = has 0 [] ∷ has 0 [] ∷ has 0 [] ∷ []; operands = []; variables = 0; loops = []; rules = allRules }
 
 one-before : declaredBefore threeFamilies 2 (T.passed 7 1 ended) ≡ fine
 unfolding checking

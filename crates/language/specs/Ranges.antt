@@ -6,7 +6,9 @@ use Prim.Native.Nat.{ℕ}
 use lib.Dec.{eqb}
 use lib.IntN.{pos, negℤ}
 use Rattle.language.specs.Form.{Form, Built, built, outOfRange, Loop, Showing, shown, notShown, beyondRange, showing}
-use Rattle.language.specs.Trials.{trialsMade}
+use Rattle.language.specs.Rules.{checkProgramBy}
+use Rattle.language.specs.Trials.{trialsMade, plainResult}
+use Rattle.language.specs.Result as T
 use Rattle.language.specs.Settlings.{form, number, two, _to_, sameShowing}
 use Rattle.language.specs.Settlings as S
 use Rattle.language.specs.Computed.{forming, trying}
@@ -82,6 +84,11 @@ programs =
 programs-hold : allHold programs ≡ true
 unfolding computed programs
 programs-hold = refl
+
+-- the plain rule alone does not show x[0]
+plain-unlike : plainResult (F (h (lit 0))) ≡ T.turnedDown 12 35
+unfolding computed checkProgramBy
+plain-unlike = refl
 
 -- ---- how many trials are made: the variables 1, 2 and 3 of three open loops after one family variable n
 

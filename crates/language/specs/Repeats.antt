@@ -8,7 +8,10 @@ use lib.ListN.{replicate}
 use Rattle.language.specs.Tree.{Index, literal, variable, operation, badIndex, product, ended, leftover, Operand}
 use Rattle.language.specs.Tree as T
 use Rattle.language.specs.Form.{constantForm, variableForm, sameNumbers, sameForm}
-use Rattle.language.specs.Check.{Scope, sameWire}
+use Rattle.language.specs.Check.{allRules, Scope, sameWire}
+use Rattle.language.specs.Rules.{noTwice, checkProgramBy}
+use Rattle.language.specs.Result.{verdict}
+use Rattle.language.specs.Result as R
 use Rattle.language.specs.Settlings.{form}
 use Rattle.language.specs.Settlings as S
 use Rattle.language.specs.Computed.{forming, checking}
@@ -221,6 +224,11 @@ forms-hold : allHold forms ≡ true
 unfolding computed forms
 forms-hold = refl
 
+-- without 35 the check accepts cx of a wire with itself
+unlike : verdict (checkProgramBy noTwice itself) ≡ R.turnedDown 0 0
+unfolding computed checkProgramBy
+unlike = refl
+
 phases-hold : allHold phases ≡ true
 unfolding computed phases
 phases-hold = refl
@@ -245,7 +253,7 @@ in-runs-hold = refl
 
 -- four index variables and eight loops
 abbrev full : Scope
-full = record { families = []; operands = []; variables = 4; loops = replicate 8 (record { low = constantForm (pos 0); high = constantForm (pos 0) }) }
+full = record { families = []; operands = []; variables = 4; loops = replicate 8 (record { low = constantForm (pos 0); high = constantForm (pos 0) }); rules = allRules }
 
 abbrev elementOf : ℕ → Index → Operand
 elementOf k i = T.element 3 k i ended

@@ -54,29 +54,28 @@ RunTheorem =
 unfoldable pub instanceAt : (program : List ℕ) (family : ℕ) (sizes : List ℕ) (limit room : ℕ) → Outcome (Unit {0})
 instanceAt program family sizes limit room = (found (getElem? (allDeclared limit room (read program) []) family) >>= λ f. instanceRun f (map pos sizes)) begin
 
--- an instance, its sizes given in bytes: turned down before the machine starts, with nothing written, or as the machine comes out
-pub record InstanceAnswers (program : List ℕ) (family : ℕ) (sizes : List ℕ) (limit : ℕ) (output : List ℕ) : Type 0 where
+-- an instance, its sizes given in bytes, comes to `called`: turned down before the machine starts, with nothing written, or as the machine comes out
+pub record InstanceAnswers (program : List ℕ) (family : ℕ) (sizes : List ℕ) (limit : ℕ) (output : List ℕ) (called : Conclusion) : Type 0 where
   -- no such family
-  pub noFamily : familyIn (read program) family ≡ none → instanceOutcome program family sizes limit output ≡ untouched output 20 0
+  pub noFamily : familyIn (read program) family ≡ none → called ≡ untouched output 20 0
   -- it has a family parameter
   pub takesFamily : (d : Declaration) → familyIn (read program) family ≡ some d → hasFamilyType (d .types) ≡ true
-      → instanceOutcome program family sizes limit output ≡ untouched output 34 0
+      → called ≡ untouched output 34 0
   -- not four bytes for each of its index variables
   pub miscounted : (d : Declaration) → familyIn (read program) family ≡ some d → hasFamilyType (d .types) ≡ false → (length sizes ≡ 4 * d .variables → ⊥)
-      → instanceOutcome program family sizes limit output ≡ untouched output 21 0
+      → called ≡ untouched output 21 0
   -- a size that is too large
   pub tooLarge : (d : Declaration) → familyIn (read program) family ≡ some d → hasFamilyType (d .types) ≡ false → length sizes ≡ 4 * d .variables → allSizesFit (fourBytes sizes) ≡ false
-      → instanceOutcome program family sizes limit output ≡ untouched output 22 0
+      → called ≡ untouched output 22 0
   -- any other: the number is 0, 23 to 27 or 32
   pub suited : Suits program family sizes
-      → Reports 23 limit (wiresLaidOut program family sizes) 0 output (instanceAt program family (fourBytes sizes) limit (length output))
-      (instanceOutcome program family sizes limit output)
+      → Reports 23 limit (wiresLaidOut program family sizes) 0 output (instanceAt program family (fourBytes sizes) limit (length output)) called
 
 -- every instance of an accepted program, at every family number and sizes, under every step limit and into every output
 abbrev pub InstanceTheorem : Type 0
 InstanceTheorem =
     (program : List ℕ) (family : ℕ) (sizes : List ℕ) (limit : ℕ) (output : List ℕ) → checkResult program .number ≡ 0
-    → InstanceAnswers program family sizes limit output
+    → InstanceAnswers program family sizes limit output (instanceOutcome program family sizes limit output)
 
 -- The same over sizes as numbers: every family without family parameters that an accepted program declares, at every list of as many sizes as it has index variables, each from 0 to
 -- 65,535. Each such list is what some bytes say (Sizes).

@@ -5,19 +5,18 @@ use mathlib.Core.List.{List, [], _∷_}
 use mathlib.Core.Bool.{true, not}
 use Prim.Native.Nat.{ℕ, suc, _≤_}
 use lib.IntN.{ℤ}
-use lib.Dec.{leb, ltb}
 use lib.ListN.{length}
-use Rattle.language.specs.Limits.{longestProgram, mostFamilies, mostVariables, mostLoops}
+use Rattle.language.specs.Limits.{longestProgram, mostVariables, mostLoops}
 use Rattle.language.specs.Tree.{Place, Refusal, Ending, Number, Index, Operand, whole, element, ParameterType}
-use Rattle.language.specs.Tree.{Statement, Statements, gate, cx, phase, cphase, call, callParameter, reverse, for, badStatement, nil, cons}
-use Rattle.language.specs.Tree.{Top, family, qreg, creg, measure, reset, if, statement, badTop}
+use Rattle.language.specs.Tree.{Statement, Statements, cx, cphase, reverse, for, nil, cons}
+use Rattle.language.specs.Tree.{Top, family, if, statement}
 use Rattle.language.specs.Read.{read}
 use Rattle.language.specs.Form.{Form, sameNumber, sameNumbers, sameForm}
-use Rattle.language.specs.Check.{Checked, good, refused, _>>=_, _>>_, fine, require, Kind, Scope, wire, bit, formOf, checkNatural, checkOperand, checkTwo, sameWire, checkBounds, inLoop, checkStatement}
-use Rattle.language.specs.Check.{Declared, topScope, checkCounts, kindsOf, familyScope, withFamily, checkTop, checkTops, nothingDeclared}
+use Rattle.language.specs.Check.{Checked, good, refused, _>>_, require, allRules, Scope, formOf, sameWire, checkStatement, Declared, checkTopsBy, checkTops, nothingDeclared}
+use Rattle.language.specs.Rules.{noTwice, under, checkProgramBy}
 use Rattle.language.specs.Machine as M
 use Rattle.language.specs.Machine.{Frame, State, Outcome, Family, runStatement}
-use Rattle.language.specs.Result.{checkProgram}
+use Rattle.language.specs.Result.{checkProgram, checkResult, turnedDown, untouched, runOutcome, instanceOutcome}
 
 -- ---- equal forms
 
@@ -82,69 +81,13 @@ NeverRunsLaw =
     (limit room : ℕ) (x : Statement) (p : Place) (c o : Operand) (s : Scope) (fs : List Family) (f : Frame) (t : State)
     → ActsOn x p c o → Bounded s → sameWire s c o ≡ true → Never p t (runStatement limit room x fs f t)
 
--- ---- the check before 35: a cx or cphase ends with its leftover bytes, all else is the check's own
+-- ---- the last test of a gate
 
-unfoldable mutual
-  pub statementBefore : Statement → Scope → Checked (Unit {0})
-  statementBefore (gate p g o e) s = checkStatement (gate p g o e) s
-  statementBefore (cx p c o e) s = checkTwo p s wire c o e
-  statementBefore (phase p k o e) s = checkStatement (phase p k o e) s
-  statementBefore (cphase p k c o e) s = do
-    checkNatural s k
-    checkTwo p s wire c o e
-  statementBefore (call p n more) s = checkStatement (call p n more) s
-  statementBefore (callParameter p n more) s = checkStatement (callParameter p n more) s
-  statementBefore (reverse p ss) s = statementsBefore ss s
-  statementBefore (for p low high ss) s = do
-    require 6 p (ltb (length (s .loops)) mostLoops)
-    loop ← checkBounds s low high
-    statementsBefore ss (inLoop s loop)
-  statementBefore (badStatement n p) s = checkStatement (badStatement n p) s
-
-  pub statementsBefore : Statements → Scope → Checked (Unit {0})
-  statementsBefore nil s = fine
-  statementsBefore (cons x xs) s = do
-    statementBefore x s
-    statementsBefore xs s
-
-unfoldable pub familyBefore : Declared → (variables : ℕ) → List ParameterType → (body : Statements) → Checked (List Kind)
-familyBefore d v types body = do
-  ks ← kindsOf (familyScope d v []) types
-  statementsBefore body (familyScope d v ks)
-  good ks
-
-unfoldable pub topBefore : Top → Declared → Checked Declared
-topBefore (family p variables parameters types body) d = do
-  require 6 p (ltb (length (d .families)) mostFamilies)
-  counts ← checkCounts p variables parameters
-  ks ← familyBefore d (counts .0) types body
-  good (withFamily d (record { variables = counts .0; parameters = ks }))
-topBefore (qreg p size e) d = checkTop (qreg p size e) d
-topBefore (creg p size e) d = checkTop (creg p size e) d
-topBefore (measure p w b e) d = checkTop (measure p w b e) d
-topBefore (reset p w e) d = checkTop (reset p w e) d
-topBefore (if p v b ss) d = do
-  require 13 p (leb v 1)
-  checkOperand (topScope d) bit b
-  statementsBefore ss (topScope d)
-  good d
-topBefore (statement x) d = do
-  statementBefore x (topScope d)
-  good d
-topBefore (badTop n p) d = checkTop (badTop n p) d
-
-unfoldable pub topsBefore : List Top → Declared → Checked Declared
-topsBefore [] d = good d
-topsBefore (x ∷ xs) d = do
-  after ← topBefore x d
-  topsBefore xs after
-
-unfoldable pub programBefore : List ℕ → Checked Declared
-programBefore program = require 1 0 (leb (length program) longestProgram) >> topsBefore (read program) nothingDeclared
-
--- 35 is the last test of a gate on two wires: what the check before refuses there stays
+-- 35 is the last test of a gate on two wires: what the check without it refuses there stays
 abbrev pub LastTestLaw : Type 0
-LastTestLaw = (x : Statement) (p : Place) (c o : Operand) (s : Scope) → ActsOn x p c o → checkStatement x s ≡ (statementBefore x s >> require 35 p (not (sameWire s c o)))
+LastTestLaw =
+    (x : Statement) (p : Place) (c o : Operand) (s : Scope) → ActsOn x p c o
+    → checkStatement x (under allRules s) ≡ (checkStatement x (under noTwice s) >> require 35 p (not (sameWire (under allRules s) c o)))
 
 -- ---- where such a gate stands
 
@@ -180,15 +123,15 @@ pub data Only (At : Place → Type 0) {A : Type 0} (before : Checked A) : Checke
   becomes : {p : Place} → At p → Only At before (refused 35 p)
 
 abbrev pub CheckOnlyLaw : Type 0
-CheckOnlyLaw = (program : List ℕ) → Only (HasTwice program) (programBefore program) (checkProgram program)
+CheckOnlyLaw = (program : List ℕ) → Only (HasTwice program) (checkProgramBy noTwice program) (checkProgram program)
 
 -- a program without such a gate has the answer that it had
 abbrev pub CheckSameLaw : Type 0
-CheckSameLaw = (program : List ℕ) → ((p : Place) → HasTwice program p → ⊥) → checkProgram program ≡ programBefore program
+CheckSameLaw = (program : List ℕ) → ((p : Place) → HasTwice program p → ⊥) → checkProgram program ≡ checkProgramBy noTwice program
 
 -- what is accepted was accepted, with the same declared
 abbrev pub AcceptedBeforeLaw : Type 0
-AcceptedBeforeLaw = (program : List ℕ) (d : Declared) → checkProgram program ≡ good d → programBefore program ≡ good d
+AcceptedBeforeLaw = (program : List ℕ) (d : Declared) → checkProgram program ≡ good d → checkProgramBy noTwice program ≡ good d
 
 -- ---- in reading order
 
@@ -222,7 +165,7 @@ LaterHiddenLaw = (xs ys : List Top) (d : Declared) (n : Refusal) (p : Place) →
 -- so a fault before which there is no such gate stays
 abbrev pub EarlierStaysLaw : Type 0
 EarlierStaysLaw =
-    (xs ys : List Top) (d : Declared) (n : Refusal) (p : Place) → BeginsTops xs ys → ((q : Place) → TwiceTops q xs → ⊥) → topsBefore xs d ≡ refused n p
+    (xs ys : List Top) (d : Declared) (n : Refusal) (p : Place) → BeginsTops xs ys → ((q : Place) → TwiceTops q xs → ⊥) → checkTopsBy noTwice xs d ≡ refused n p
     → checkTops ys d ≡ refused n p
 
 -- ---- every such gate is caught
@@ -236,7 +179,26 @@ pub record TurnedDown (program : List ℕ) : Type 0 where
   pub number : Refusal
   pub place : Place
   pub is : checkProgram program ≡ refused number place
-  pub how : ((number ≡ 35) × HasTwice program place) ⊎ (programBefore program ≡ refused number place)
+  pub how : ((number ≡ 35) × HasTwice program place) ⊎ (checkProgramBy noTwice program ≡ refused number place)
 
 abbrev pub TwiceRefusedLaw : Type 0
 TwiceRefusedLaw = (program : List ℕ) (p : Place) → HasTwice program p → TurnedDown program
+
+-- ---- any other answer becomes 35
+
+-- where nothing else is at fault up to such a gate, the answer is 35 at one of the gates up to there, whatever stands after it
+abbrev pub BecomesLaw : Type 0
+BecomesLaw =
+    (xs ys : List Top) (d after : Declared) (p : Place) → BeginsTops xs ys → TwiceTops p xs → checkTopsBy noTwice xs d ≡ good after
+    → (q : Place) × TwiceTops q xs × (checkTops ys d ≡ refused 35 q)
+
+-- and so answer check, run and instance, whatever they are asked for, and write nothing
+pub record Answers35 (program : List ℕ) (q : Place) : Type 0 where
+  pub checks : checkResult program ≡ turnedDown 35 q
+  pub runs : (limit : ℕ) (output : List ℕ) → runOutcome program limit output ≡ untouched output 35 q
+  pub instances : (family : ℕ) (sizes : List ℕ) (limit : ℕ) (output : List ℕ) → instanceOutcome program family sizes limit output ≡ untouched output 35 q
+
+abbrev pub EveryCallLaw : Type 0
+EveryCallLaw =
+    (program : List ℕ) (xs : List Top) (after : Declared) (p : Place) → length program ≤ longestProgram → BeginsTops xs (read program) → TwiceTops p xs
+    → checkTopsBy noTwice xs nothingDeclared ≡ good after → (q : Place) × TwiceTops q xs × Answers35 program q

@@ -15,7 +15,9 @@ use Rattle.language.specs.Result.{Result, Answer as Reply, Conclusion, finished
 use Rattle.language.specs.Sound.{qubitsDeclared, bitsDeclared, wiresLaidOut, Sound, Finishes, takesFamily}
 use Rattle.language.proofs.Safe.{then-both, required}
 use Rattle.language.proofs.Refusals.{accepted}
-use Rattle.language.proofs.Soundness.{run-sound, instance-sound, instance-passed, run-refused, instance-refused, run-never-stuck, instance-never-stuck}
+use Rattle.language.specs.Theorem.{Reports, InstanceAnswers}
+use Rattle.language.proofs.Theorem.{run-theorem, instance-theorem, reported-sound}
+use Rattle.language.proofs.Soundness.{instance-sound, instance-passed, run-refused, instance-refused, run-never-stuck, instance-never-stuck}
 use Rattle.records.specs.declared.Answer.{Answer}
 use Rattle.records.specs.declared.Answer.the-variants.{Going, Ended, Stuck}
 use Rattle.runs.specs.Whole.{Acceptable}
@@ -80,8 +82,8 @@ module _ (l : List ℕ) (limit : ℕ) (lent : List ℕ) (e : checkResult l .numb
   run-answers out r x h k =
       let g = sym run-is ∙ sym h ∙ k in
       let a : Reply = record { result = x; output = out } in
-      let s = sound-of 24 limit (qubitsDeclared l) (bitsDeclared l) lent a _ g (run-sound l limit lent e) in
-      let w = kept-within 24 limit (qubitsDeclared l) (bitsDeclared l) lent a s in
+      let s = subst (λ (c : Conclusion). Reports 24 limit (qubitsDeclared l) (bitsDeclared l) lent (runProgram limit (length lent) (read l)) c) g (run-theorem l limit lent e) in
+      let w = kept-within 24 limit (qubitsDeclared l) (bitsDeclared l) lent a (reported-sound s) in
       (g, (λ z. s), w .0, w .1)
 
 -- ---- instances
@@ -100,18 +102,14 @@ module _ (l : List ℕ) (k : ℕ) (sizes : List ℕ) (limit : ℕ) (lent : List 
   -- what holds of its answer
   module _ (a : Reply) (g : instanceOutcome l k sizes limit lent ≡ finished a) where
     instance-promised : SoundInstance l k sizes limit lent a
-    instance-promised z = (
-      λ u. sound-of 20 limit (wiresLaidOut l k sizes) 0 lent a _ g (instance-sound l k sizes limit lent e .0 u),
-      λ suits. sound-of 23 limit (wiresLaidOut l k sizes) 0 lent a _ g (instance-sound l k sizes limit lent e .1 suits),
-      λ u. same-reply (sym g ∙ instance-passed l k sizes limit lent e u),
-    )
+    instance-promised z = subst (λ (c : Conclusion). InstanceAnswers l k sizes limit lent c) g (instance-theorem l k sizes limit lent e)
 
     instance-within : (recordSize * a .result .records ≤ length (a .output)) × (a .result .steps ≤ limit)
     instance-within = go (takesFamily l k) refl
       where
         go : (b : Bool) → takesFamily l k ≡ b → (recordSize * a .result .records ≤ length (a .output)) × (a .result .steps ≤ limit)
-        go false u = kept-within 20 limit (wiresLaidOut l k sizes) 0 lent a (instance-promised e .0 u)
-        go true u = let i = instance-promised e .2 u in (omega (arith, ap (λ (x : Reply). x .result .records) i), omega (arith, ap (λ (x : Reply). x .result .steps) i))
+        go false u = kept-within 20 limit (wiresLaidOut l k sizes) 0 lent a (sound-of 20 limit (wiresLaidOut l k sizes) 0 lent a _ g (instance-sound l k sizes limit lent e .0 u))
+        go true u = let i = same-reply (sym g ∙ instance-passed l k sizes limit lent e u) in (omega (arith, ap (λ (x : Reply). x .result .records) i), omega (arith, ap (λ (x : Reply). x .result .steps) i))
 
   pub instance-answers : (out : List ℕ) (r : Answer) (x : Result) → concluded out r ≡ instanceOf (getElem? (allDeclared limit (length lent) (read l) []) k) sizes lent
       → concluded out r ≡ finished (record { result = x; output = out })

@@ -10,12 +10,12 @@ use lib.Dec.{leb, eqb}
 use lib.ListN.{length}
 use Rattle.language.specs.Limits.{recordSize}
 use Rattle.language.specs.Read.{read}
-use Rattle.language.specs.Result.{Answer as Reply, finished, turnedDown, untouched, checkResult, runOutcome, instanceOutcome, fourBytes, allSizesFit}
+use Rattle.language.specs.Result.{Answer as Reply, Conclusion, finished, turnedDown, untouched, checkResult, runOutcome, instanceOutcome, fourBytes, allSizesFit}
 use Rattle.language.specs.Theorem.{InstanceAnswers}
 use Rattle.language.specs.Lookup.{Declaration, familyIn}
 use Rattle.language.specs.Sound.{qubitsDeclared, bitsDeclared, wiresLaidOut, Suits}
 use Rattle.language.proofs.Soundness.{run-refused, instance-refused}
-use Rattle.language.proofs.Theorem.{instance-theorem}
+use Rattle.language.proofs.Theorem.{run-theorem, instance-theorem}
 use Rattle.language.specs.Machine.{Record, hasFamilyType}
 use Rattle.qasm_text.specs.Text.{textOf}
 use Rattle.qasm_text.specs.RecordsIn.{recordsIn}
@@ -79,11 +79,11 @@ by-keeps zero buffer text a b e = subst (Kept a) (sym (same-text e)) (printed-ke
 by-keeps (suc n) buffer text a b e = subst (Kept a) (sym (same-text e)) (record { records = refl; steps = refl; output = refl; fits = omega arith })
 
 -- a conclusion that is an answer is that answer, soundly
-sound-of : {least limit q b : ℕ} {came : Option (List Record)} {lent buffer : List ℕ} {c : TextConclusion} {x : TextAnswer} → c ≡ textFinished x → TextFinishes least limit q b came lent buffer c
-    → TextSound least limit q b came lent buffer x
-sound-of {least} {limit} {q} {b} {came} {lent} {buffer} {c} {x} g f =
+sound-of : {least limit q b : ℕ} {came : Option (List Record)} {called : Conclusion} {lent buffer : List ℕ} {c : TextConclusion} {x : TextAnswer} → c ≡ textFinished x → TextFinishes least limit q b came called lent buffer c
+    → TextSound least limit q b came called lent buffer x
+sound-of {least} {limit} {q} {b} {came} {called} {lent} {buffer} {c} {x} g f =
     let i : f .answer ≡ x = cc in
-    subst (λ (y : TextAnswer). TextSound least limit q b came lent buffer y) i (f .sound)
+    subst (λ (y : TextAnswer). TextSound least limit q b came called lent buffer y) i (f .sound)
 
 -- what holds of the answer to a call that prints, whatever the program
 pub record Within (limit : ℕ) (b : TextAnswer) : Type 0 where
@@ -111,7 +111,7 @@ module _ (l : List ℕ) (limit : ℕ) (lent : List ℕ) (a : Reply) (e : runOutc
       → (runTextOutcome l limit lent buffer ≡ textFinished b) × SoundRunText l limit lent buffer b × Within limit b
   run-text-promised buffer b f r s =
       let g = run-text-by l limit lent buffer a e ∙ sym f in
-      (g, (λ z. sound-of g (run-text-sound l limit lent buffer z)), within limit a b (by-keeps (a .result .number) buffer _ a b f) r s)
+      (g, (λ z. (run-theorem l limit lent z, sound-of g (run-text-sound l limit lent buffer z))), within limit a b (by-keeps (a .result .number) buffer _ a b f) r s)
 
 -- ---- instances
 
@@ -131,7 +131,7 @@ module _ (l : List ℕ) (k : ℕ) (sizes : List ℕ) (limit : ℕ) (lent : List 
   pub instance-suits : a .result .number ≡ 0 → Suits l k sizes
   instance-suits z = by-family (familyIn (read l) k) refl
     where
-      t : InstanceAnswers l k sizes limit lent
+      t : InstanceAnswers l k sizes limit lent (instanceOutcome l k sizes limit lent)
       t = instance-theorem l k sizes limit lent (instance-accepted z)
 
       by-sizes : (d : Declaration) → familyIn (read l) k ≡ some d → hasFamilyType (d .types) ≡ false → (n : Bool) → eqb (length sizes) (4 * d .variables) ≡ n
@@ -154,4 +154,4 @@ module _ (l : List ℕ) (k : ℕ) (sizes : List ℕ) (limit : ℕ) (lent : List 
       → (instanceTextOutcome l k sizes limit lent buffer ≡ textFinished b) × SoundInstanceText l k sizes limit lent buffer b × Within limit b
   instance-text-promised buffer b f r s =
       let g = instance-text-by l k sizes limit lent buffer a e ∙ sym f in
-      (g, (λ z. let i = instance-text-sound l k sizes limit lent buffer z in (λ u. sound-of g (i .0 u), λ suits. sound-of g (i .1 suits), λ u. same-text (sym g ∙ i .2 u))), within limit a b (by-keeps (a .result .number) buffer _ a b f) r s)
+      (g, (λ z. let i = instance-text-sound l k sizes limit lent buffer z in (instance-theorem l k sizes limit lent z, λ u. sound-of g (i .0 u), λ suits. sound-of g (i .1 suits), λ u. same-text (sym g ∙ i .2 u))), within limit a b (by-keeps (a .result .number) buffer _ a b f) r s)

@@ -90,8 +90,8 @@ pub extern "C" fn metaqasm_check(program: &[u8]) -> MetaqasmResult
 }
 
 // Writes the gate list of the whole program. The first promise rules out that the machine is stuck. The second says, where
-// the check gives 0, which ends are possible, what the records name and which bytes are kept. The others are parts of it that
-// hold for every program.
+// the check gives 0, that the answer is the machine's own, 0 exactly where it came to its end, which ends are possible, what
+// the records name and which bytes are kept. The others are parts of it that hold for every program.
 #[no_mangle]
 pub extern "C" fn metaqasm_run(program: &[u8], limit: u64, output: &mut [u8]) -> MetaqasmResult
     ensures { λ r. ⌜ runOutcome (now (program .entry)) limit (now (output .entry)) ≡ finished (record { result = answered r; output = now (output .exit) }) ⌝ }
@@ -183,8 +183,9 @@ fn printed(
 }
 
 // Runs the whole program, and prints its list where it is complete. The first promise says what result, output and text are,
-// for all inputs. The second says, where the check gives 0, which ends are possible, that the text is that of the machine's own
-// list and which bytes are kept. The others are parts of it that hold for every program.
+// for all inputs. The second says, where the check gives 0, that the run behind it is the machine's own, which ends are
+// possible, that the text is that of the machine's list and which bytes are kept. The others are parts of it that hold for
+// every program.
 #[no_mangle]
 pub extern "C" fn metaqasm_run_text(
     program: &[u8],

@@ -48,10 +48,11 @@ module _ (least limit q b : ℕ) (lent buffer : List ℕ) (run : Answer) (s : So
   end-number n e (inl z) = absurd (omega arith)
   end-number n e (inr h) = subst (EndsWith least) e h
 
-  other-sound : (came : Option (List Record)) (n : ℕ) → run .result .number ≡ suc n → TextSound least limit q b came lent buffer (unprinted (suc n) (run .result .place) buffer run)
+  other-sound : (came : Option (List Record)) (n : ℕ) → run .result .number ≡ suc n → TextSound least limit q b came (finished run) lent buffer (unprinted (suc n) (run .result .place) buffer run)
   unfolding unprinted
   other-sound came n e = record {
     run = run;
+    is = refl;
     sound = s;
     records = refl;
     steps = refl;
@@ -72,10 +73,11 @@ module _ (least limit q b : ℕ) (lent buffer : List ℕ) (run : Answer) (s : So
     small-text : length lent < 2 ^ 60 → textLength q b list < 2 ^ 63
     small-text h = text-small q b list (length lent) (s .few .0) (s .few .1) (l .named) (omega (arith, l .count, s .fits)) h
 
-    full-sound : length buffer < length (textOf q b list) → TextSound least limit q b (some list) lent buffer (unprinted 30 0 buffer run)
+    full-sound : length buffer < length (textOf q b list) → TextSound least limit q b (some list) (finished run) lent buffer (unprinted 30 0 buffer run)
     unfolding unprinted
     full-sound t = record {
       run = run;
+      is = refl;
       sound = s;
       records = refl;
       steps = refl;
@@ -98,10 +100,11 @@ module _ (least limit q b : ℕ) (lent buffer : List ℕ) (run : Answer) (s : So
       rest = refl;
     }
 
-    printed-sound : length (textOf q b list) ≤ length buffer → TextSound least limit q b (some list) lent buffer (fullyPrinted buffer (textOf q b list) run)
+    printed-sound : length (textOf q b list) ≤ length buffer → TextSound least limit q b (some list) (finished run) lent buffer (fullyPrinted buffer (textOf q b list) run)
     unfolding fullyPrinted
     printed-sound t = record {
       run = run;
+      is = refl;
       sound = s;
       records = refl;
       steps = refl;
@@ -124,11 +127,11 @@ module _ (least limit q b : ℕ) (lent buffer : List ℕ) (run : Answer) (s : So
       rest = into-rest buffer (textOf q b list);
     }
 
-    done-sound : TextSound least limit q b (some list) lent buffer (printed buffer (textOf q b list) run)
+    done-sound : TextSound least limit q b (some list) (finished run) lent buffer (printed buffer (textOf q b list) run)
     unfolding printed
     done-sound = go (leb (length (textOf q b list)) (length buffer)) refl
       where
-        go : (t : Bool) → leb (length (textOf q b list)) (length buffer) ≡ t → TextSound least limit q b (some list) lent buffer (cond t (fullyPrinted buffer (textOf q b list) run) (unprinted 30 0 buffer run))
+        go : (t : Bool) → leb (length (textOf q b list)) (length buffer) ≡ t → TextSound least limit q b (some list) (finished run) lent buffer (cond t (fullyPrinted buffer (textOf q b list) run) (unprinted 30 0 buffer run))
         go true t = printed-sound (leb-true (length (textOf q b list)) (length buffer) t)
         go false t = full-sound (leb-false (length (textOf q b list)) (length buffer) t)
 
@@ -187,7 +190,7 @@ listed-by least limit q b list lent run s h =
     }
 
 answer-finishes : (least limit q b : ℕ) (lent buffer : List ℕ) (run : Answer) → Sound least limit q b lent run → (n : ℕ) (came : Option (List Record)) → run .result .number ≡ n
-    → (run .result .number ≡ 0 → Held lent came run) → TextFinishes least limit q b came lent buffer (byNumber n buffer (mapped (textOf q b) came) run)
+    → (run .result .number ≡ 0 → Held lent came run) → TextFinishes least limit q b came (finished run) lent buffer (byNumber n buffer (mapped (textOf q b) came) run)
 unfolding byNumber mapped
 answer-finishes least limit q b lent buffer run s zero none e h = absurd (h e)
 answer-finishes least limit q b lent buffer run s zero (some list) e h = record {
@@ -198,7 +201,7 @@ answer-finishes least limit q b lent buffer run s zero (some list) e h = record 
 answer-finishes least limit q b lent buffer run s (suc n) came e h = record { answer = _; is = refl; sound = other-sound least limit q b lent buffer run s came n e }
 
 text-finishes : (least limit q b : ℕ) (came : Option (List Record)) (lent buffer : List ℕ) (c : Conclusion) → Finishes least limit q b lent c → Holds lent came c
-    → TextFinishes least limit q b came lent buffer (textConclusion c buffer (mapped (textOf q b) came))
+    → TextFinishes least limit q b came c lent buffer (textConclusion c buffer (mapped (textOf q b) came))
 unfolding textConclusion
 text-finishes least limit q b came lent buffer c f h =
     rw (f .is) (answer-finishes least limit q b lent buffer (f .answer) (f .sound) (f .answer .result .number) came refl (h .held (f .answer) (f .is)))
@@ -236,7 +239,7 @@ instance-text-sound program family sizes limit output buffer e =
 -- ---- different lists print differently
 
 -- number 0 comes of a run with number 0 whose text fits
-module _ {least limit q b : ℕ} {came : Option (List Record)} {lent buffer : List ℕ} {a : TextAnswer} (x : TextSound least limit q b came lent buffer a) (z : a .result .number ≡ 0) where
+module _ {least limit q b : ℕ} {came : Option (List Record)} {called : Conclusion} {lent buffer : List ℕ} {a : TextAnswer} (x : TextSound least limit q b came called lent buffer a) (z : a .result .number ≡ 0) where
   run-done : x .run .result .number ≡ 0
   run-done = go (x .run .result .number) refl
     where
@@ -259,8 +262,8 @@ module _ {least limit q b : ℕ} {came : Option (List Record)} {lent buffer : Li
   text-printed = list-printed .printed printed-fits .2
 
 -- equal texts printed over the same wires and bits are those of equal lists, and so of outputs with the same records
-pub printed-injective : {least limit least′ limit′ q b : ℕ} {came came′ : Option (List Record)} {lent buffer lent′ buffer′ : List ℕ} {a a′ : TextAnswer}
-    → TextSound least limit q b came lent buffer a → TextSound least′ limit′ q b came′ lent′ buffer′ a′ → a .result .number ≡ 0 → a′ .result .number ≡ 0
+pub printed-injective : {least limit least′ limit′ q b : ℕ} {came came′ : Option (List Record)} {called called′ : Conclusion} {lent buffer lent′ buffer′ : List ℕ} {a a′ : TextAnswer}
+    → TextSound least limit q b came called lent buffer a → TextSound least′ limit′ q b came′ called′ lent′ buffer′ a′ → a .result .number ≡ 0 → a′ .result .number ≡ 0
     → take (a .result .length) (a .text) ≡ take (a′ .result .length) (a′ .text) → came ≡ came′
 printed-injective {q = q} {b = b} x y z w e =
     list-printed x z .is

@@ -7,7 +7,7 @@ use mathlib.Core.Option.{Option, some}
 use Prim.Native.Nat.{ℕ, _^_, _≤_, _<_}
 use lib.ListN.{length, take, drop}
 use Rattle.language.specs.Machine.{Record}
-use Rattle.language.specs.Result.{Answer, turnedDown, writtenInto, checkResult}
+use Rattle.language.specs.Result.{Answer, Conclusion, finished, turnedDown, writtenInto, checkResult, runOutcome, instanceOutcome}
 use Rattle.language.specs.Sound.{qubitsDeclared, bitsDeclared, wiresLaidOut, AllName, EndsWith, Sound, takesFamily, Suits}
 use Rattle.qasm_text.specs.Text.{textOf, textLength, enoughFor}
 use Rattle.qasm_text.specs.RecordsIn.{recordsIn}
@@ -36,10 +36,11 @@ pub record Complete (wireCount bitCount : ℕ) (came : Option (List Record)) (le
   -- no text of an output below 2 ^ 60 bytes reaches 2 ^ 63
   pub small : length lent < 2 ^ 60 → textLength wireCount bitCount list < 2 ^ 63
 
--- the answer to a run in which the machine came to this list, into the output and the text buffer lent
-pub record TextSound (least limit wireCount bitCount : ℕ) (came : Option (List Record)) (lent buffer : List ℕ) (a : TextAnswer) : Type 0 where
+-- the answer to a run in which the machine came to this list, and which without the text comes to `called`, into the output and the text buffer lent
+pub record TextSound (least limit wireCount bitCount : ℕ) (came : Option (List Record)) (called : Conclusion) (lent buffer : List ℕ) (a : TextAnswer) : Type 0 where
   -- the run behind it: its counts and its output, whatever comes of the text
   pub run : Answer
+  pub is : called ≡ finished run
   pub sound : Sound least limit wireCount bitCount lent run
   pub records : a .result .records ≡ run .result .records
   pub steps : a .result .steps ≡ run .result .steps
@@ -58,10 +59,10 @@ pub record TextSound (least limit wireCount bitCount : ℕ) (came : Option (List
   pub rest : drop (a .result .length) (a .text) ≡ drop (a .result .length) buffer
 
 -- what a call comes to is such an answer, and not that the machine is stuck
-pub record TextFinishes (least limit wireCount bitCount : ℕ) (came : Option (List Record)) (lent buffer : List ℕ) (c : TextConclusion) : Type 0 where
+pub record TextFinishes (least limit wireCount bitCount : ℕ) (came : Option (List Record)) (called : Conclusion) (lent buffer : List ℕ) (c : TextConclusion) : Type 0 where
   pub answer : TextAnswer
   pub is : c ≡ textFinished answer
-  pub sound : TextSound least limit wireCount bitCount came lent buffer answer
+  pub sound : TextSound least limit wireCount bitCount came called lent buffer answer
 
 -- ---- the theorem, which proofs/TextSoundness proves
 
@@ -69,7 +70,7 @@ pub record TextFinishes (least limit wireCount bitCount : ℕ) (came : Option (L
 abbrev pub RunTextTheorem : Type 0
 RunTextTheorem =
     (program : List ℕ) (limit : ℕ) (output buffer : List ℕ) → checkResult program .number ≡ 0
-    → TextFinishes 24 limit (qubitsDeclared program) (bitsDeclared program) (runRecords program limit output) output buffer
+    → TextFinishes 24 limit (qubitsDeclared program) (bitsDeclared program) (runRecords program limit output) (runOutcome program limit output) output buffer
     (runTextOutcome program limit output buffer)
 
 -- turned down before the machine starts: nothing counted, output and buffer as lent
@@ -82,10 +83,10 @@ abbrev pub InstanceTextTheorem : Type 0
 InstanceTextTheorem =
     (program : List ℕ) (family : ℕ) (sizes : List ℕ) (limit : ℕ) (output buffer : List ℕ) → checkResult program .number ≡ 0
     → (takesFamily program family ≡ false
-    → TextFinishes 20 limit (wiresLaidOut program family sizes) 0 (instanceRecords program family sizes limit output) output buffer
+    → TextFinishes 20 limit (wiresLaidOut program family sizes) 0 (instanceRecords program family sizes limit output) (instanceOutcome program family sizes limit output) output buffer
     (instanceTextOutcome program family sizes limit output buffer))
     × (Suits program family sizes
-    → TextFinishes 23 limit (wiresLaidOut program family sizes) 0 (instanceRecords program family sizes limit output) output buffer
+    → TextFinishes 23 limit (wiresLaidOut program family sizes) 0 (instanceRecords program family sizes limit output) (instanceOutcome program family sizes limit output) output buffer
     (instanceTextOutcome program family sizes limit output buffer))
     × (takesFamily program family ≡ true → instanceTextOutcome program family sizes limit output buffer ≡ textFinished (untouchedText 34 0 output buffer))
 

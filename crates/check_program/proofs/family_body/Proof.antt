@@ -8,7 +8,7 @@ use native.Mathlib.Omega.{arith}
 use denote.Ref.{now}
 use lib.IntN.{pos}
 use lib.ListN.{length, replicate}
-use Rattle.language.specs.Check.{familyScope}
+use Rattle.language.specs.Check.{familyScopeBy}
 use Rattle.check_index.proofs.Answers.{count-upto}
 use Rattle.check_program.specs.Declarations.{declaredIn}
 use Rattle.check_program.proofs.Scopes.{eight-rows, scope-right, scope-declares}
@@ -52,7 +52,7 @@ same-length-3 c =
     search needs
 
 returns : tie.Need-returns
-unfolding familyScope
+unfolding familyScopeBy
 returns c =
     let a = c .before .before .before .before .before .before .before .before .before .before .before .before .args in
     let program = now (a .program) in
@@ -99,7 +99,7 @@ same-length-6 c =
     search needs
 
 returns-2 : tie.Need-returns-2
-unfolding familyScope
+unfolding familyScopeBy
 returns-2 c =
     let a = c .before .before .before .before .before .before .before .before .before .before .before .before .before .before .before .before .before .before .before .args in
     let program = now (a .program) in

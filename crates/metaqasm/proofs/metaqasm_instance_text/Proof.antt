@@ -4,6 +4,7 @@ use Rattle.metaqasm.proofs.metaqasm_instance_text.Statement.{statement}
 use Rattle.metaqasm.proofs.metaqasm_instance_text.Tie as tie
 use denote.Ref.{now}
 use Rattle.language.specs.Result.{Answer as Reply}
+use Rattle.language.proofs.Theorem.{reported-sound}
 use Rattle.metaqasm.specs.Answers.{answered}
 use Rattle.metaqasm.specs.TextAnswers.{textAnswered}
 use Rattle.metaqasm.proofs.AcceptedRuns.{acceptable}
@@ -49,7 +50,7 @@ printed-requires c κs =
     let out = c .before .before .before .before .before .before .before .before .metaqasm-instance .last .1 .1 .1 .1 .0 in
     let run : Reply = record { result = answered (c .before .before .before .before .before .before .before .before .metaqasm-instance .result); output = out } in
     let suits = instance-suits l (a .family) (now (a .sizes)) (a .limit) (now (a .output)) run (c .before .before .before .before .before .before .before .before .metaqasm-instance .ensures .0) (c .before .before .before .before .if1 .left) in
-    let sound = c .before .before .before .before .before .before .before .before .metaqasm-instance .ensures .1 .0 (instance-accepted l (a .family) (now (a .sizes)) (a .limit) (now (a .output)) run (c .before .before .before .before .before .before .before .before .metaqasm-instance .ensures .0) (c .before .before .before .before .if1 .left)) .1 suits in
+    let sound = reported-sound (c .before .before .before .before .before .before .before .before .metaqasm-instance .ensures .1 .0 (instance-accepted l (a .family) (now (a .sizes)) (a .limit) (now (a .output)) run (c .before .before .before .before .before .before .before .before .metaqasm-instance .ensures .0) (c .before .before .before .before .if1 .left)) .suited suits) in
     let few = sound .few in
     let w = (rw (c .before .before .before .wide .ensures) at (c .before .before .wires .ensures)) suits in
     (c .before .before .before .before .before .before .before .before .metaqasm-instance .ensures .1 .1 .0, ((λ i h. sound .bytes i h .halvings), (rw w (few .0), few .1)))

@@ -5,6 +5,7 @@ use Rattle.metaqasm.proofs.metaqasm_run_text.Tie as tie
 use native.Mathlib.Omega.{arith}
 use denote.Ref.{now}
 use Rattle.language.specs.Result.{Answer as Reply}
+use Rattle.language.proofs.Theorem.{reported-sound}
 use Rattle.metaqasm.specs.Answers.{answered}
 use Rattle.metaqasm.specs.TextAnswers.{textAnswered}
 use Rattle.metaqasm.proofs.AcceptedRuns.{acceptable}
@@ -45,7 +46,7 @@ printed-requires c κs =
     let l = now (a .program) in
     let out = c .before .before .before .before .before .before .before .metaqasm-run .last .1 .1 .0 in
     let run : Reply = record { result = answered (c .before .before .before .before .before .before .before .metaqasm-run .result); output = out } in
-    let sound = c .before .before .before .before .before .before .before .metaqasm-run .ensures .1 .0 (run-accepted l (a .limit) (now (a .output)) run (c .before .before .before .before .before .before .before .metaqasm-run .ensures .0) (c .before .before .before .if1 .left)) in
+    let sound = reported-sound (c .before .before .before .before .before .before .before .metaqasm-run .ensures .1 .0 (run-accepted l (a .limit) (now (a .output)) run (c .before .before .before .before .before .before .before .metaqasm-run .ensures .0) (c .before .before .before .if1 .left))) in
     let few = sound .few in
     let q = c .before .before .declared .ensures .qubits in
     let b = c .before .before .declared .ensures .bits in
