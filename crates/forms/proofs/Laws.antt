@@ -9,10 +9,10 @@ use native.Mathlib.Numerals.{add-one}
 use lib.ListN.{length, getD, set, take, drop, replicate, length-map, length-take, drop-of-length-le, List·getD-map}
 use lib.Seq.{drop-cons, getD-take, length-take-le, set-getD}
 use Rattle.language.specs.Form.{Form, Built, built, outOfRange, isZero, closed, Loop, beyondRange, Showing, plainly, lessRange, isShown, trial, byTrial, orTried, showing, showingOf, inRange, allInRange, zipped, build, sumOf, differenceOf, multipleOf, _thenBuild_, constantForm, termsPutIn}
-use Rattle.language.specs.Settled.{coefficient, Scan, ended, oneMore, thenScan, scan, remaining, after, onward, Settling, settling, goneThrough}
-use Rattle.language.specs.Trials.{trialsFor, trialsMade}
-use Rattle.language.proofs.Settled.{next-law, agree-law, gone-most}
-use Rattle.language.proofs.Trials.{for-most, trials-most}
+use Rattle.form_laws.specs.Settled.{coefficient, Scan, ended, oneMore, thenScan, scan, remaining, after, onward, Settling, settling, goneThrough}
+use Rattle.form_laws.specs.Trials.{trialsFor, trialsMade}
+use Rattle.form_laws.proofs.Settled.{next-law, agree-law, gone-most}
+use Rattle.form_laws.proofs.Trials.{for-most, trials-most}
 use Rattle.forms.specs.Flat.{Kept, asForm, builtOf}
 use Rattle.language.proofs.Integers.{integers, plus, minus, times, clash}
 use Rattle.forms.proofs.Lists.{sum-flat, difference-flat, ranges, rest-good, rest-bad, rest-none, Passed, begun, again, stopped, ended-kept, both, zero-yes, zero-no, term-flat, rest-long, set-kept}

@@ -15,7 +15,7 @@ use lib.Seq.{take-all}
 use Rattle.language.specs.Form.{Built, built, Loop, closed, showingOf, inRange, allInRange, zipped, build, sumOf, differenceOf, multipleOf, _thenBuild_, without, noneNegative, isZero, allZero, sameNumber, sameNumbers, sameForm}
 use Rattle.forms.specs.Flat.{Kept, Short, widened, asForm, builtOf, showingBy}
 use Rattle.language.proofs.Integers.{clash, lt-true}
-use Rattle.language.proofs.Twice.{same-number, number-itself}
+use Rattle.form_laws.proofs.Equal.{same-number, number-itself}
 
 module _ {A : Type 0} where
   abbrev pub front : ℕ → List A → List A → List A

@@ -7,7 +7,7 @@ use native.Mathlib.Omega.{arith}
 use types.Run.{OneOf, miss}
 use denote.Enum.Declared.{tagOf}
 use Rattle.language.specs.Form.{Showing, shown, notShown, beyondRange, isShown, orTried}
-use Rattle.language.specs.Trials.{ifNotShown}
+use Rattle.form_laws.specs.Trials.{ifNotShown}
 use Rattle.forms.proofs.Verdict.{the-type}
 use Rattle.forms.specs.declared.Verdict.{Verdict}
 use Rattle.forms.specs.declared.Verdict.the-variants.{Shown, NotShown, OutOfRange}

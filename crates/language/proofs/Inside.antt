@@ -1,5 +1,5 @@
 -- Runs of wires inside registers: the laws of specs/Inside. Assumes nothing.
-use mathlib.Core.Path.{_≡_, refl, sym, subst}
+use mathlib.Core.Path.{_≡_, refl}
 use mathlib.Core.List.{List, [], _∷_, _++_}
 use mathlib.Core.Bool.{Bool, true, false, cond}
 use mathlib.Core.Option.{Option, none, some}
@@ -8,11 +8,10 @@ use native.Mathlib.Omega.{arith}
 use lib.IntN.{ℤ, pos, negsuc, _+ℤ_, _-ℤ_}
 use lib.Dec.{ltb}
 use lib.ListN.{getElem?}
-use Rattle.language.specs.Tree.{Place, number, missing, Operand, whole, element, slice, passed, badOperand, Argument, index, operand, badArgument, Top, family, qreg, creg, measure, reset, if, statement, badTop}
+use Rattle.language.specs.Tree.{Place, Operand, whole, element, slice, passed, badOperand, Argument, index, operand, badArgument}
 use Rattle.language.specs.Machine as M
 use Rattle.language.specs.Machine.{Meaning, aWire, aBit, wires, bits, theFamily, Frame, State, Outcome, going, ended, stuck, Run}
-use Rattle.language.specs.Inside.{Inside, here, later, Lies, AllLie, registersOf, registersIn, meaningsLaid, Gives, SliceLaw, OperandLaw, CallLaw, Leads, itself, turned, around, conditioned, called, RunLaw, InstanceLaw}
-use Rattle.language.specs.Sound.{qubitsOf}
+use Rattle.language.specs.Inside.{Inside, here, later, Lies, AllLie, Gives, SliceLaw, OperandLaw, CallLaw}
 use Rattle.language.proofs.Integers.{slice-within}
 
 -- a part of a run of wires lies where the run lies
@@ -61,26 +60,26 @@ lie-all (r ∷ rs) = (lies-first r rs, lie-later r rs rs (lie-all rs))
 
 -- ---- the machine's operands
 
-record Yields {A : Type 0} (P : A → Type 0) (run : Run A) : Type 0 where
-  yields : (s : State) → Gives P (run s)
+pub record Yields {A : Type 0} (P : A → Type 0) (run : Run A) : Type 0 where
+  pub yields : (s : State) → Gives P (run s)
 
-gives-after : {A B : Type 0} (P : A → Type 0) (Q : B → Type 0) (o : Outcome A) (next : A → Run B) → Gives P o → ((a : A) → P a → Yields Q (next a)) → Gives Q (M.after o next)
+pub gives-after : {A B : Type 0} (P : A → Type 0) (Q : B → Type 0) (o : Outcome A) (next : A → Run B) → Gives P o → ((a : A) → P a → Yields Q (next a)) → Gives Q (M.after o next)
 unfolding M.after
 gives-after P Q (going a s) next h k = k a h .yields s
 gives-after P Q (ended n p s) next h k = tt
 gives-after P Q stuck next h k = tt
 
-yields-bind : {A B : Type 0} {P : A → Type 0} {Q : B → Type 0} {run : Run A} {next : A → Run B} → Yields P run → ((a : A) → P a → Yields Q (next a)) → Yields Q (M._>>=_ run next)
+pub yields-bind : {A B : Type 0} {P : A → Type 0} {Q : B → Type 0} {run : Run A} {next : A → Run B} → Yields P run → ((a : A) → P a → Yields Q (next a)) → Yields Q (M._>>=_ run next)
 unfolding M._>>=_
 yields-bind {P = P} {Q = Q} {run = run} {next = next} h k = record { yields = λ s. gives-after P Q (run s) next (h .yields s) k }
 
-yields-give : {A : Type 0} {P : A → Type 0} {a : A} → P a → Yields P (M.give a)
+pub yields-give : {A : Type 0} {P : A → Type 0} {a : A} → P a → Yields P (M.give a)
 yields-give h = record { yields = λ s. h }
 
-yields-nothing : {A : Type 0} {P : A → Type 0} → Yields P M.noMeaning
+pub yields-nothing : {A : Type 0} {P : A → Type 0} → Yields P M.noMeaning
 yields-nothing = record { yields = λ s. tt }
 
-yields-any : {A : Type 0} (run : Run A) → Yields (λ a. Unit {0}) run
+pub yields-any : {A : Type 0} (run : Run A) → Yields (λ a. Unit {0}) run
 yields-any {A} run = record { yields = λ s. go (run s) }
   where
     go : (o : Outcome A) → Gives (λ a. Unit {0}) o
@@ -162,56 +161,3 @@ operand-law p f o s = operand-lies p f o .yields s
 
 pub call-law : CallLaw
 call-law registers p f args s l = call-lies registers p f args l .yields s
-
--- ---- through a run
-
-lead-lies : (rs : List Meaning) {f g : Frame} → AllLie rs (f .operands) → Leads f g → AllLie rs (g .operands)
-unfolding M.inDirection M.inRound M.inCondition M.inCall
-lead-lies rs l itself = l
-lead-lies rs l (turned d h) = lead-lies rs l h
-lead-lies rs l (around z h) = lead-lies rs l h
-lead-lies rs l (conditioned c h) = lead-lies rs l h
-lead-lies rs l (called {g = g} p args zs s e h) = subst (Gives (AllLie rs)) e (call-law rs p g args s (lead-lies rs l h))
-
-lie-append : (rs ms ns : List Meaning) → AllLie rs ms → AllLie rs ns → AllLie rs (ms ++ ns)
-lie-append rs [] ns l k = k
-lie-append rs (m ∷ ms) ns l k = (l .0, lie-append rs ms ns (l .1) k)
-
-yields-then : {A : Type 0} {P : A → Type 0} (run : Run (Unit {0})) {next : Run A} → Yields P next → Yields P (M._>>_ run next)
-unfolding M._>>_
-yields-then {P = P} run {next} h = record { yields = λ s. gives-after (λ u. Unit {0}) P (run s) (λ u. next) (yields-any run .yields s) λ u v. h }
-
--- the registers declared lie inside these, and there are so many qubits
-abbrev Declares : (rs : List Meaning) (qubits : ℕ) → M.Globals → Type 0
-Declares rs n g = AllLie rs (g .registers) × (g .qubits ≡ n)
-
-module _ (limit room : ℕ) (rs : List Meaning) where
-  declared-lies : (x : Top) (g : M.Globals) → AllLie rs (g .registers) → AllLie rs (registersOf (g .qubits) x) → Yields (Declares rs (g .qubits + qubitsOf x)) (M.declareTop limit room x g)
-  unfolding M.declareTop M.withFamilies M.withWires M.withBits registersOf qubitsOf
-  declared-lies (family p m n types body) g l i = yields-give (l, omega arith)
-  declared-lies (qreg p (number n) e) g l i = yields-give (lie-append rs (g .registers) _ l i, refl)
-  declared-lies (qreg p missing e) g l i = yields-nothing
-  declared-lies (creg p (number n) e) g l i = yields-give (lie-append rs (g .registers) _ l (tt, tt), omega arith)
-  declared-lies (creg p missing e) g l i = yields-nothing
-  declared-lies (measure p o c e) g l i = yields-give (l, omega arith)
-  declared-lies (reset p o e) g l i = yields-give (l, omega arith)
-  declared-lies (if p v o ss) g l i = yields-give (l, omega arith)
-  declared-lies (statement x) g l i = yields-give (l, omega arith)
-  declared-lies (badTop n p) g l i = yields-nothing
-
-  tops-lie : (xs : List Top) (g : M.Globals) → AllLie rs (g .registers) → AllLie rs (registersIn (g .qubits) xs) → Yields (λ h. AllLie rs (h .registers)) (M.runTops limit room xs g)
-  unfolding M.runTops M.runTop registersIn
-  tops-lie [] g l i = yields-give l
-  tops-lie (x ∷ xs) g l i =
-      let j = lie-parts rs (registersOf (g .qubits) x) (registersIn (g .qubits + qubitsOf x) xs) i in
-      yields-bind (yields-then (M.actTop limit room x g) (declared-lies x g l (j .0))) λ h k. tops-lie xs h (k .0) (subst (λ (n : ℕ). AllLie rs (registersIn n xs)) (sym (k .1)) (j .1))
-
-pub run-lies : RunLaw
-unfolding M.topFrame
-run-lies limit room xs g s e f h =
-    let rs = registersIn 0 xs in
-    lead-lies rs (subst (Gives (λ x. AllLie rs (x .registers))) e (tops-lie limit room rs xs M.nothingYet tt (lie-all rs) .yields M.begin)) h
-
-pub instance-lies : InstanceLaw
-unfolding meaningsLaid
-instance-lies values types ms s e f h = rw e (lead-lies ms (lie-all ms) h)

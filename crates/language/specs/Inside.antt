@@ -1,11 +1,9 @@
 -- Runs of wires: a slice lies inside the register that it is cut from, and through every call inside one of those laid out. Here it is stated; proofs/Inside proves it.
-use mathlib.Core.Path.{_≡_}
 use mathlib.Core.List.{List, [], _∷_, _++_}
 use Prim.Native.Nat.{ℕ, _+_, _≤_}
 use lib.IntN.{ℤ}
-use Rattle.language.specs.Tree.{Place, number, missing, Operand, ParameterType, Argument, Top, family, qreg, creg, measure, reset, if, statement, badTop}
-use Rattle.language.specs.Machine.{Wire, Meaning, aWire, aBit, wires, bits, theFamily, Direction, forward, Condition, always, Frame, State, Outcome, going, ended, stuck, sliceAt, meaningOf, meaningsOf}
-use Rattle.language.specs.Machine.{inDirection, inRound, inCondition, inCall, Globals, nothingYet, begin, topFrame, layout, runTops}
+use Rattle.language.specs.Tree.{Place, number, missing, Operand, Argument, Top, family, qreg, creg, measure, reset, if, statement, badTop}
+use Rattle.language.specs.Machine.{Wire, Meaning, aWire, aBit, wires, bits, theFamily, Frame, State, Outcome, going, ended, stuck, sliceAt, meaningOf, meaningsOf}
 use Rattle.language.specs.Sound.{qubitsOf}
 
 -- so many wires from `first` on lie inside one of these registers
@@ -66,26 +64,3 @@ OperandLaw = (p : Place) (f : Frame) (o : Operand) (s : State) → Gives (Lies (
 -- and a body is entered with runs of wires inside the registers in which its caller's lie, through any number of calls
 abbrev pub CallLaw : Type 0
 CallLaw = (registers : List Meaning) (p : Place) (f : Frame) (args : List Argument) (s : State) → AllLie registers (f .operands) → Gives (AllLie registers) (meaningsOf p f args s)
-
--- ---- through a run
-
--- the frames that a run comes to from one: turned round, in a round, under a condition, and in a call, whose operands are what its arguments stand for
-pub data Leads (f : Frame) : Frame → Type 0 where
-  itself : Leads f f
-  turned : {g : Frame} (d : Direction) → Leads f g → Leads f (inDirection g d)
-  around : {g : Frame} (z : ℤ) → Leads f g → Leads f (inRound g z)
-  conditioned : {g : Frame} (c : Condition) → Leads f g → Leads f (inCondition g c)
-  called : {g : Frame} {ms : List Meaning} {t : State} (p : Place) (args : List Argument) (values : List ℤ) (s : State) → meaningsOf p g args s ≡ going ms t → Leads f g → Leads f (inCall g values ms)
-
--- in a whole run, of whatever program, every run of wires in scope lies inside a register declared so far
-abbrev pub RunLaw : Type 0
-RunLaw =
-    (limit room : ℕ) (xs : List Top) (g : Globals) (s : State) → runTops limit room xs nothingYet begin ≡ going g s
-    → (f : Frame) → Leads (topFrame g) f → AllLie (registersIn 0 xs) (f .operands)
-
--- and in an instance inside a register laid out
-abbrev pub InstanceLaw : Type 0
-InstanceLaw =
-    (values : List ℤ) (types : List ParameterType) (ms : List Meaning) (s : State) → layout values 0 types begin ≡ going ms s
-    → (f : Frame) → Leads (record { direction = forward; condition = always; variables = values; operands = ms }) f
-    → AllLie (meaningsLaid (layout values 0 types begin)) (f .operands)

@@ -12,8 +12,8 @@ use Rattle.language.specs.Check.{allRules, Scope, sameWire}
 use Rattle.language.specs.Rules.{noTwice, checkProgramBy}
 use Rattle.language.specs.Result.{verdict}
 use Rattle.language.specs.Result as R
-use Rattle.language.specs.Settlings.{form}
-use Rattle.language.specs.Settlings as S
+use Rattle.language.specs.Forms.{form}
+use Rattle.language.specs.Forms as S
 use Rattle.language.specs.Computed.{forming, checking}
 use Rattle.language.specs.Calls.{Example, run, instance, allHold, computed, field, lit, var, _plus_, _minus_, _times_, at, bit, h, cx, cphase, reverse, for, qreg, creg, family, n, i, L, size, one, two, lent, gives, accepted, turnedDown, nested}
 

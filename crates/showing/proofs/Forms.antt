@@ -10,8 +10,8 @@ use lib.IntN.{ℤ}
 use lib.ListN.{length, getD}
 use Rattle.language.specs.Limits.{allVariables}
 use Rattle.language.specs.Form.{built, allInRange, showing}
-use Rattle.language.specs.Settled.{goneThrough}
-use Rattle.language.specs.Trials.{trialsMade}
+use Rattle.form_laws.specs.Settled.{goneThrough}
+use Rattle.form_laws.specs.Trials.{trialsMade}
 use Rattle.forms.specs.Flat.{Kept, asForm}
 use Rattle.forms.specs.Rows.{Rows, loopsOf}
 use Rattle.forms.proofs.Laws.{and-no}

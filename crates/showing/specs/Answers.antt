@@ -6,8 +6,8 @@ use lib.Dec.{leb}
 use lib.IntN.{ℤ}
 use Rattle.language.specs.Limits.{allVariables}
 use Rattle.language.specs.Form.{built, allInRange, Showing, shown, notShown, beyondRange, showing}
-use Rattle.language.specs.Settled.{goneThrough}
-use Rattle.language.specs.Trials.{trialsMade}
+use Rattle.form_laws.specs.Settled.{goneThrough}
+use Rattle.form_laws.specs.Trials.{trialsMade}
 use Rattle.forms.specs.Flat.{Kept, asForm}
 use Rattle.forms.specs.Rows.{Rows, loopsOf}
 use Rattle.showing.specs.declared.ShowingResult.{ShowingResult}

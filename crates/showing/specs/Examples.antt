@@ -6,7 +6,8 @@ use Prim.Native.Nat.{ℕ}
 use lib.Dec.{eqb}
 use lib.IntN.{ℤ, pos, negsuc, negℤ}
 use lib.ListN.{replicate}
-use Rattle.language.specs.Computed.{forming, settlings, trying}
+use Rattle.language.specs.Computed.{forming}
+use Rattle.form_laws.specs.Computed.{settlings, trying}
 use Rattle.forms.specs.Flat.{asForm}
 use Rattle.forms.specs.Rows.{loopsOf}
 use Rattle.showing.specs.Answers.{formsInRange, areForms, numberOf, answer}

@@ -9,7 +9,7 @@ use Prim.Native.Nat.{_+_, _≤_}
 use lib.IntN.{ℤ}
 use mir.Syntax.{w64}
 use mir.Val.{ofZ}
-use Rattle.language.specs.Settled.{remaining}
+use Rattle.form_laws.specs.Settled.{remaining}
 use Rattle.language.proofs.Integers.{range-fits, bits-zero}
 use Rattle.forms.specs.Flat.{asForm}
 use Rattle.forms.specs.Rows.{loopsOf}

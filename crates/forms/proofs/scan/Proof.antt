@@ -8,7 +8,7 @@ use mathlib.Core.Path.{_≡_, sym, ap, _∙_}
 use mathlib.Core.Bool.{Bool, true, false}
 use Prim.Native.Nat.{ℕ, _+_, _-_, _≤_}
 use Rattle.language.specs.Form.{built, outOfRange, showingOf}
-use Rattle.language.specs.Settled.{scan, after}
+use Rattle.form_laws.specs.Settled.{scan, after}
 use Rattle.forms.specs.Flat.{Kept, asForm, builtOf, shownOf}
 use Rattle.forms.specs.Rows.{loopsOf}
 use Rattle.forms.proofs.Laws.{fewer, told, none-after, scan-on, scan-out, scan-end}

@@ -5,7 +5,7 @@ use Rattle.forms.proofs.show.Tie as tie
 use native.Mathlib.Omega.{arith}
 use mathlib.Core.Path.{sym, ap, _∙_}
 use Rattle.language.specs.Form.{showing}
-use Rattle.language.specs.Trials.{trialsMade}
+use Rattle.form_laws.specs.Trials.{trialsMade}
 use Rattle.forms.specs.Flat.{showingBy, shownOf}
 use Rattle.forms.proofs.Verdicts.{is-tried, not-tried}
 

@@ -9,7 +9,7 @@ use Prim.Native.Nat.{ℕ, _+_, _-_, _≤_, _<_}
 use lib.IntN.{pos}
 use lib.ListN.{getD}
 use Rattle.language.specs.Form.{showingOf}
-use Rattle.language.specs.Settled.{scan}
+use Rattle.form_laws.specs.Settled.{scan}
 use Rattle.forms.specs.Flat.{asForm, builtOf, shownOf}
 use Rattle.forms.specs.Rows.{loopsOf}
 use Rattle.forms.proofs.Laws.{fewer, gone-few, told, told-after, none-after, scan-on, scan-out, scan-end}

@@ -7,18 +7,18 @@ use native.Mathlib.Omega.{arith}
 use lib.Dec.{ltb}
 use borrow.Author.Tests.{ltb-true}
 use lib.ListN.{length, drop}
 use Rattle.language.specs.Limits.{mostVariables, mostLoops}
 use Rattle.language.specs.Tree.{Place, Refusal, Ending, Number, Index, literal, variable, operation, badIndex, Operand, whole, element, slice, passed, badOperand}
 use Rattle.language.specs.Tree.{PlainType, qbit, qbits, badType, ParameterType, plain, familyType, Argument, index, operand, badArgument}
 use Rattle.language.specs.Tree.{Statement, Statements, gate, cx, phase, cphase, call, callParameter, reverse, for, badStatement, nil, cons, Top, family, qreg, creg, measure, reset, if, statement, badTop}
 use Rattle.language.specs.Form.{Form, Built, built, differenceOf, _thenBuild_, Loop}
 use Rattle.language.specs.Check as C
 use Rattle.language.specs.Check.{Checked, good, refused, _>>=_, _>>_, fine, require, Rules, Kind, qubit, quantum, classical, formal, Signature, Scope, formOf, mustShow, Due, wire, bit, register, fitting}
 use Rattle.language.specs.Check.{sameWire, checkBounds, inLoop, Declared, topScopeBy, familyScopeBy, checkCounts}
 use Rattle.language.specs.Rules.{under}
-use Rattle.language.specs.Twice.{ActsOn, byCx, byCphase, Bounded, TwiceAt, here, inReverse, inFor, TwiceIn, TwiceTop, inFamily, inIf, inStatement, TwiceTops}
+use Rattle.rule_laws.specs.Twice.{ActsOn, byCx, byCphase, Bounded, TwiceAt, here, inReverse, inFor, TwiceIn, TwiceTop, inFamily, inIf, inStatement, TwiceTops}
 use Rattle.language.proofs.Safe.{required}
 use Rattle.language.proofs.Accepted.{CountsGood, counts, counts-good}
 
 -- ---- two answers
 

@@ -1,39 +1,15 @@
 -- Computed showings that end early: the variables 1, 2 and 3 of three open loops after one family variable n.
 use mathlib.Core.Path.{_≡_, refl}
 use mathlib.Core.List.{List, [], _∷_}
-use mathlib.Core.Bool.{Bool, true, false, _&&_}
+use mathlib.Core.Bool.{Bool, true, _&&_}
 use Prim.Native.Nat.{ℕ}
 use lib.Dec.{eqb}
-use lib.IntN.{ℤ, pos, negℤ}
-use lib.ListN.{take}
-use Rattle.language.specs.Limits.{allVariables}
-use Rattle.language.specs.Form.{Form, Built, built, outOfRange, noVariables, Loop, Showing, shown, notShown, beyondRange, plainly}
-use Rattle.language.specs.Settled.{Settling, settling, goneThrough}
-use Rattle.language.specs.Computed.{forming, settlings}
-
-infix 40 _to_
--- a constant, then the coefficients of n and of the loop variables 1, 2 and 3
-abbrev pub form : ℤ → ℤ → ℤ → ℤ → ℤ → Form
-form k n a b c = record { constant = k; coefficients = take allVariables (n ∷ a ∷ b ∷ c ∷ noVariables) }
-
-abbrev pub number : ℕ → Form
-number k = form (pos k) (pos 0) (pos 0) (pos 0) (pos 0)
-
--- the family variable, and the loop variables
-abbrev pub n : Form
-n = form (pos 0) (pos 1) (pos 0) (pos 0) (pos 0)
-
-abbrev pub one : Form
-one = form (pos 0) (pos 0) (pos 1) (pos 0) (pos 0)
-
-abbrev pub two : Form
-two = form (pos 0) (pos 0) (pos 0) (pos 1) (pos 0)
-
-abbrev pub three : Form
-three = form (pos 0) (pos 0) (pos 0) (pos 0) (pos 1)
-
-abbrev pub _to_ : Form → Form → Loop
-f to g = record { low = f; high = g }
+use lib.IntN.{pos, negℤ}
+use Rattle.language.specs.Form.{Built, built, outOfRange, Loop, Showing, shown, notShown, beyondRange, plainly}
+use Rattle.language.specs.Forms.{form, number, n, one, two, three, _to_, sameShowing}
+use Rattle.language.specs.Computed.{forming}
+use Rattle.form_laws.specs.Settled.{Settling, settling, goneThrough}
+use Rattle.form_laws.specs.Computed.{settlings}
 
 -- loops stand innermost first
 abbrev plain : List Loop
@@ -53,27 +29,16 @@ far = (number 1_500_000_000 to n) ∷ (number 0 to n) ∷ (number 0 to n) ∷ []
 abbrev farther : List Loop
 farther = (number 0 to n) ∷ (number 1_500_000_000 to n) ∷ (number 0 to n) ∷ []
 
-pub record Example : Type 0 where
-  pub loops : List Loop
-  pub shows : Built
-  pub gives : Settling
+record Example : Type 0 where
+  loops : List Loop
+  shows : Built
+  gives : Settling
 
-unfoldable pub sameShowing : Showing → Showing → Bool
-sameShowing shown shown = true
-sameShowing shown notShown = false
-sameShowing shown beyondRange = false
-sameShowing notShown shown = false
-sameShowing notShown notShown = true
-sameShowing notShown beyondRange = false
-sameShowing beyondRange shown = false
-sameShowing beyondRange notShown = false
-sameShowing beyondRange beyondRange = true
-
-unfoldable pub sameSettling : Settling → Settling → Bool
+unfoldable sameSettling : Settling → Settling → Bool
 sameSettling s t = sameShowing (s .answer) (t .answer) && eqb (s .through) (t .through)
 
 -- the scan that ends early, and the one that goes on with its number, each on its own
-unfoldable pub allHold : List Example → Bool
+unfoldable allHold : List Example → Bool
 allHold [] = true
 allHold (e ∷ es) =
     sameSettling (settling 1 (e .loops) (e .shows)) (e .gives)

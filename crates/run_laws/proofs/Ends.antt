@@ -8,13 +8,13 @@ use lib.IntN.{ℤ}
 use lib.Dec.{leb, ltb, eqb}
 use borrow.Author.Tests.{ltb-true, ltb-false, leb-true, leb-false, eqb-true, le-ltb, lt-leb, eq-eqb}
 use lib.ListN.{length, length-append}
 use Rattle.language.specs.Limits.{mostWires, recordSize, mostHalvings}
 use Rattle.language.specs.Tree.{Place}
 use Rattle.language.specs.Form.{inRange}
 use Rattle.language.specs.Machine as M
 use Rattle.language.specs.Machine.{Wire, Action, Frame, State, Outcome, going, ended, stuck, Run, after, done}
-use Rattle.language.specs.Ends.{Event, stepAt, valueAt, pairAt, halvingsAt, recordAt, layoutAt, noMeaning, changed, meet, Ends, tooManyWires, outOfRange, oneWire, tooManyHalvings, limitUsedUp, outputFull, EventLaw, meetAll, First, FirstLaw, Room, RoomIn, RoomLaw, HandedOn, GateLaw, CxLaw, PhaseLaw, CphaseLaw}
+use Rattle.run_laws.specs.Ends.{Event, stepAt, valueAt, pairAt, halvingsAt, recordAt, layoutAt, noMeaning, changed, meet, Ends, tooManyWires, outOfRange, oneWire, tooManyHalvings, limitUsedUp, outputFull, EventLaw, meetAll, First, FirstLaw, Room, RoomIn, RoomLaw, HandedOn, GateLaw, CxLaw, PhaseLaw, CphaseLaw}
 use Rattle.language.proofs.Runs.{then-then, done-then}
 
 pub handed-on : HandedOn
 unfolding after

@@ -8,15 +8,15 @@ use lib.IntN.{ℤ, pos, negsuc}
 use native.Mathlib.Omega.{arith}
 use lib.Dec.{ltb, eqb}
 use lib.ListN.{length, getElem?}
 use Rattle.language.specs.Form.{inRange}
 use Rattle.language.specs.Tree as T
 use Rattle.language.specs.Tree.{Place, number, missing, Index, literal, variable, operation, badIndex, Operand, whole, element, slice, passed, badOperand, qbit, qbits, badType, ParameterType, familyType, Argument, index, operand, badArgument}
 use Rattle.language.specs.Tree.{Statement, Statements, gate, cx, phase, cphase, call, callParameter, reverse, for, badStatement, nil, cons, Top, family, qreg, creg, measure, reset, if, statement, badTop}
 use Rattle.language.specs.Machine as M
 use Rattle.language.specs.Machine.{Wire, Meaning, aWire, aBit, wires, bits, theFamily, Direction, forward, backward, Frame, State, Outcome, going, ended, stuck, Run, after, done, give, Family, Globals}
-use Rattle.language.specs.Ends.{Event, stepAt, valueAt, pairAt, halvingsAt, recordAt, layoutAt, noMeaning, meet, meetAll, plain, Meets, RunEvents, InstanceEvents}
+use Rattle.run_laws.specs.Ends.{Event, stepAt, valueAt, pairAt, halvingsAt, recordAt, layoutAt, noMeaning, meet, meetAll, plain, Meets, RunEvents, InstanceEvents}
 use Rattle.language.proofs.Runs.{after-after}
-use Rattle.language.proofs.Ends.{meet-append, first-law}
+use Rattle.run_laws.proofs.Ends.{meet-append, first-law}
 
 -- a run for each step limit and length of the output
 abbrev Runs : Type 0 → Type 0

@@ -8,22 +8,22 @@ use lib.Dec.{ltb}
 use native.Mathlib.Omega.{arith}
 use borrow.Author.Tests.{not-true, le-leb}
 use lib.ListN.{length, getElem?}
 use Rattle.language.specs.Limits.{mostLoops, longestProgram}
 use Rattle.language.specs.Tree.{Place, Ending, Index, literal, variable, operation, badIndex, Operand, element, Statement, Statements}
 use Rattle.language.specs.Tree.{Top}
 use Rattle.language.specs.Read.{read}
 use Rattle.language.specs.Form.{Form, variableForm}
 use Rattle.language.specs.Check as C
 use Rattle.language.specs.Check.{Checked, good, refused, fine, require, noLeftover, inScope, Scope, wire, formOf, checkOperand, sameWire, checkWires, checkBounds, inLoop, checkStatement, checkStatements, Declared, topScope, topScopeBy, familyScope, familyScopeBy, check, checkTopsBy, checkTops, nothingDeclared}
 use Rattle.language.specs.Rules.{noTwice, checkProgramBy}
 use Rattle.language.specs.Result.{checkProgram, checkResult, verdict, turnedDown}
-use Rattle.language.specs.Twice.{FormSameLaw, OneWire, wholes, elements, ActsOn, byCx, byCphase, TwiceAt, here, inReverse, inFor, TwiceIn, TwiceTop, inFamily, inIf, inStatement, TwiceTops, HasTwice, Only, stays, becomes, CaughtLaw, TurnedDown, TwiceRefusedLaw, BecomesLaw, EveryCallLaw}
+use Rattle.rule_laws.specs.Twice.{FormSameLaw, OneWire, wholes, elements, ActsOn, byCx, byCphase, TwiceAt, here, inReverse, inFor, TwiceIn, TwiceTop, inFamily, inIf, inStatement, TwiceTops, HasTwice, Only, stays, becomes, CaughtLaw, TurnedDown, TwiceRefusedLaw, BecomesLaw, EveryCallLaw}
 use Rattle.language.proofs.Integers.{clash}
 use Rattle.language.proofs.Safe.{not-good, both, then-both, wires-good, required}
 use Rattle.language.proofs.Accepted.{TopGood, aFamily, anIf, aStatement, TopsGood, andThen, tops-good}
 use Rattle.language.proofs.Soundness.{checked, run-refused, instance-refused}
-use Rattle.language.proofs.Twice.{same-wire}
-use Rattle.language.proofs.Unchanged.{check-only, only-tops, later-hidden}
+use Rattle.rule_laws.proofs.Twice.{same-wire}
+use Rattle.rule_laws.proofs.Unchanged.{check-only, only-tops, later-hidden}
 
 -- ---- the scope does not matter
 

@@ -6,16 +6,16 @@ use Prim.Native.Nat.{ℕ}
 use native.Mathlib.Omega.{arith}
 use lib.Dec.{leb, ltb}
 use lib.ListN.{length}
 use Rattle.language.specs.Limits.{longestProgram, mostFamilies, mostLoops}
 use Rattle.language.specs.Tree.{Place, Refusal, Ending, Operand, ParameterType, Statement, Statements, Top}
 use Rattle.language.specs.Read.{read}
 use Rattle.language.specs.Form.{Built}
 use Rattle.language.specs.Check as C
 use Rattle.language.specs.Check.{Checked, good, refused, _>>=_, _>>_, require, allRules, Scope, mustShow, wire, sameWire, checkWires, checkBounds, inLoop, checkStatement, checkStatements, Declared, topScope, checkCounts, familyScope, checkFamilyBy, checkFamily, checkTopBy, checkTop, checkTopsBy, checkTops, nothingDeclared, check}
 use Rattle.language.specs.Rules.{noTwice, under, checkProgramBy}
 use Rattle.language.specs.Result.{checkProgram}
-use Rattle.language.specs.Twice.{byCx, byCphase, LastTestLaw, TwiceTops, HasTwice, Only, stays, becomes, CheckOnlyLaw, CheckSameLaw, AcceptedBeforeLaw, Begins, reverses, fors, BeginsIn, BeginsTop, families, ifs, statements, BeginsTops, LaterHiddenLaw, EarlierStaysLaw}
-use Rattle.language.proofs.Rules.{Changes, Nowhere, changes-none, natural-by, two-by, tops-by}
+use Rattle.rule_laws.specs.Twice.{byCx, byCphase, LastTestLaw, TwiceTops, HasTwice, Only, stays, becomes, CheckOnlyLaw, CheckSameLaw, AcceptedBeforeLaw, Begins, reverses, fors, BeginsIn, BeginsTop, families, ifs, statements, BeginsTops, LaterHiddenLaw, EarlierStaysLaw}
+use Rattle.rule_laws.proofs.Rules.{Changes, Nowhere, changes-none, natural-by, two-by, tops-by}
 
 -- ---- with and without the test
 

@@ -5,12 +5,7 @@ use mathlib.Core.Bool.{true, cond}
 use mathlib.Core.Option.{some}
 use Prim.Native.Nat.{ℕ, suc, _<_}
 use lib.ListN.{length, getElem?}
-use Rattle.language.specs.Tree.{Place, Refusal, Top}
 use Rattle.language.specs.Form.{Built, Loop, Showing, shown, notShown, beyondRange, plainly, trial, showing}
-use Rattle.language.specs.Check.{Checked, good, refused, Scope, byShowing, mustShow, Declared, checkTopsBy, checkTops}
-use Rattle.language.specs.Rules.{noRanges, checkProgramBy}
-use Rattle.language.specs.Result.{Result, verdict, checkResult}
-use Rattle.language.specs.Settled.{settling}
 
 -- ---- how many are made
 
@@ -58,29 +53,3 @@ WidensLaw = (m : ℕ) (ls : List Loop) (e : Built) → Widens (plainly m ls e) (
 -- without loops there is nothing to try
 abbrev pub NoLoopsLaw : Type 0
 NoLoopsLaw = (m : ℕ) (e : Built) → showing m [] e ≡ plainly m [] e
-
--- what the plain rule has a part checked to, and what it is checked to: the same, but anything may come in the place of 12
-pub data Later {A : Type 0} : (plain wide : Checked A) → Type 0 where
-  bothGood : {a : A} → Later (good a) (good a)
-  bothRefused : {n : Refusal} {p : Place} → Later (refused n p) (refused n p)
-  anyFor12 : {p : Place} {c : Checked A} → Later (refused 12 p) c
-
--- of one showing, by the scan that ends early
-abbrev pub ShowingLaw : Type 0
-ShowingLaw = (p : Place) (s : Scope) (e : Built) → Later (byShowing p (settling (s .variables) (s .loops) e .answer)) (mustShow p s e)
-
--- of top fields
-abbrev pub TwelveLaw : Type 0
-TwelveLaw = (tops : List Top) (d : Declared) → Later (checkTopsBy noRanges tops d) (checkTops tops d)
-
--- so what the plain rule accepts up to any point is accepted: what comes in the place of 12 does not come before it
-abbrev pub UpToLaw : Type 0
-UpToLaw = (tops : List Top) (d after : Declared) → checkTopsBy noRanges tops d ≡ good after → checkTops tops d ≡ good after
-
--- what the check of a program's bytes would answer by the plain rule
-abbrev pub plainResult : (program : List ℕ) → Result
-plainResult program = verdict (checkProgramBy noRanges program)
-
--- an answer of the plain rule other than 12 stays, acceptance among them
-abbrev pub StaysLaw : Type 0
-StaysLaw = (program : List ℕ) → (plainResult program .number ≡ 12 → ⊥) → checkResult program ≡ plainResult program

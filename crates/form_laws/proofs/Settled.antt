@@ -7,10 +7,10 @@ use native.Mathlib.Omega.{arith}
 use native.Mathlib.Decide.{decLe}
 use lib.IntN.{ℤ, pos, negsuc, _+ℤ_, _*ℤ_, *ℤ-zero}
 use lib.ListN.{getD, set, length, drop}
 use Rattle.language.specs.Form.{Form, Built, built, outOfRange, build, zipped, sumOf, multipleOf, _thenBuild_, isZero, Loop, without, closed, closedAll, plainly}
-use Rattle.language.specs.Settled.{coefficient, replaced, settled, Scan, ended, oneMore, thenScan, scan, settlingOf, settling, ifBuilt, replacements, noneTrue, toLast, goneThrough, AgreeLaw, Last, LastLaw, closedTo, SettledAfter, EndLaw, remaining, after, onward, NextLaw, Below, Scoped, none, inner, ScopeLaw}
+use Rattle.form_laws.specs.Settled.{coefficient, replaced, settled, Scan, ended, oneMore, thenScan, scan, settlingOf, settling, ifBuilt, replacements, noneTrue, toLast, goneThrough, AgreeLaw, Last, LastLaw, closedTo, SettledAfter, EndLaw, remaining, after, onward, NextLaw, Below, Scoped, none, inner, ScopeLaw}
 use Rattle.language.proofs.Integers.{and-both}
 use Rattle.language.proofs.FormLaws.{then-built, build-is}
 
 -- ---- both scans agree
 

@@ -1,4 +1,4 @@
--- A gate that uses one wire twice never runs: the laws of specs/Twice on equal forms, on operands that are one wire, and on such a gate. Assumes nothing.
+-- A gate that uses one wire twice never runs: the laws of specs/Twice on operands that are one wire, and on such a gate. Assumes nothing.
 use mathlib.Core.Path.{_≡_, refl, sym, ap, _∙_, subst}
 use mathlib.Core.List.{List, [], _∷_}
 use mathlib.Core.Bool.{Bool, true, false, cond}
@@ -9,60 +9,20 @@ use lib.IntN.{ℤ, pos, negsuc}
 use lib.Dec.{ltb, eqb}
 use borrow.Author.Tests.{eqb-true, eq-eqb, ltb-true}
 use lib.ListN.{length, getElem?}
 use Rattle.language.specs.Limits.{allVariables}
 use Rattle.language.specs.Tree.{Place, Ending, Index, literal, variable, operation, badIndex, Operand, whole, element, slice, passed, badOperand, Statement}
 use Rattle.language.specs.Form.{Form, inRange, constantForm, variableForm, sameNumber, sameNumbers, sameForm}
 use Rattle.language.specs.Check as C
 use Rattle.language.specs.Check.{Checked, good, refused, fine, Scope, formOf, noLeftover, require, equalForms, sameWire}
 use Rattle.language.specs.Machine as M
 use Rattle.language.specs.Machine.{Wire, Meaning, aWire, aBit, wires, bits, theFamily, Frame, State, Outcome, going, ended, stuck, Run, Family, begin, after, evaluate, elementAt, asWire, meaningOf, wireOf, runStatement}
-use Rattle.language.specs.Twice.{SameNumberLaw, NumberItselfLaw, SameNumbersLaw, NumbersItselfLaw, SameFormLaw, FormItselfLaw, OneWire, wholes, elements, SameWireLaw, ActsOn, byCx, byCphase, Bounded, stepped, Never, NeverRunsLaw}
+use Rattle.rule_laws.specs.Twice.{OneWire, wholes, elements, SameWireLaw, ActsOn, byCx, byCphase, Bounded, stepped, Never, NeverRunsLaw}
+use Rattle.form_laws.proofs.Equal.{same-form, form-itself}
 use Rattle.language.proofs.Integers.{and-both}
 use Rattle.language.proofs.FormLaws.{value, Within, constant-within, constant-value, variable-within, variable-value}
 use Rattle.language.proofs.Safe.{World, Held, Safe, goes, ends, Any, ok-then, ok-step, both, then-both, wires-good, required, and-is}
 use Rattle.language.proofs.Fits.{Agrees, combined-sound}
 use Rattle.language.proofs.Statements.{safe-cx, safe-cphase}
-
--- ---- equal forms
-
-pub same-number : SameNumberLaw
-unfolding sameNumber
-same-number (pos m) (pos n) e = ap pos (eqb-true m n e)
-same-number (pos m) (negsuc n) e = absurd (let z : _≡_ {A = ℕ} 0 1 = cc in omega arith)
-same-number (negsuc m) (pos n) e = absurd (let z : _≡_ {A = ℕ} 0 1 = cc in omega arith)
-same-number (negsuc m) (negsuc n) e = ap negsuc (eqb-true m n e)
-
-pub number-itself : NumberItselfLaw
-unfolding sameNumber
-number-itself (pos n) = eq-eqb n n refl
-number-itself (negsuc n) = eq-eqb n n refl
-
-pub same-numbers : SameNumbersLaw
-unfolding sameNumbers
-same-numbers [] [] e = refl
-same-numbers [] (y ∷ ys) e = absurd (let z : _≡_ {A = ℕ} 0 1 = cc in omega arith)
-same-numbers (x ∷ xs) [] e = absurd (let z : _≡_ {A = ℕ} 0 1 = cc in omega arith)
-same-numbers (x ∷ xs) (y ∷ ys) e =
-    let b = and-both (sameNumber x y) (sameNumbers xs ys) e in
-    cc (same-number x y (b .0), same-numbers xs ys (b .1))
-
-pub numbers-itself : NumbersItselfLaw
-unfolding sameNumbers
-numbers-itself [] = refl
-numbers-itself (x ∷ xs) = and-is (number-itself x) (numbers-itself xs)
-
-form-is : {c d : ℤ} {cs ds : List ℤ} → c ≡ d → cs ≡ ds → _≡_ {A = Form} (record { constant = c; coefficients = cs }) (record { constant = d; coefficients = ds })
-form-is p q = cc
-
-pub same-form : SameFormLaw
-unfolding sameForm
-same-form f g e =
-    let b = and-both (sameNumber (f .constant) (g .constant)) (sameNumbers (f .coefficients) (g .coefficients)) e in
-    form-is (same-number (f .constant) (g .constant) (b .0)) (same-numbers (f .coefficients) (g .coefficients) (b .1))
-
-pub form-itself : FormItselfLaw
-unfolding sameForm
-form-itself f = and-is (number-itself (f .constant)) (numbers-itself (f .coefficients))
 
 -- ---- operands that are one wire
 

@@ -4,40 +4,20 @@ use mathlib.Core.Logic.{_⊎_}
 use mathlib.Core.List.{List, [], _∷_}
 use mathlib.Core.Bool.{true, not}
 use Prim.Native.Nat.{ℕ, suc, _≤_}
-use lib.IntN.{ℤ}
 use lib.ListN.{length}
 use Rattle.language.specs.Limits.{longestProgram, mostVariables, mostLoops}
 use Rattle.language.specs.Tree.{Place, Refusal, Ending, Number, Index, Operand, whole, element, ParameterType}
 use Rattle.language.specs.Tree.{Statement, Statements, cx, cphase, reverse, for, nil, cons}
 use Rattle.language.specs.Tree.{Top, family, if, statement}
 use Rattle.language.specs.Read.{read}
-use Rattle.language.specs.Form.{Form, sameNumber, sameNumbers, sameForm}
+use Rattle.language.specs.Form.{Form}
 use Rattle.language.specs.Check.{Checked, good, refused, _>>_, require, allRules, Scope, formOf, sameWire, checkStatement, Declared, checkTopsBy, checkTops, nothingDeclared}
 use Rattle.language.specs.Rules.{noTwice, under, checkProgramBy}
 use Rattle.language.specs.Machine as M
 use Rattle.language.specs.Machine.{Frame, State, Outcome, Family, runStatement}
 use Rattle.language.specs.Result.{checkProgram, checkResult, turnedDown, untouched, runOutcome, instanceOutcome}
 
--- ---- equal forms
-
--- each test is true of what is equal, and of nothing else
-abbrev pub SameNumberLaw : Type 0
-SameNumberLaw = (x y : ℤ) → sameNumber x y ≡ true → x ≡ y
-
-abbrev pub NumberItselfLaw : Type 0
-NumberItselfLaw = (x : ℤ) → sameNumber x x ≡ true
-
-abbrev pub SameNumbersLaw : Type 0
-SameNumbersLaw = (xs ys : List ℤ) → sameNumbers xs ys ≡ true → xs ≡ ys
-
-abbrev pub NumbersItselfLaw : Type 0
-NumbersItselfLaw = (xs : List ℤ) → sameNumbers xs xs ≡ true
-
-abbrev pub SameFormLaw : Type 0
-SameFormLaw = (f g : Form) → sameForm f g ≡ true → f ≡ g
-
-abbrev pub FormItselfLaw : Type 0
-FormItselfLaw = (f : Form) → sameForm f f ≡ true
+-- ---- an index has one form
 
 -- an index that has forms in two scopes has the same one
 abbrev pub FormSameLaw : Type 0
