@@ -21,11 +21,12 @@
  *
  * Time. The figures are of common machines of two cores. A check takes at most some 25 to 40 ns for each byte of the program,
  * 1.5 to 2.5 ms for the longest, unless it is written to be slow: 8 loops in each other, and indexes that are there only
- * because the outermost has a round, take up to 450 ns a byte, 30 ms for the longest. The step limit bounds steps, not seconds:
- * a step takes time in proportion to the indexes and operands of its own statement (and, where a list begins to run backward,
- * to the fields of the list). Most take 0.1 microseconds or less. The slowest found are gates in a loop with an index of 60,000
- * bytes, which each round evaluates: 0.07 ms a step, or 1 ns for each byte of the program, and twice that while the machine was
- * busy. Reckon with at most 0.2 ms, or 3 ns a byte.
+ * because the outermost has a round, take up to 450 ns a byte, 30 ms for the longest. (metaqasm_showing.h has a call that says of
+ * one index form how far a check goes for it.)
+ * The step limit bounds steps, not seconds: a step takes time in proportion to the indexes and operands of its own statement
+ * (and, where a list begins to run backward, to the fields of the list). Most take 0.1 microseconds or less. The slowest found
+ * are gates in a loop with an index of 60,000 bytes, which each round evaluates: 0.07 ms a step, or 1 ns for each byte of the
+ * program, and twice that while the machine was busy. Reckon with at most 0.2 ms, or 3 ns a byte.
  * The calls that print a text go through the list twice more, to measure the text and to print it: some 5 to 20 ns a record,
  * and 10 ns for each declared bit.
  * A call cannot be cancelled: give it a limit that may be waited for, or make it in a process that may be ended. (A later

@@ -1,5 +1,6 @@
-// The header in C++: it compiles, its names link, and constants and messages are the ones that C has.
+// The headers in C++: they compile, their names link, and constants and messages are the ones that C has.
 #include <metaqasm.h>
+#include <metaqasm_showing.h>
 
 #include "expect.h"
 
@@ -32,6 +33,11 @@ int main()
            "a text in C++", "four lines");
     printed = metaqasm_instance_text(program.data(), program.size(), 0, none.data(), none.size(), 1, nullptr, 0, nullptr, 0);
     expect(printed.number == METAQASM_NO_SUCH_FAMILY && printed.length == 0, "instance_text from C++", "20");
+    // n - 1 - i, inside i = 1..n-1
+    const metaqasm_form form{-1, {1, -1}};
+    const std::vector<metaqasm_form> lows{{1, {0}}}, highs{{-1, {1}}};
+    metaqasm_showing_result shown = metaqasm_showing(&form, 1, 1, lows.data(), lows.size(), highs.data(), highs.size());
+    expect(shown.number == METAQASM_DONE && shown.through == 1 && shown.trials == 0, "a showing from C++", "0, 1, 0");
     expect(std::strstr(metaqasm_message(result.number), "no family") != nullptr, "20", "a sentence with `no family`");
     expect(std::strstr(metaqasm_message(14), "no call") != nullptr, "14", "a sentence that says that it is unknown");
     return closed();

@@ -1,12 +1,12 @@
 #!/usr/bin/env bash
-# Builds the C and C++ programs over the archive and runs them: as they are, with the compiler's sanitizers and under valgrind;
+# Builds the C and C++ programs over the archives and runs them: as they are, with the compiler's sanitizers and under valgrind;
 # then the host of ten lines, and the adder, the Fourier transform and both multipliers in libquantum. What is not there is left
-# out, with a line `skipped: ..`. Run it after `rt staticlib metaqasm`. Its last line is `N passed, M failed`, and it succeeds
-# only with M = 0.
+# out, with a line `skipped: ..`. Run it after `rt staticlib metaqasm` and `rt staticlib showing`. Its last line is `N passed, M
+# failed`, and it succeeds only with M = 0.
 set -u
 cd "$(dirname "$0")/../.." || exit 2
 
-archive=target/staticlib/libmetaqasm.a
+archives=(target/staticlib/libmetaqasm.a target/staticlib/libshowing.a)
 strict='-Wall -Wextra -Werror -O2 -pthread -I include'
 passed=0
 failed=0
@@ -38,11 +38,11 @@ add_one() { # STATUS NAME
     fi
 }
 
-# Builds a program with some compiler words; the words come apart at spaces.
+# Builds a program with some compiler words; the words come apart at spaces. Of the archives it gets what it calls.
 build() { # SOURCE PROGRAM WORDS
     case $1 in
-    *.cpp) c++ -std=c++11 $strict $3 "$1" "$archive" -o "$2" ;;
-    *) cc -std=c11 $strict $3 "$1" "$archive" -o "$2" ;;
+    *.cpp) c++ -std=c++11 $strict $3 "$1" "${archives[@]}" -o "$2" ;;
+    *) cc -std=c11 $strict $3 "$1" "${archives[@]}" -o "$2" ;;
     esac
 }
 
@@ -74,10 +74,13 @@ script() { # SCRIPT
     add_counts "$status" "$1"
 }
 
-if [ ! -f "$archive" ]; then
-    printf '%s is not there: run `rt staticlib metaqasm` first\n0 passed, 1 failed\n' "$archive"
-    exit 1
-fi
+for archive in "${archives[@]}"; do
+    if [ ! -f "$archive" ]; then
+        name=$(basename "$archive" .a)
+        printf '%s is not there: run `rt staticlib %s` first\n0 passed, 1 failed\n' "$archive" "${name#lib}"
+        exit 1
+    fi
+done
 
 sources=(tests/c/*.c)
 if printf '#include <vector>\nint main() {}\n' | c++ -x c++ - -o "$work/probe" 2>/dev/null; then

@@ -1,4 +1,4 @@
-// The showing of a form as a call from C, for the tests.
+// The showing of a form as a call from C, with how far it goes (include/metaqasm_showing.h).
 ghost use mathlib.Core.Path.{_≡_};
 ghost use mathlib.Core.Bool.{true};
 ghost use lib.ListN.{length};
