@@ -1,26 +1,24 @@
--- The calls that print, from the calls behind them: what they answer, and that a complete run or instance is one of an accepted program. Assumes nothing.
+-- The calls that print, from the calls behind them: what they answer. Assumes nothing.
 use Prim.Native.Nat.{ℕ, zero, suc, _*_, _≤_}
 use native.Mathlib.Omega.{arith}
 use mathlib.Core.Path.{_≡_, refl, sym, ap, _∙_, subst}
 use mathlib.Core.List.{List}
 use mathlib.Core.Bool.{Bool, true, false}
 use mathlib.Core.Option.{Option, none, some}
-use borrow.Author.Tests.{le-leb, lt-leb, leb-true, eqb-true, eqb-false}
-use lib.Dec.{leb, eqb}
+use borrow.Author.Tests.{le-leb, lt-leb, leb-true}
+use lib.Dec.{leb}
 use lib.ListN.{length}
 use Rattle.language.specs.Limits.{recordSize}
-use Rattle.language.specs.Read.{read}
-use Rattle.language.specs.Result.{Answer as Reply, Conclusion, finished, turnedDown, untouched, checkResult, runOutcome, instanceOutcome, fourBytes, allSizesFit}
-use Rattle.language.specs.Theorem.{InstanceAnswers}
-use Rattle.language.specs.Lookup.{Declaration, familyIn}
-use Rattle.language.specs.Sound.{qubitsDeclared, bitsDeclared, wiresLaidOut, Suits}
-use Rattle.language.proofs.Soundness.{run-refused, instance-refused}
+use Rattle.language.specs.Result.{Answer as Reply, Conclusion, finished, runOutcome, instanceOutcome}
+use Rattle.language.specs.Lookup.{mapped}
+use Rattle.language.specs.Sound.{qubitsDeclared, bitsDeclared, wiresLaidOut, Sound}
 use Rattle.language.proofs.Theorem.{run-theorem, instance-theorem}
-use Rattle.language.specs.Machine.{Record, hasFamilyType}
+use Rattle.language.specs.Machine.{Record}
 use Rattle.qasm_text.specs.Text.{textOf}
 use Rattle.qasm_text.specs.RecordsIn.{recordsIn}
 use Rattle.qasm_text.specs.TextResult.{TextResult, TextAnswer, TextConclusion, textFinished, withoutText, unprinted, fullyPrinted, printed, byNumber, runTextOutcome, instanceTextOutcome}
 use Rattle.qasm_text.specs.TextSound.{TextSound, TextFinishes}
+use Rattle.qasm_text.proofs.RecordsBack.{sound-read}
 use Rattle.qasm_text.proofs.TextSoundness.{not-printed, into-size, run-text-sound, instance-text-sound, run-text-by, instance-text-by}
 use Rattle.qasm_length.specs.declared.TextLength.{TextLength}
 use Rattle.qasm_length.specs.declared.TextLength.the-variants.{Fits, TooLong}
@@ -45,15 +43,19 @@ module _ (before text after : List ℕ) (a : Reply) (r : TextLength) (p : Prints
 
 -- ---- by the run's number
 
-pub by-other : (a : Reply) (x : TextResult) (buffer text : List ℕ) → (a .result .number ≡ 0 → ⊥) → x ≡ withoutText (a .result .number) (a .result .place) (a .result)
-    → textFinished (record { result = x; output = a .output; text = buffer }) ≡ byNumber (a .result .number) buffer (some text) a
+pub by-other : (a : Reply) (x : TextResult) (buffer : List ℕ) (text : Option (List ℕ)) → (a .result .number ≡ 0 → ⊥) → x ≡ withoutText (a .result .number) (a .result .place) (a .result)
+    → textFinished (record { result = x; output = a .output; text = buffer }) ≡ byNumber (a .result .number) buffer text a
 unfolding unprinted
 by-other a x buffer text h e =
-    ap (λ (y : TextResult). textFinished (record { result = y; output = a .output; text = buffer })) e ∙ sym (not-printed (a .result .number) buffer (some text) a (omega (arith, h)))
+    ap (λ (y : TextResult). textFinished (record { result = y; output = a .output; text = buffer })) e ∙ sym (not-printed (a .result .number) buffer text a (omega (arith, h)))
 
-pub by-done : (a : Reply) (buffer text : List ℕ) (b : TextAnswer) → a .result .number ≡ 0 → b ≡ printed buffer text a → textFinished b ≡ byNumber (a .result .number) buffer (some text) a
-unfolding byNumber
-by-done a buffer text b z e = ap textFinished e ∙ ap (λ (n : ℕ). byNumber n buffer (some text) a) (sym z)
+-- the list of a sound answer is there to be read
+pub by-done : {least limit q b : ℕ} {lent : List ℕ} (a : Reply) (buffer : List ℕ) (x : TextAnswer) → Sound least limit q b lent a → a .result .number ≡ 0
+    → ((rs : List Record) → recordsIn (a .result .records) (a .output) ≡ some rs → x ≡ printed buffer (textOf q b rs) a)
+    → textFinished x ≡ byNumber (a .result .number) buffer (mapped (textOf q b) (recordsIn (a .result .records) (a .output))) a
+unfolding byNumber mapped
+by-done {q = q} {b = b} a buffer x s z p =
+    rw (sound-read s) (ap textFinished (p (s .written) (sound-read s)) ∙ ap (λ (n : ℕ). byNumber n buffer (some (textOf q b (s .written))) a) (sym z))
 
 -- the counts are the run's, and the text is no longer than its buffer
 pub record Kept (a : Reply) (b : TextAnswer) : Type 0 where
@@ -73,9 +75,10 @@ printed-keeps buffer text a = go (leb (length text) (length buffer)) refl
 same-text : {x b : TextAnswer} → textFinished x ≡ textFinished b → x ≡ b
 same-text e = cc
 
-by-keeps : (n : ℕ) (buffer text : List ℕ) (a : Reply) (b : TextAnswer) → textFinished b ≡ byNumber n buffer (some text) a → Kept a b
+by-keeps : (n : ℕ) (buffer : List ℕ) (text : Option (List ℕ)) (a : Reply) (b : TextAnswer) → textFinished b ≡ byNumber n buffer text a → Kept a b
 unfolding byNumber unprinted
-by-keeps zero buffer text a b e = subst (Kept a) (sym (same-text e)) (printed-keeps buffer text a)
+by-keeps zero buffer none a b e = absurd (let z : _≡_ {A = ℕ} 0 1 = cc in omega arith)
+by-keeps zero buffer (some text) a b e = subst (Kept a) (sym (same-text e)) (printed-keeps buffer text a)
 by-keeps (suc n) buffer text a b e = subst (Kept a) (sym (same-text e)) (record { records = refl; steps = refl; output = refl; fits = omega arith })
 
 -- a conclusion that is an answer is that answer, soundly
@@ -94,64 +97,20 @@ pub record Within (limit : ℕ) (b : TextAnswer) : Type 0 where
 within : (limit : ℕ) (a : Reply) (b : TextAnswer) → Kept a b → recordSize * a .result .records ≤ length (a .output) → a .result .steps ≤ limit → Within limit b
 within limit a b k r s = record { records = omega (arith, k .records, ap length (k .output)); steps = omega (arith, k .steps); fits = k .fits }
 
--- ---- whole runs
+-- ---- the calls
 
-module _ (l : List ℕ) (limit : ℕ) (lent : List ℕ) (a : Reply) (e : runOutcome l limit lent ≡ finished a) where
-  -- a complete run is one of an accepted program
-  pub run-accepted : a .result .number ≡ 0 → checkResult l .number ≡ 0
-  run-accepted z = go (checkResult l .number) refl
-    where
-      go : (n : ℕ) → checkResult l .number ≡ n → checkResult l .number ≡ 0
-      go zero h = h
-      go (suc n) h = absurd (let x : record { result = checkResult l; output = lent } ≡ a = cc (run-refused l limit lent (omega arith), e) in omega (arith, ap (λ (y : Reply). y .result .number) x))
+pub run-text-promised : (l : List ℕ) (limit : ℕ) (lent : List ℕ) (a : Reply) → runOutcome l limit lent ≡ finished a → (buffer : List ℕ) (b : TextAnswer)
+    → textFinished b ≡ byNumber (a .result .number) buffer (mapped (textOf (qubitsDeclared l) (bitsDeclared l)) (recordsIn (a .result .records) (a .output))) a
+    → recordSize * a .result .records ≤ length (a .output) → a .result .steps ≤ limit
+    → (runTextOutcome l limit lent buffer ≡ textFinished b) × SoundRunText l limit lent buffer b × Within limit b
+run-text-promised l limit lent a e buffer b f r s =
+    let g = run-text-by l limit lent buffer a e ∙ sym f in
+    (g, (λ z. (run-theorem l limit lent z, sound-of g (run-text-sound l limit lent buffer z))), within limit a b (by-keeps (a .result .number) buffer _ a b f) r s)
 
-  pub run-text-promised : (buffer : List ℕ) (b : TextAnswer)
-      → textFinished b ≡ byNumber (a .result .number) buffer (some (textOf (qubitsDeclared l) (bitsDeclared l) (recordsIn (a .result .records) (a .output)))) a
-      → recordSize * a .result .records ≤ length (a .output) → a .result .steps ≤ limit
-      → (runTextOutcome l limit lent buffer ≡ textFinished b) × SoundRunText l limit lent buffer b × Within limit b
-  run-text-promised buffer b f r s =
-      let g = run-text-by l limit lent buffer a e ∙ sym f in
-      (g, (λ z. (run-theorem l limit lent z, sound-of g (run-text-sound l limit lent buffer z))), within limit a b (by-keeps (a .result .number) buffer _ a b f) r s)
-
--- ---- instances
-
-module _ (l : List ℕ) (k : ℕ) (sizes : List ℕ) (limit : ℕ) (lent : List ℕ) (a : Reply) (e : instanceOutcome l k sizes limit lent ≡ finished a) where
-  pub instance-accepted : a .result .number ≡ 0 → checkResult l .number ≡ 0
-  instance-accepted z = go (checkResult l .number) refl
-    where
-      go : (n : ℕ) → checkResult l .number ≡ n → checkResult l .number ≡ 0
-      go zero h = h
-      go (suc n) h = absurd (let x : record { result = checkResult l; output = lent } ≡ a = cc (instance-refused l k sizes limit lent (omega arith), e) in omega (arith, ap (λ (y : Reply). y .result .number) x))
-
-  -- a call turned down for its family or sizes has another number
-  turned-down : (n : ℕ) → instanceOutcome l k sizes limit lent ≡ untouched lent (suc n) 0 → a .result .number ≡ 0 → ⊥
-  turned-down n h z = let x : a ≡ record { result = turnedDown (suc n) 0; output = lent } = cc in omega (arith, ap (λ (y : Reply). y .result .number) x)
-
-  -- a complete instance is one whose family is declared and whose sizes suit it
-  pub instance-suits : a .result .number ≡ 0 → Suits l k sizes
-  instance-suits z = by-family (familyIn (read l) k) refl
-    where
-      t : InstanceAnswers l k sizes limit lent (instanceOutcome l k sizes limit lent)
-      t = instance-theorem l k sizes limit lent (instance-accepted z)
-
-      by-sizes : (d : Declaration) → familyIn (read l) k ≡ some d → hasFamilyType (d .types) ≡ false → (n : Bool) → eqb (length sizes) (4 * d .variables) ≡ n
-          → (m : Bool) → allSizesFit (fourBytes sizes) ≡ m → Suits l k sizes
-      by-sizes d i u false c m s = absurd (turned-down 20 (t .miscounted d i u (eqb-false (length sizes) (4 * d .variables) c)) z)
-      by-sizes d i u true c false s = absurd (turned-down 21 (t .tooLarge d i u (eqb-true (length sizes) (4 * d .variables) c) s) z)
-      by-sizes d i u true c true s = record { called = d; declared = i; plain = u; counted = eqb-true (length sizes) (4 * d .variables) c; small = s }
-
-      by-types : (d : Declaration) → familyIn (read l) k ≡ some d → (b : Bool) → hasFamilyType (d .types) ≡ b → Suits l k sizes
-      by-types d i true u = absurd (turned-down 33 (t .takesFamily d i u) z)
-      by-types d i false u = by-sizes d i u (eqb (length sizes) (4 * d .variables)) refl (allSizesFit (fourBytes sizes)) refl
-
-      by-family : (o : Option Declaration) → familyIn (read l) k ≡ o → Suits l k sizes
-      by-family none i = absurd (turned-down 19 (t .noFamily i) z)
-      by-family (some d) i = by-types d i (hasFamilyType (d .types)) refl
-
-  pub instance-text-promised : (buffer : List ℕ) (b : TextAnswer)
-      → textFinished b ≡ byNumber (a .result .number) buffer (some (textOf (wiresLaidOut l k sizes) 0 (recordsIn (a .result .records) (a .output)))) a
-      → recordSize * a .result .records ≤ length (a .output) → a .result .steps ≤ limit
-      → (instanceTextOutcome l k sizes limit lent buffer ≡ textFinished b) × SoundInstanceText l k sizes limit lent buffer b × Within limit b
-  instance-text-promised buffer b f r s =
-      let g = instance-text-by l k sizes limit lent buffer a e ∙ sym f in
-      (g, (λ z. let i = instance-text-sound l k sizes limit lent buffer z in (instance-theorem l k sizes limit lent z, λ u. sound-of g (i .0 u), λ suits. sound-of g (i .1 suits), λ u. same-text (sym g ∙ i .2 u))), within limit a b (by-keeps (a .result .number) buffer _ a b f) r s)
+pub instance-text-promised : (l : List ℕ) (k : ℕ) (sizes : List ℕ) (limit : ℕ) (lent : List ℕ) (a : Reply) → instanceOutcome l k sizes limit lent ≡ finished a → (buffer : List ℕ) (b : TextAnswer)
+    → textFinished b ≡ byNumber (a .result .number) buffer (mapped (textOf (wiresLaidOut l k sizes) 0) (recordsIn (a .result .records) (a .output))) a
+    → recordSize * a .result .records ≤ length (a .output) → a .result .steps ≤ limit
+    → (instanceTextOutcome l k sizes limit lent buffer ≡ textFinished b) × SoundInstanceText l k sizes limit lent buffer b × Within limit b
+instance-text-promised l k sizes limit lent a e buffer b f r s =
+    let g = instance-text-by l k sizes limit lent buffer a e ∙ sym f in
+    (g, (λ z. let i = instance-text-sound l k sizes limit lent buffer z in (instance-theorem l k sizes limit lent z, λ u. sound-of g (i .0 u), λ suits. sound-of g (i .1 suits), λ u. same-text (sym g ∙ i .2 u))), within limit a b (by-keeps (a .result .number) buffer _ a b f) r s)

@@ -1,13 +1,16 @@
 // The library's calls from C.
 ghost use mathlib.Core.Path.{_≡_};
 ghost use mathlib.Core.List.{List};
+ghost use mathlib.Core.Option.{some};
 ghost use Prim.Native.Nat.{ℕ, _*_, _≤_};
 ghost use lib.ListN.{length};
+ghost use Rattle.language.specs.Machine.{Record};
 ghost use Rattle.language.specs.Result.{finished, checkResult, instanceOutcome, runOutcome};
 ghost use Rattle.runs.specs.Conclusions.{concluded, resultIn};
 ghost use Rattle.language.specs.Limits.{recordSize, mostWires, mostBits};
 ghost use Rattle.qasm_text.specs.Text.{textOf};
-ghost use Rattle.qasm_text.specs.RecordsIn.{recordsIn, FewHalvings};
+ghost use Rattle.qasm_text.specs.RecordsIn.{recordsIn};
+ghost use Rattle.qasm_length.specs.AnyBytes.{FewHalvings};
 ghost use Rattle.qasm_text.specs.TextResult.{textFinished, withoutText, printed, runTextOutcome, instanceTextOutcome};
 ghost use Rattle.metaqasm.specs.Answers.{answered, NotStuck, SoundRun, SoundInstance};
 ghost use Rattle.metaqasm.specs.TextAnswers.{textAnswered, SoundRunText, SoundInstanceText};
@@ -167,7 +170,7 @@ fn printed(
     requires { ⌜ recordSize * run .records ≤ length (now output) ⌝ }
     requires { ⌜ FewHalvings (run .records) (now output) ⌝ }
     requires { ⌜ (wires ≤ mostWires) × (bits ≤ mostBits) ⌝ }
-    ensures { λ r. ⌜ record { result = textAnswered r; output = now (output .entry); text = now (text .exit) } ≡ printed (now (text .entry)) (textOf wires bits (recordsIn (run .records) (now (output .entry)))) (record { result = answered run; output = now (output .entry) }) ⌝ }
+    ensures { λ r. ⌜ ((rs : List Record) → recordsIn (run .records) (now (output .entry)) ≡ some rs → record { result = textAnswered r; output = now (output .entry); text = now (text .exit) } ≡ printed (now (text .entry)) (textOf wires bits rs) (record { result = answered run; output = now (output .entry) })) ⌝ }
 {
     let records = run.records as usize;
     match qasm_print::print(output, records, wires as u16, bits as u16, text) {

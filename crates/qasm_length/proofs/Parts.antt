@@ -1,30 +1,57 @@
--- The lengths of a text's parts, by the tests that code makes.
-use mathlib.Core.Path.{_≡_, refl, ap}
-use Prim.Native.Nat.{ℕ, zero, suc, _+_, _-_}
+-- The lengths of a text's parts, by the tests that code makes and as its loops add them.
+use mathlib.Core.Path.{_≡_, sym, ap, _∙_}
+use mathlib.Core.List.{List}
+use Prim.Native.Nat.{ℕ, zero, suc, _+_, _*_, _-_, _≤_}
+use native.Mathlib.Omega.{arith}
 use native.Mathlib.Numerals.{add-one}
+use lib.ListN.{length, length-append, getD}
+use Rattle.language.specs.Limits.{recordSize}
+use Rattle.language.specs.Machine.{Record}
 use Rattle.text_bytes.specs.Decimal.{width}
-use Rattle.qasm_text.specs.Text.{actionLength, conditionLength, qregLength, cregsLength}
-use Rattle.qasm_text.specs.RecordsIn.{actionOf, conditionOf}
-use Rattle.qasm_text.proofs.RecordsBack.{action-other, condition-some}
+use Rattle.qasm_text.specs.Text.{actionText, conditionText, line, lines, qregLine, cregLines}
+use Rattle.qasm_text.specs.RecordsIn.{numberAt}
+use Rattle.qasm_text.proofs.TextLength.{actionLength, action-length, bit-condition, line-length, wires-length, cregs-more}
+use Rattle.qasm_length.specs.AnyBytes.{actionFrom, conditionFrom, recordFrom, recordsFrom}
+use Rattle.qasm_length.proofs.Records.{action-other, condition-some, record-read, lines-next}
 
 -- an operation that is none of those with a name of their own
 pub other-action : (op first second k : ℕ) → (op ≡ 1 → ⊥) → (op ≡ 2 → ⊥) → (op ≡ 3 → ⊥) → (op ≡ 4 → ⊥) → (op ≡ 5 → ⊥) → (op ≡ 7 → ⊥) → (op ≡ 8 → ⊥) → (op ≡ 9 → ⊥) → (op ≡ 10 → ⊥)
-    → actionLength (actionOf op first second k) ≡ 9 + width first
+    → length (actionText (actionFrom op first second k)) ≡ 9 + width first
 unfolding actionLength
-other-action op first second k a b c d e f g h i = ap actionLength (action-other op first second k a b c d e f g h i)
+other-action op first second k a b c d e f g h i = rw (action-other op first second k a b c d e f g h i) (action-length _)
 
 -- a condition that there is
-pub some-condition : (kind bit : ℕ) → (kind ≡ 0 → ⊥) → conditionLength (conditionOf kind bit) ≡ 8 + width bit + width (kind - 1)
-unfolding conditionLength
-some-condition kind bit h = ap conditionLength (condition-some kind bit h)
+pub some-condition : (kind bit : ℕ) → (kind ≡ 0 → ⊥) → length (conditionText (conditionFrom kind bit)) ≡ 8 + width bit + width (kind - 1)
+some-condition kind bit h = rw (condition-some kind bit h) (bit-condition _ (kind - 1))
 
 -- wires that there are
-pub some-wires : (wires : ℕ) → (wires ≡ 0 → ⊥) → qregLength wires ≡ 10 + width wires
-unfolding qregLength
-some-wires zero h = absurd (h refl)
-some-wires (suc n) h = refl
+pub some-wires : (wires : ℕ) → (wires ≡ 0 → ⊥) → length (qregLine wires) ≡ 10 + width wires
+some-wires wires h = wires-length wires (omega (arith, h))
 
 -- the line of one bit more
-pub bits-more : (k : ℕ) → cregsLength (k + 1) ≡ cregsLength k + (11 + width k)
-unfolding cregsLength
-bits-more k = rw (add-one k)
+pub bits-more : (k : ℕ) → length (cregLines (k + 1)) ≡ length (cregLines k) + (11 + width k)
+bits-more k = rw (add-one k) (cregs-more k)
+
+-- the length of a record's line, from what code reads of it
+pub line-read : (output : List ℕ) (at first second bit k : ℕ)
+    → first ≡ numberAt output (at + 2) → second ≡ numberAt output (at + 4) → bit ≡ numberAt output (at + 6) → k ≡ numberAt output (at + 8)
+    → length (conditionText (conditionFrom (getD output (at + 1) 0) bit)) + length (actionText (actionFrom (getD output at 0) first second k)) + 2 ≡ length (line (recordFrom output at))
+line-read output at first second bit k f s b h = sym (line-length _) ∙ ap (λ (r : Record). length (line r)) (record-read output at first second bit k f s b h)
+
+-- the line of one record more
+pub lines-more : (output : List ℕ) (i : ℕ) → length (lines (recordsFrom (i + 1) output)) ≡ length (lines (recordsFrom i output)) + length (line (recordFrom output (recordSize * i)))
+lines-more output i = rw (add-one i) (ap length (lines-next i output) ∙ length-append (lines (recordsFrom i output)) (line (recordFrom output (recordSize * i))))
+
+-- more records never take less
+rises : (output : List ℕ) (i more : ℕ) → length (lines (recordsFrom i output)) ≤ length (lines (recordsFrom (i + more) output))
+rises output i zero =
+    let e : i + 0 ≡ i = omega arith in
+    rw e (omega arith)
+rises output i (suc more) =
+    let e : i + suc more ≡ i + more + 1 = omega arith in
+    rw e (omega (arith, rises output i more, lines-more output (i + more)))
+
+pub lines-rise : (output : List ℕ) (i records : ℕ) → i ≤ records → length (lines (recordsFrom i output)) ≤ length (lines (recordsFrom records output))
+lines-rise output i records h =
+    let e : i + (records - i) ≡ records = omega arith in
+    rw e at (rises output i (records - i))

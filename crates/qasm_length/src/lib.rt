@@ -4,8 +4,9 @@ ghost use Prim.Native.Nat.{_+_, _*_, _^_, _≤_};
 ghost use lib.ListN.{length};
 ghost use Rattle.language.specs.Limits.{recordSize, mostHalvings};
 ghost use Rattle.text_bytes.specs.Decimal.{width};
-ghost use Rattle.qasm_text.specs.Text.{actionLength, conditionLength, lineLength, linesLength, qregLength, cregsLength, textLength};
-ghost use Rattle.qasm_text.specs.RecordsIn.{actionOf, conditionOf, numberAt, recordAt, recordsIn, FewHalvings};
+ghost use Rattle.qasm_text.specs.Text.{actionText, conditionText, line, lines, qregLine, cregLines, textOf};
+ghost use Rattle.qasm_text.specs.RecordsIn.{numberAt};
+ghost use Rattle.qasm_length.specs.AnyBytes.{actionFrom, conditionFrom, recordFrom, recordsFrom, FewHalvings};
 ghost use Rattle.qasm_length.specs.Lengths.{Measured, Measures};
 use limits::RECORD_SIZE;
 
@@ -56,7 +57,7 @@ pub fn number_at(output: &[u8], at: usize) -> u16
 // The length of an operation with its numbers.
 fn action_length(op: u8, first: u16, second: u16, k: u16) -> usize
     requires { ⌜ k ≤ mostHalvings ⌝ }
-    ensures { λ r. ⌜ Measured (actionLength (actionOf op first second k)) 48 r ⌝ }
+    ensures { λ r. ⌜ Measured (length (actionText (actionFrom op first second k))) 48 r ⌝ }
 {
     let one = digits_of(first);
     match op {
@@ -75,7 +76,7 @@ fn action_length(op: u8, first: u16, second: u16, k: u16) -> usize
 
 // The length of a condition before it.
 fn condition_length(kind: u8, bit: u16) -> usize
-    ensures { λ r. ⌜ Measured (conditionLength (conditionOf kind bit)) 18 r ⌝ }
+    ensures { λ r. ⌜ Measured (length (conditionText (conditionFrom kind bit))) 18 r ⌝ }
 {
     if kind == 0 {
         return 0;
@@ -88,7 +89,7 @@ fn condition_length(kind: u8, bit: u16) -> usize
 fn line_length(output: &[u8], at: usize) -> usize
     requires { ⌜ at + recordSize ≤ length (now output) ⌝ }
     requires { ⌜ numberAt (now output) (at + 8) ≤ mostHalvings ⌝ }
-    ensures { λ r. ⌜ Measured (lineLength (recordAt (now (output .entry)) at)) 68 r ⌝ }
+    ensures { λ r. ⌜ Measured (length (line (recordFrom (now (output .entry)) at))) 68 r ⌝ }
 {
     let condition = condition_length(output[at + 1], number_at(output, at + 6));
     let action = action_length(
@@ -102,7 +103,7 @@ fn line_length(output: &[u8], at: usize) -> usize
 
 // The length of the line that declares the wires.
 fn qreg_length(wires: u16) -> usize
-    ensures { λ r. ⌜ Measured (qregLength wires) 15 r ⌝ }
+    ensures { λ r. ⌜ Measured (length (qregLine wires)) 15 r ⌝ }
 {
     if wires == 0 {
         return 0;
@@ -112,7 +113,7 @@ fn qreg_length(wires: u16) -> usize
 
 // The length of the lines that declare the bits.
 fn cregs_length(bits: u16) -> usize
-    ensures { λ r. ⌜ Measured (cregsLength bits) (16 * bits) r ⌝ }
+    ensures { λ r. ⌜ Measured (length (cregLines bits)) (16 * bits) r ⌝ }
 {
     let mut k: u16 = 0;
     let mut total: usize = 0;
@@ -128,7 +129,7 @@ fn cregs_length(bits: u16) -> usize
 fn lines_length(output: &[u8], records: usize, room: usize) -> TextLength
     requires { ⌜ recordSize * records ≤ length (now output) ⌝ }
     requires { ⌜ FewHalvings records (now output) ⌝ }
-    ensures { λ r. ⌜ Measures room (linesLength (recordsIn records (now (output .entry)))) r ⌝ }
+    ensures { λ r. ⌜ Measures room (length (lines (recordsFrom records (now (output .entry))))) r ⌝ }
 {
     let mut i: usize = 0;
     let mut total: usize = 0;
@@ -147,7 +148,7 @@ fn lines_length(output: &[u8], records: usize, room: usize) -> TextLength
 pub fn text_length(output: &[u8], records: usize, wires: u16, bits: u16, room: usize) -> TextLength
     requires { ⌜ recordSize * records ≤ length (now output) ⌝ }
     requires { ⌜ FewHalvings records (now output) ⌝ }
-    ensures { λ r. ⌜ Measures room (textLength wires bits (recordsIn records (now (output .entry)))) r ⌝ }
+    ensures { λ r. ⌜ Measures room (length (textOf wires bits (recordsFrom records (now (output .entry))))) r ⌝ }
 {
     let header = FIRST_LINES + qreg_length(wires) + cregs_length(bits);
     if room < header {

@@ -1,13 +1,15 @@
 // Prints a list as OpenQASM 2.0 text: words and numbers put one after another into a buffer.
 ghost use mathlib.Core.Path.{_≡_};
-ghost use mathlib.Core.List.{_++_};
+ghost use mathlib.Core.List.{List, _++_};
+ghost use mathlib.Core.Option.{some};
 ghost use Prim.Native.Nat.{_+_, _*_, _^_, _≤_, _<_};
 ghost use lib.ListN.{length};
 ghost use Rattle.language.specs.Limits.{recordSize, mostHalvings};
-ghost use Rattle.language.specs.Machine.{doCx, doMeasure};
+ghost use Rattle.language.specs.Machine.{doCx, doMeasure, Record};
 ghost use Rattle.text_bytes.specs.Decimal.{ascii, digit, decimal, width};
 ghost use Rattle.qasm_text.specs.Text.{wireText, bitText, actionText, conditionText, line, lines, qregLine, cregLine, cregLines, header, textOf};
-ghost use Rattle.qasm_text.specs.RecordsIn.{actionOf, conditionOf, numberAt, recordAt, recordsIn, FewHalvings};
+ghost use Rattle.qasm_text.specs.RecordsIn.{numberAt, recordsIn};
+ghost use Rattle.qasm_length.specs.AnyBytes.{actionFrom, conditionFrom, recordFrom, recordsFrom, FewHalvings};
 ghost use Rattle.text_bytes.specs.Buffers.{Room, Puts};
 ghost use Rattle.qasm_print.specs.Prints.{twoDigits, angled, Prints};
 use limits::RECORD_SIZE;
@@ -181,8 +183,8 @@ fn put_measure(wire: u16, bit: u16, text: &mut [u8], from: usize) -> usize
 // Puts an operation and what it is on.
 fn put_action(op: u8, first: u16, second: u16, k: u16, text: &mut [u8], from: usize) -> usize
     requires { ⌜ k ≤ mostHalvings ⌝ }
-    requires { ⌜ Room (now text) from (actionText (actionOf op first second k)) ⌝ }
-    ensures { λ r. ⌜ Puts (now (text .entry)) from (actionText (actionOf op first second k)) (now (text .exit)) r ⌝ }
+    requires { ⌜ Room (now text) from (actionText (actionFrom op first second k)) ⌝ }
+    ensures { λ r. ⌜ Puts (now (text .entry)) from (actionText (actionFrom op first second k)) (now (text .exit)) r ⌝ }
 {
     match op {
         1 => put_on_wire(b"h ", first, text, from),
@@ -200,8 +202,8 @@ fn put_action(op: u8, first: u16, second: u16, k: u16, text: &mut [u8], from: us
 
 // Puts the condition of a record.
 fn put_condition(kind: u8, bit: u16, text: &mut [u8], from: usize) -> usize
-    requires { ⌜ Room (now text) from (conditionText (conditionOf kind bit)) ⌝ }
-    ensures { λ r. ⌜ Puts (now (text .entry)) from (conditionText (conditionOf kind bit)) (now (text .exit)) r ⌝ }
+    requires { ⌜ Room (now text) from (conditionText (conditionFrom kind bit)) ⌝ }
+    ensures { λ r. ⌜ Puts (now (text .entry)) from (conditionText (conditionFrom kind bit)) (now (text .exit)) r ⌝ }
 {
     if kind == 0 {
         return from;
@@ -218,8 +220,8 @@ fn put_condition(kind: u8, bit: u16, text: &mut [u8], from: usize) -> usize
 fn put_line(output: &[u8], at: usize, text: &mut [u8], from: usize) -> usize
     requires { ⌜ at + recordSize ≤ length (now output) ⌝ }
     requires { ⌜ numberAt (now output) (at + 8) ≤ mostHalvings ⌝ }
-    requires { ⌜ Room (now text) from (line (recordAt (now output) at)) ⌝ }
-    ensures { λ r. ⌜ Puts (now (text .entry)) from (line (recordAt (now (output .entry)) at)) (now (text .exit)) r ⌝ }
+    requires { ⌜ Room (now text) from (line (recordFrom (now output) at)) ⌝ }
+    ensures { λ r. ⌜ Puts (now (text .entry)) from (line (recordFrom (now (output .entry)) at)) (now (text .exit)) r ⌝ }
 {
     let bit = qasm_length::number_at(output, at + 6);
     let condition = put_condition(output[at + 1], bit, text, from);
@@ -234,8 +236,8 @@ fn put_line(output: &[u8], at: usize, text: &mut [u8], from: usize) -> usize
 fn put_lines(output: &[u8], records: usize, text: &mut [u8], from: usize) -> usize
     requires { ⌜ recordSize * records ≤ length (now output) ⌝ }
     requires { ⌜ FewHalvings records (now output) ⌝ }
-    requires { ⌜ Room (now text) from (lines (recordsIn records (now output))) ⌝ }
-    ensures { λ r. ⌜ Puts (now (text .entry)) from (lines (recordsIn records (now (output .entry)))) (now (text .exit)) r ⌝ }
+    requires { ⌜ Room (now text) from (lines (recordsFrom records (now output))) ⌝ }
+    ensures { λ r. ⌜ Puts (now (text .entry)) from (lines (recordsFrom records (now (output .entry)))) (now (text .exit)) r ⌝ }
 {
     let mut at = from;
     let mut i: usize = 0;
@@ -299,7 +301,7 @@ fn put_header(wires: u16, bits: u16, text: &mut [u8], from: usize) -> usize
 pub fn print(output: &[u8], records: usize, wires: u16, bits: u16, text: &mut [u8]) -> TextLength
     requires { ⌜ recordSize * records ≤ length (now output) ⌝ }
     requires { ⌜ FewHalvings records (now output) ⌝ }
-    ensures { λ r. ⌜ Prints (now (text .entry)) (textOf wires bits (recordsIn records (now (output .entry)))) (now (text .exit)) r ⌝ }
+    ensures { λ r. ⌜ ((rs : List Record) → recordsIn records (now (output .entry)) ≡ some rs → Prints (now (text .entry)) (textOf wires bits rs) (now (text .exit)) r) ⌝ }
 {
     let room = text.len();
     let measured = qasm_length::text_length(output, records, wires, bits, room);

@@ -2,4 +2,5 @@
 pub mod TextLength
 pub mod TextBack
 pub mod RecordsBack
+pub mod CompleteRuns
 pub mod TextSoundness

@@ -10,7 +10,7 @@ use lib.Seq.{drop-append-seam}
 use Rattle.language.specs.Read.{choose}
 use Rattle.text_bytes.specs.Decimal.{ascii, decimal}
 use Rattle.language.specs.Machine.{Direction, forward, backward, Wire, Bit, Condition, always, whenBit, Action, doH, doT, doTdg, doReset, doCx, doMeasure, doPhase, doCphase, Record}
-use Rattle.qasm_text.specs.Text.{wireText, bitText, angleText, actionText, conditionText, line, lines, header, textOf, lineLength}
+use Rattle.qasm_text.specs.Text.{wireText, bitText, angleText, actionText, conditionText, line, lines, header, textOf}
 use Rattle.qasm_text.specs.TextSound.{TextInjective}
 use Rattle.text_bytes.proofs.DecimalLaws.{isDigit, readNumber, number-read}
 use Rattle.text_bytes.proofs.Powers.{exponent, exponent-power}
@@ -157,7 +157,6 @@ line-read r s =
 -- ---- lists
 
 line-some : (r : Record) (s : List ℕ) → 1 ≤ length (line r ++ s)
-unfolding lineLength
 line-some r s = omega (arith, length-append (line r) s, line-length r)
 
 lines-injective : (rs ss : List Record) → lines rs ≡ lines ss → rs ≡ ss

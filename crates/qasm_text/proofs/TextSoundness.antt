@@ -1,31 +1,28 @@
 -- THE THEOREM for the calls with text: an accepted program's runs and instances are never stuck, and their answers are TextSound; an instance of a family with a family parameter gives 34.
 use mathlib.Core.Path.{_≡_, refl, sym, ap, subst, _∙_}
 use mathlib.Core.Logic.{_⊎_, inl, inr}
-use mathlib.Core.List.{List, [], map}
+use mathlib.Core.List.{List}
 use mathlib.Core.Bool.{Bool, true, false, cond}
-use mathlib.Core.Option.{Option, none, some}
-use Prim.Native.Nat.{ℕ, zero, suc, _*_, _^_, _≤_, _<_}
+use mathlib.Core.Option.{Option, some}
+use Prim.Native.Nat.{ℕ, zero, suc, _^_, _≤_, _<_}
 use native.Mathlib.Omega.{arith}
-use lib.IntN.{pos}
-use lib.Dec.{leb, eqb}
+use lib.Dec.{leb}
 use borrow.Author.Tests.{leb-true, leb-false}
-use lib.ListN.{length, take, drop, getElem?, length-append, length-drop}
+use lib.ListN.{length, take, drop, length-append, length-drop}
 use lib.Seq.{take-append-seam, drop-append-seam}
-use Rattle.language.specs.Read.{read}
 use Rattle.language.specs.Check.{Checked, good, refused}
-use Rattle.language.specs.Machine.{Record, Outcome, going, ended, stuck, Family, hasFamilyType, allDeclared, runProgram, runInstance}
-use Rattle.language.specs.Result.{Answer, Conclusion, finished, writtenInto, resultOf, untouched, conclusionOf, checkProgram, verdict, checkResult, ifAccepted, runOutcome, fourBytes, allSizesFit, instanceOf, instanceOutcome}
+use Rattle.language.specs.Machine.{Record}
+use Rattle.language.specs.Result.{Answer, Conclusion, finished, checkProgram, verdict, checkResult, runOutcome, instanceOutcome}
 use Rattle.language.specs.Lookup.{mapped}
-use Rattle.language.specs.Sound.{qubitsDeclared, bitsDeclared, wiresLaidOut, AllName, EndsWith, Sound, Finishes, takesFamily}
-use Rattle.qasm_text.specs.Text.{textOf, textLength, enoughFor}
-use Rattle.qasm_text.specs.TextResult.{TextAnswer, TextConclusion, textFinished, textStuck, textInto, unprinted, fullyPrinted, printed, byNumber, textConclusion, recordsOf, runRecords, recordsAt, instanceRecords, runText, runTextOutcome, instanceText, instanceTextOutcome}
+use Rattle.language.specs.Sound.{qubitsDeclared, bitsDeclared, wiresLaidOut, EndsWith, Sound, Finishes, takesFamily}
+use Rattle.qasm_text.specs.Text.{textOf, enoughFor}
+use Rattle.qasm_text.specs.TextResult.{TextAnswer, TextConclusion, textFinished, textStuck, textInto, unprinted, fullyPrinted, printed, byNumber, textConclusion, runRecords, instanceRecords, runText, runTextOutcome, instanceText, instanceTextOutcome}
 use Rattle.qasm_text.specs.TextSound.{Listed, Complete, TextSound, TextFinishes, untouchedText, RunTextTheorem, InstanceTextTheorem}
 use Rattle.qasm_text.specs.RecordsIn.{recordsIn}
-use Rattle.language.proofs.Refusals.{accepted}
 use Rattle.language.proofs.Soundness.{run-sound, instance-sound, instance-passed, run-refused, instance-refused}
-use Rattle.qasm_text.proofs.TextLength.{text-length, text-most, text-small}
+use Rattle.qasm_text.proofs.TextLength.{text-most, text-small}
 use Rattle.qasm_text.proofs.TextBack.{text-injective}
-use Rattle.qasm_text.proofs.RecordsBack.{records-written}
+use Rattle.qasm_text.proofs.CompleteRuns.{Came, run-came, instance-came}
 
 -- ---- the buffer
 
@@ -67,10 +64,10 @@ module _ (least limit q b : ℕ) (lent buffer : List ℕ) (run : Answer) (s : So
   }
 
   module _ (list : List Record) (l : Listed q b lent list run) (z : run .result .number ≡ 0) where
-    enough-text : textLength q b list ≤ enoughFor b (run .result .records)
+    enough-text : length (textOf q b list) ≤ enoughFor b (run .result .records)
     enough-text = rw (← l .count) (text-most q b list (s .few .0) (s .few .1) (l .named))
 
-    small-text : length lent < 2 ^ 60 → textLength q b list < 2 ^ 63
+    small-text : length lent < 2 ^ 60 → length (textOf q b list) < 2 ^ 63
     small-text h = text-small q b list (length lent) (s .few .0) (s .few .1) (l .named) (omega (arith, l .count, s .fits)) h
 
     full-sound : length buffer < length (textOf q b list) → TextSound least limit q b (some list) (finished run) lent buffer (unprinted 30 0 buffer run)
@@ -88,7 +85,7 @@ module _ (least limit q b : ℕ) (lent buffer : List ℕ) (run : Answer) (s : So
         list = list;
         is = refl;
         listed = l;
-        printed = λ h. absurd (omega (arith, text-length q b list));
+        printed = λ h. absurd (omega arith);
         full = λ h. refl;
         place = refl;
         enough = enough-text;
@@ -115,8 +112,8 @@ module _ (least limit q b : ℕ) (lent buffer : List ℕ) (run : Answer) (s : So
         list = list;
         is = refl;
         listed = l;
-        printed = λ h. (refl, text-length q b list, into-text buffer (textOf q b list));
-        full = λ h. absurd (omega (arith, text-length q b list));
+        printed = λ h. (refl, refl, into-text buffer (textOf q b list));
+        full = λ h. absurd (omega arith);
         place = refl;
         enough = enough-text;
         small = small-text;
@@ -135,98 +132,34 @@ module _ (least limit q b : ℕ) (lent buffer : List ℕ) (run : Answer) (s : So
         go true t = printed-sound (leb-true (length (textOf q b list)) (length buffer) t)
         go false t = full-sound (leb-false (length (textOf q b list)) (length buffer) t)
 
--- ---- the list behind an answer
-
--- the answer holds the list that the machine came to
-abbrev Held : (lent : List ℕ) → Option (List Record) → Answer → Type 0
-Held lent none a = ⊥
-Held lent (some list) a = (a .result .records ≡ length list) × (a .output ≡ writtenInto lent list)
-
--- so does every answer with number 0
-record Holds (lent : List ℕ) (came : Option (List Record)) (c : Conclusion) : Type 0 where
-  held : (a : Answer) → c ≡ finished a → a .result .number ≡ 0 → Held lent came a
-
-same-answer : {x a : Answer} → finished x ≡ finished a → x ≡ a
-same-answer e = cc
-
-outcome-holds : {A : Type 0} (lent : List ℕ) (o : Outcome A) → Holds lent (recordsOf o) (conclusionOf lent o)
-unfolding recordsOf conclusionOf resultOf
-outcome-holds lent (going x s) = record { held = λ a e z. let f = sym (same-answer e) in (ap (λ (y : Answer). y .result .records) f, ap (λ (y : Answer). y .output) f) }
-outcome-holds lent (ended n p s) = record { held = λ a e z. let f = sym (same-answer e) in (ap (λ (y : Answer). y .result .records) f, ap (λ (y : Answer). y .output) f) }
-outcome-holds lent stuck = record { held = λ a e z. absurd (let k : _≡_ {A = ℕ} 0 1 = cc in omega arith) }
-
--- an answer with another number holds nothing
-refused-holds : (lent : List ℕ) (came : Option (List Record)) (n p : ℕ) → 1 ≤ n → Holds lent came (untouched lent n p)
-refused-holds lent came n p h = record { held = λ a e z. absurd (omega (arith, ap (λ (y : Answer). y .result .number) (same-answer e))) }
-
-holds-if : (lent : List ℕ) (came : Option (List Record)) (t : Bool) (c d : Conclusion) → Holds lent came c → Holds lent came d → Holds lent came (cond t c d)
-holds-if lent came true c d x y = x
-holds-if lent came false c d x y = y
-
-instance-holds : (o : Option Family) (sizes output : List ℕ) → Holds output (recordsAt o sizes) (instanceOf o sizes output)
-unfolding recordsAt instanceOf
-instance-holds none sizes output = refused-holds output none 20 0 (omega arith)
-instance-holds (some f) sizes output =
-    let came = recordsOf (runInstance f (map pos (fourBytes sizes))) in
-    holds-if output came (hasFamilyType (f .types)) _ _ (refused-holds output came 34 0 (omega arith))
-    (holds-if output came (eqb (length sizes) (4 * f .variables)) _ _
-    (holds-if output came (allSizesFit (fourBytes sizes)) _ _ (outcome-holds output (runInstance f (map pos (fourBytes sizes)))) (refused-holds output came 22 0 (omega arith)))
-    (refused-holds output came 21 0 (omega arith)))
-
 -- ---- the calls
 
--- the list is the one that is read from the output
-read-back : (lent : List ℕ) (list : List Record) (a : Answer) → Held lent (some list) a → recordsIn (a .result .records) (a .output) ≡ list
-read-back lent list a h = rw (h .0, h .1) (records-written lent list)
-
-listed-by : (least limit q b : ℕ) (list : List Record) (lent : List ℕ) (run : Answer) → Sound least limit q b lent run → Held lent (some list) run → Listed q b lent list run
-listed-by least limit q b list lent run s h =
-    let back : recordsIn (run .result .records) (run .output) ≡ s .written = rw (← s .count, s .output) (records-written lent (s .written)) in
-    record {
-      count = sym (h .0);
-      output = h .1;
-      named = subst (AllName q b) (sym back ∙ read-back lent list run h) (s .named);
-      read = read-back lent list run h;
-    }
-
 answer-finishes : (least limit q b : ℕ) (lent buffer : List ℕ) (run : Answer) → Sound least limit q b lent run → (n : ℕ) (came : Option (List Record)) → run .result .number ≡ n
-    → (run .result .number ≡ 0 → Held lent came run) → TextFinishes least limit q b came (finished run) lent buffer (byNumber n buffer (mapped (textOf q b) came) run)
+    → (run .result .number ≡ 0 → Came q b lent came run) → TextFinishes least limit q b came (finished run) lent buffer (byNumber n buffer (mapped (textOf q b) came) run)
 unfolding byNumber mapped
-answer-finishes least limit q b lent buffer run s zero none e h = absurd (h e)
-answer-finishes least limit q b lent buffer run s zero (some list) e h = record {
-  answer = _;
-  is = refl;
-  sound = done-sound least limit q b lent buffer run s list (listed-by least limit q b list lent run s (h e)) e;
-}
+answer-finishes least limit q b lent buffer run s zero came e h =
+    let c = h e in
+    rw (c .is) (record { answer = _; is = refl; sound = done-sound least limit q b lent buffer run s (c .list) (c .listed) e })
 answer-finishes least limit q b lent buffer run s (suc n) came e h = record { answer = _; is = refl; sound = other-sound least limit q b lent buffer run s came n e }
 
-text-finishes : (least limit q b : ℕ) (came : Option (List Record)) (lent buffer : List ℕ) (c : Conclusion) → Finishes least limit q b lent c → Holds lent came c
-    → TextFinishes least limit q b came c lent buffer (textConclusion c buffer (mapped (textOf q b) came))
+text-finishes : (least limit q b : ℕ) (came : Option (List Record)) (lent buffer : List ℕ) (c : Conclusion) → Finishes least limit q b lent c
+    → ((a : Answer) → c ≡ finished a → a .result .number ≡ 0 → Came q b lent came a) → TextFinishes least limit q b came c lent buffer (textConclusion c buffer (mapped (textOf q b) came))
 unfolding textConclusion
 text-finishes least limit q b came lent buffer c f h =
-    rw (f .is) (answer-finishes least limit q b lent buffer (f .answer) (f .sound) (f .answer .result .number) came refl (h .held (f .answer) (f .is)))
-
-run-holds : (program : List ℕ) (limit : ℕ) (output : List ℕ) → checkResult program .number ≡ 0 → Holds output (runRecords program limit output) (runOutcome program limit output)
-unfolding runOutcome ifAccepted runRecords
-run-holds program limit output e = rw (accepted program e .1) (outcome-holds output (runProgram limit (length output) (read program)))
-
-family-holds : (program : List ℕ) (family : ℕ) (sizes : List ℕ) (limit : ℕ) (output : List ℕ) → checkResult program .number ≡ 0
-    → Holds output (instanceRecords program family sizes limit output) (instanceOutcome program family sizes limit output)
-unfolding instanceOutcome ifAccepted instanceRecords
-family-holds program family sizes limit output e = rw (accepted program e .1) (instance-holds (getElem? (allDeclared limit (length output) (read program) []) family) sizes output)
+    rw (f .is) (answer-finishes least limit q b lent buffer (f .answer) (f .sound) (f .answer .result .number) came refl (h (f .answer) (f .is)))
 
 -- every whole run of an accepted program, at every limit, output and text buffer
 pub run-text-sound : RunTextTheorem
 unfolding runTextOutcome runText
 run-text-sound program limit output buffer e =
     text-finishes 24 limit (qubitsDeclared program) (bitsDeclared program) (runRecords program limit output) output buffer (runOutcome program limit output)
-    (run-sound program limit output e) (run-holds program limit output e)
+    (run-sound program limit output e) (run-came program limit output)
 
 -- every instance of an accepted program
 pub instance-text-sound : InstanceTextTheorem
 unfolding instanceTextOutcome instanceText textConclusion byNumber unprinted
 instance-text-sound program family sizes limit output buffer e =
-    let h = family-holds program family sizes limit output e in
+    let h = instance-came program family sizes limit output in
     let i = instance-sound program family sizes limit output e in
     let q = wiresLaidOut program family sizes in
     let came = instanceRecords program family sizes limit output in
@@ -250,12 +183,12 @@ module _ {least limit q b : ℕ} {came : Option (List Record)} {called : Conclus
   pub list-printed : Complete q b came lent buffer (x .run) a
   list-printed = x .complete run-done
 
-  printed-fits : textLength q b (list-printed .list) ≤ length buffer
-  printed-fits = go (leb (textLength q b (list-printed .list)) (length buffer)) refl
+  printed-fits : length (textOf q b (list-printed .list)) ≤ length buffer
+  printed-fits = go (leb (length (textOf q b (list-printed .list))) (length buffer)) refl
     where
-      go : (t : Bool) → leb (textLength q b (list-printed .list)) (length buffer) ≡ t → textLength q b (list-printed .list) ≤ length buffer
-      go true t = leb-true (textLength q b (list-printed .list)) (length buffer) t
-      go false t = absurd (omega (arith, list-printed .full (leb-false (textLength q b (list-printed .list)) (length buffer) t)))
+      go : (t : Bool) → leb (length (textOf q b (list-printed .list))) (length buffer) ≡ t → length (textOf q b (list-printed .list)) ≤ length buffer
+      go true t = leb-true (length (textOf q b (list-printed .list))) (length buffer) t
+      go false t = absurd (omega (arith, list-printed .full (leb-false (length (textOf q b (list-printed .list))) (length buffer) t)))
 
   -- the buffer begins with the list's text
   pub text-printed : take (a .result .length) (a .text) ≡ textOf q b (list-printed .list)
@@ -329,32 +262,23 @@ instance-text-never-stuck program family sizes limit output buffer e = go (check
 
 -- ---- as code has it: the run's answer, and the list read from its output
 
-by-bytes : (q b n : ℕ) (came : Option (List Record)) (lent buffer : List ℕ) (a : Answer) → a .result .number ≡ n → (a .result .number ≡ 0 → Held lent came a)
-    → byNumber n buffer (mapped (textOf q b) came) a ≡ byNumber n buffer (some (textOf q b (recordsIn (a .result .records) (a .output)))) a
-unfolding byNumber mapped
-by-bytes q b zero none lent buffer a e h = absurd (h e)
-by-bytes q b zero (some list) lent buffer a e h = rw (read-back lent list a (h e))
+by-bytes : (q b n : ℕ) (came : Option (List Record)) (lent buffer : List ℕ) (a : Answer) → a .result .number ≡ n → (a .result .number ≡ 0 → Came q b lent came a)
+    → byNumber n buffer (mapped (textOf q b) came) a ≡ byNumber n buffer (mapped (textOf q b) (recordsIn (a .result .records) (a .output))) a
+unfolding byNumber
+by-bytes q b zero came lent buffer a e h = let c = h e in rw (c .is, c .listed .read)
 by-bytes q b (suc n) came lent buffer a e h = refl
 
 -- the text call's answer from the run call's, for every program
 pub run-text-by : (program : List ℕ) (limit : ℕ) (output buffer : List ℕ) (a : Answer) → runOutcome program limit output ≡ finished a
     → runTextOutcome program limit output buffer
-    ≡ byNumber (a .result .number) buffer (some (textOf (qubitsDeclared program) (bitsDeclared program) (recordsIn (a .result .records) (a .output)))) a
+    ≡ byNumber (a .result .number) buffer (mapped (textOf (qubitsDeclared program) (bitsDeclared program)) (recordsIn (a .result .records) (a .output))) a
 unfolding runTextOutcome runText textConclusion
 run-text-by program limit output buffer a e =
-    rw e (by-bytes (qubitsDeclared program) (bitsDeclared program) (a .result .number) (runRecords program limit output) output buffer a refl (go (checkResult program .number) refl))
-  where
-    go : (n : ℕ) → checkResult program .number ≡ n → a .result .number ≡ 0 → Held output (runRecords program limit output) a
-    go zero c z = run-holds program limit output c .held a e z
-    go (suc n) c z = absurd (omega (arith, ap (λ (y : Answer). y .result .number) (same-answer (sym (run-refused program limit output (omega arith)) ∙ e))))
+    rw e (by-bytes (qubitsDeclared program) (bitsDeclared program) (a .result .number) (runRecords program limit output) output buffer a refl (run-came program limit output a e))
 
 pub instance-text-by : (program : List ℕ) (family : ℕ) (sizes : List ℕ) (limit : ℕ) (output buffer : List ℕ) (a : Answer) → instanceOutcome program family sizes limit output ≡ finished a
     → instanceTextOutcome program family sizes limit output buffer
-    ≡ byNumber (a .result .number) buffer (some (textOf (wiresLaidOut program family sizes) 0 (recordsIn (a .result .records) (a .output)))) a
+    ≡ byNumber (a .result .number) buffer (mapped (textOf (wiresLaidOut program family sizes) 0) (recordsIn (a .result .records) (a .output))) a
 unfolding instanceTextOutcome instanceText textConclusion
 instance-text-by program family sizes limit output buffer a e =
-    rw e (by-bytes (wiresLaidOut program family sizes) 0 (a .result .number) (instanceRecords program family sizes limit output) output buffer a refl (go (checkResult program .number) refl))
-  where
-    go : (n : ℕ) → checkResult program .number ≡ n → a .result .number ≡ 0 → Held output (instanceRecords program family sizes limit output) a
-    go zero c z = family-holds program family sizes limit output c .held a e z
-    go (suc n) c z = absurd (omega (arith, ap (λ (y : Answer). y .result .number) (same-answer (sym (instance-refused program family sizes limit output (omega arith)) ∙ e))))
+    rw e (by-bytes (wiresLaidOut program family sizes) 0 (a .result .number) (instanceRecords program family sizes limit output) output buffer a refl (instance-came program family sizes limit output a e))

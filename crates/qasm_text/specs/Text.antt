@@ -1,7 +1,7 @@
--- A list of records as OpenQASM 2.0 text: its lines, and its length as a plain sum.
+-- A list of records as OpenQASM 2.0 text: its lines, and bytes that are enough for it.
 use mathlib.Core.List.{List, [], _∷_, _++_}
 use Prim.Native.Nat.{ℕ, zero, suc, _+_, _*_, _^_}
-use Rattle.text_bytes.specs.Decimal.{ascii, decimal, width}
+use Rattle.text_bytes.specs.Decimal.{ascii, decimal}
 use Rattle.language.specs.Machine.{Direction, forward, backward, Wire, Bit, Condition, always, whenBit, Action, doH, doT, doTdg, doReset, doCx, doMeasure, doPhase, doCphase, Record}
 
 -- ---- the line of a record
@@ -60,44 +60,6 @@ header wireCount bitCount = ascii "OPENQASM 2.0;\n" ++ ascii "include \"qelib1.i
 -- the text of a list of records over so many wires and bits
 unfoldable pub textOf : (wireCount bitCount : ℕ) → List Record → List ℕ
 textOf wireCount bitCount rs = header wireCount bitCount ++ lines rs
-
--- ---- its length
-
-unfoldable pub angleLength : Direction → (k : ℕ) → ℕ
-angleLength forward k = 8 + width (2 ^ k)
-angleLength backward k = 9 + width (2 ^ k)
-
-unfoldable pub actionLength : Action → ℕ
-actionLength (doH w) = 5 + width (w .number)
-actionLength (doT w) = 5 + width (w .number)
-actionLength (doTdg w) = 7 + width (w .number)
-actionLength (doReset w) = 9 + width (w .number)
-actionLength (doCx x y) = 10 + width (x .number) + width (y .number)
-actionLength (doMeasure w b) = 19 + width (w .number) + width (b .number)
-actionLength (doPhase d k w) = 5 + angleLength d k + width (w .number)
-actionLength (doCphase d k x y) = 10 + angleLength d k + width (x .number) + width (y .number)
-
-unfoldable pub conditionLength : Condition → ℕ
-conditionLength always = 0
-conditionLength (whenBit b value) = 8 + width (b .number) + width value
-
-unfoldable pub lineLength : Record → ℕ
-lineLength r = conditionLength (r .condition) + actionLength (r .action) + 2
-
-unfoldable pub linesLength : List Record → ℕ
-linesLength [] = 0
-linesLength (r ∷ rs) = lineLength r + linesLength rs
-
-unfoldable pub qregLength : (wireCount : ℕ) → ℕ
-qregLength zero = 0
-qregLength (suc n) = 10 + width (suc n)
-
-unfoldable pub cregsLength : (bitCount : ℕ) → ℕ
-cregsLength zero = 0
-cregsLength (suc k) = cregsLength k + (11 + width k)
-
-unfoldable pub textLength : (wireCount bitCount : ℕ) → List Record → ℕ
-textLength wireCount bitCount rs = 36 + qregLength wireCount + cregsLength bitCount + linesLength rs
 
 -- bytes that are always enough for so many bits and records, however many wires there are
 abbrev pub enoughFor : (bitCount records : ℕ) → ℕ

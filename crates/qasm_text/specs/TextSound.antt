@@ -9,7 +9,7 @@ use lib.ListN.{length, take, drop}
 use Rattle.language.specs.Machine.{Record}
 use Rattle.language.specs.Result.{Answer, Conclusion, finished, turnedDown, writtenInto, checkResult, runOutcome, instanceOutcome}
 use Rattle.language.specs.Sound.{qubitsDeclared, bitsDeclared, wiresLaidOut, AllName, EndsWith, Sound, takesFamily, Suits}
-use Rattle.qasm_text.specs.Text.{textOf, textLength, enoughFor}
+use Rattle.qasm_text.specs.Text.{textOf, enoughFor}
 use Rattle.qasm_text.specs.RecordsIn.{recordsIn}
 use Rattle.qasm_text.specs.TextResult.{TextAnswer, TextConclusion, textFinished, withoutText, runRecords, instanceRecords, runTextOutcome, instanceTextOutcome}
 
@@ -19,22 +19,22 @@ pub record Listed (wireCount bitCount : ℕ) (lent : List ℕ) (list : List Reco
   pub output : run .output ≡ writtenInto lent list
   pub named : AllName wireCount bitCount list
   -- and that can be read from it
-  pub read : recordsIn (run .result .records) (run .output) ≡ list
+  pub read : recordsIn (run .result .records) (run .output) ≡ some list
 
 -- what a complete run leaves: the list that the machine came to, in the output, and its text where it fits
 pub record Complete (wireCount bitCount : ℕ) (came : Option (List Record)) (lent buffer : List ℕ) (run : Answer) (a : TextAnswer) : Type 0 where
   pub list : List Record
   pub is : came ≡ some list
   pub listed : Listed wireCount bitCount lent list run
-  pub printed : textLength wireCount bitCount list ≤ length buffer
-      → (a .result .number ≡ 0) × (a .result .length ≡ textLength wireCount bitCount list) × (take (a .result .length) (a .text) ≡ textOf wireCount bitCount list)
-  pub full : length buffer < textLength wireCount bitCount list → a .result .number ≡ 30
+  pub printed : length (textOf wireCount bitCount list) ≤ length buffer
+      → (a .result .number ≡ 0) × (a .result .length ≡ length (textOf wireCount bitCount list)) × (take (a .result .length) (a .text) ≡ textOf wireCount bitCount list)
+  pub full : length buffer < length (textOf wireCount bitCount list) → a .result .number ≡ 30
   -- 0 and 30 have place 0
   pub place : a .result .place ≡ 0
   -- so long a buffer holds the text of any list of so many records
-  pub enough : textLength wireCount bitCount list ≤ enoughFor bitCount (run .result .records)
+  pub enough : length (textOf wireCount bitCount list) ≤ enoughFor bitCount (run .result .records)
   -- no text of an output below 2 ^ 60 bytes reaches 2 ^ 63
-  pub small : length lent < 2 ^ 60 → textLength wireCount bitCount list < 2 ^ 63
+  pub small : length lent < 2 ^ 60 → length (textOf wireCount bitCount list) < 2 ^ 63
 
 -- the answer to a run in which the machine came to this list, and which without the text comes to `called`, into the output and the text buffer lent
 pub record TextSound (least limit wireCount bitCount : ℕ) (came : Option (List Record)) (called : Conclusion) (lent buffer : List ℕ) (a : TextAnswer) : Type 0 where

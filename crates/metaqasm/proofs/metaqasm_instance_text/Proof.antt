@@ -5,10 +5,11 @@ use Rattle.metaqasm.proofs.metaqasm_instance_text.Tie as tie
 use denote.Ref.{now}
 use Rattle.language.specs.Result.{Answer as Reply}
 use Rattle.language.proofs.Theorem.{reported-sound}
+use Rattle.qasm_text.proofs.CompleteRuns.{instance-accepted, instance-suits}
 use Rattle.metaqasm.specs.Answers.{answered}
 use Rattle.metaqasm.specs.TextAnswers.{textAnswered}
 use Rattle.metaqasm.proofs.AcceptedRuns.{acceptable}
-use Rattle.metaqasm.proofs.TextRuns.{by-other, by-done, instance-accepted, instance-suits, instance-text-promised}
+use Rattle.metaqasm.proofs.TextRuns.{by-other, by-done, instance-text-promised}
 
 metaqasm-instance-requires : tie.Need-metaqasm-instance-requires
 metaqasm-instance-requires c κs =
@@ -69,9 +70,11 @@ returns-2 c =
     let l = now (a .program) in
     let out = c .before .before .before .before .before .before .before .before .before .before .before .metaqasm-instance .last .1 .1 .1 .1 .0 in
     let run : Reply = record { result = answered (c .before .before .before .before .before .before .before .before .before .before .before .metaqasm-instance .result); output = out } in
-    let w = (rw (c .before .before .before .before .before .before .wide .ensures) at (c .before .before .before .before .before .wires .ensures)) (instance-suits l (a .family) (now (a .sizes)) (a .limit) (now (a .output)) run (c .before .before .before .before .before .before .before .before .before .before .before .metaqasm-instance .ensures .0) (c .before .before .before .before .before .before .before .if1 .left)) in
+    let suits = instance-suits l (a .family) (now (a .sizes)) (a .limit) (now (a .output)) run (c .before .before .before .before .before .before .before .before .before .before .before .metaqasm-instance .ensures .0) (c .before .before .before .before .before .before .before .if1 .left) in
+    let sound = reported-sound (c .before .before .before .before .before .before .before .before .before .before .before .metaqasm-instance .ensures .1 .0 (instance-accepted l (a .family) (now (a .sizes)) (a .limit) (now (a .output)) run (c .before .before .before .before .before .before .before .before .before .before .before .metaqasm-instance .ensures .0) (c .before .before .before .before .before .before .before .if1 .left)) .suited suits) in
+    let w = (rw (c .before .before .before .before .before .before .wide .ensures) at (c .before .before .before .before .before .wires .ensures)) suits in
     let e = rw w at (c .before .before .printed .ensures) in
-    let t = instance-text-promised l (a .family) (now (a .sizes)) (a .limit) (now (a .output)) run (c .before .before .before .before .before .before .before .before .before .before .before .metaqasm-instance .ensures .0) (now (a .text)) _ (by-done run (now (a .text)) _ _ (c .before .before .before .before .before .before .before .if1 .left) e) (c .before .before .before .before .before .before .before .before .before .before .before .metaqasm-instance .ensures .1 .1 .0) (c .before .before .before .before .before .before .before .before .before .before .before .metaqasm-instance .ensures .1 .1 .1) in
+    let t = instance-text-promised l (a .family) (now (a .sizes)) (a .limit) (now (a .output)) run (c .before .before .before .before .before .before .before .before .before .before .before .metaqasm-instance .ensures .0) (now (a .text)) _ (by-done run (now (a .text)) _ sound (c .before .before .before .before .before .before .before .if1 .left) e) (c .before .before .before .before .before .before .before .before .before .before .before .metaqasm-instance .ensures .1 .1 .0) (c .before .before .before .before .before .before .before .before .before .before .before .metaqasm-instance .ensures .1 .1 .1) in
     (t .0, (t .1, (t .2 .records, (t .2 .steps, t .2 .fits))))
 
 pub metaqasm-instance-text-spec : {M : Type 1} → statement M

@@ -6,10 +6,11 @@ use native.Mathlib.Omega.{arith}
 use denote.Ref.{now}
 use Rattle.language.specs.Result.{Answer as Reply}
 use Rattle.language.proofs.Theorem.{reported-sound}
+use Rattle.qasm_text.proofs.CompleteRuns.{run-accepted}
 use Rattle.metaqasm.specs.Answers.{answered}
 use Rattle.metaqasm.specs.TextAnswers.{textAnswered}
 use Rattle.metaqasm.proofs.AcceptedRuns.{acceptable}
-use Rattle.metaqasm.proofs.TextRuns.{by-other, by-done, run-accepted, run-text-promised}
+use Rattle.metaqasm.proofs.TextRuns.{by-other, by-done, run-text-promised}
 
 metaqasm-run-requires : tie.Need-metaqasm-run-requires
 metaqasm-run-requires c κs =
@@ -67,7 +68,8 @@ returns-2 c =
     let out = c .before .before .before .before .before .before .before .before .before .before .metaqasm-run .last .1 .1 .0 in
     let run : Reply = record { result = answered (c .before .before .before .before .before .before .before .before .before .before .metaqasm-run .result); output = out } in
     let e = rw (c .before .before .before .before .before .declared .ensures .qubits, c .before .before .before .before .before .declared .ensures .bits) at (c .before .before .printed .ensures) in
-    let t = run-text-promised l (a .limit) (now (a .output)) run (c .before .before .before .before .before .before .before .before .before .before .metaqasm-run .ensures .0) (now (a .text)) _ (by-done run (now (a .text)) _ _ (c .before .before .before .before .before .before .if1 .left) e) (c .before .before .before .before .before .before .before .before .before .before .metaqasm-run .ensures .1 .1 .0) (c .before .before .before .before .before .before .before .before .before .before .metaqasm-run .ensures .1 .1 .1) in
+    let sound = reported-sound (c .before .before .before .before .before .before .before .before .before .before .metaqasm-run .ensures .1 .0 (run-accepted l (a .limit) (now (a .output)) run (c .before .before .before .before .before .before .before .before .before .before .metaqasm-run .ensures .0) (c .before .before .before .before .before .before .if1 .left))) in
+    let t = run-text-promised l (a .limit) (now (a .output)) run (c .before .before .before .before .before .before .before .before .before .before .metaqasm-run .ensures .0) (now (a .text)) _ (by-done run (now (a .text)) _ sound (c .before .before .before .before .before .before .if1 .left) e) (c .before .before .before .before .before .before .before .before .before .before .metaqasm-run .ensures .1 .1 .0) (c .before .before .before .before .before .before .before .before .before .before .metaqasm-run .ensures .1 .1 .1) in
     (t .0, (t .1, (t .2 .records, (t .2 .steps, t .2 .fits))))
 
 pub metaqasm-run-text-spec : {M : Type 1} → statement M

@@ -5,7 +5,6 @@ use Rattle.metaqasm.proofs.printed.Tie as tie
 use mathlib.Core.Path.{ap, _∙_}
 use denote.Ref.{now}
 use Rattle.qasm_text.specs.Text.{textOf}
-use Rattle.qasm_text.specs.RecordsIn.{recordsIn}
 use Rattle.qasm_text.specs.TextResult.{TextResult}
 use Rattle.metaqasm.specs.Answers.{answered}
 use Rattle.metaqasm.proofs.TextRuns.{printed-not, printed-fully}
@@ -36,8 +35,8 @@ returns c =
     let a = c .before .before .before .before .before .before .before .before .before .args in
     let out = now (a .output) in
     let after = c .before .before .before .before .before .print .last .1 .1 .1 .1 .0 in
-    ap (λ (x : TextResult). record { result = x; output = out; text = after }) (c .unprinted .ensures)
-    ∙ printed-not (now (a .text)) (textOf (a .wires) (a .bits) (recordsIn (a .run .records) out)) after (record { result = answered (a .run); output = out }) (c .before .before .before .before .before .print .result) (c .before .before .before .before .before .print .ensures) (c .before .enum-told .given .1)
+    λ rs e. ap (λ (x : TextResult). record { result = x; output = out; text = after }) (c .unprinted .ensures)
+    ∙ printed-not (now (a .text)) (textOf (a .wires) (a .bits) rs) after (record { result = answered (a .run); output = out }) (c .before .before .before .before .before .print .result) (c .before .before .before .before .before .print .ensures rs e) (c .before .enum-told .given .1)
 
 same-length-2 : tie.Need-same-length-2
 same-length-2 c = search needs
@@ -47,7 +46,7 @@ returns-2 c =
     let a = c .before .before .before .before .before .before .before .before .before .args in
     let out = now (a .output) in
     let after = c .before .before .before .before .before .print .last .1 .1 .1 .1 .0 in
-    printed-fully (now (a .text)) (textOf (a .wires) (a .bits) (recordsIn (a .run .records) out)) after (record { result = answered (a .run); output = out }) (c .before .before .before .before .before .print .result) (c .before .before .before .before .before .print .ensures) _ (c .before .n .given .1)
+    λ rs e. printed-fully (now (a .text)) (textOf (a .wires) (a .bits) rs) after (record { result = answered (a .run); output = out }) (c .before .before .before .before .before .print .result) (c .before .before .before .before .before .print .ensures rs e) _ (c .before .n .given .1)
 
 pub printed-spec : {M : Type 1} → statement M
 printed-spec =

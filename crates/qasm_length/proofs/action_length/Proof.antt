@@ -4,8 +4,9 @@ use Rattle.qasm_length.proofs.action_length.Statement.{statement}
 use Rattle.qasm_length.proofs.action_length.Tie as tie
 use native.Mathlib.Omega.{arith}
 use Rattle.language.specs.Read.{choose}
-use Rattle.qasm_text.specs.Text.{actionLength, angleLength}
 use Rattle.qasm_text.specs.RecordsIn.{actionOf}
+use Rattle.qasm_text.proofs.TextLength.{angleLength, actionLength, action-length}
+use Rattle.qasm_length.specs.AnyBytes.{actionFrom}
 use Rattle.qasm_length.proofs.Parts.{other-action}
 
 digits-of-requires : tie.Need-digits-of-requires
@@ -90,49 +91,58 @@ add-result-18 : tie.Need-add-result-18
 add-result-18 c = search needs
 
 returns : tie.Need-returns
-unfolding actionOf choose actionLength
+unfolding actionFrom actionOf choose actionLength
 returns c =
-    rw (c .match .keys1) (record { same = omega arith; bound = omega arith })
+    let a = c .before .before .args in
+    rw (action-length (actionFrom (a .op) (a .first) (a .second) (a .k)), c .match .keys1) (record { same = omega arith; bound = omega arith })
 
 returns-2 : tie.Need-returns-2
-unfolding actionOf choose actionLength
+unfolding actionFrom actionOf choose actionLength
 returns-2 c =
-    rw (c .match .keys2) (record { same = omega arith; bound = omega arith })
+    let a = c .before .before .args in
+    rw (action-length (actionFrom (a .op) (a .first) (a .second) (a .k)), c .match .keys2) (record { same = omega arith; bound = omega arith })
 
 returns-3 : tie.Need-returns-3
-unfolding actionOf choose actionLength
+unfolding actionFrom actionOf choose actionLength
 returns-3 c =
-    rw (c .match .keys3) (record { same = omega arith; bound = omega arith })
+    let a = c .before .before .args in
+    rw (action-length (actionFrom (a .op) (a .first) (a .second) (a .k)), c .match .keys3) (record { same = omega arith; bound = omega arith })
 
 returns-4 : tie.Need-returns-4
-unfolding actionOf choose actionLength
+unfolding actionFrom actionOf choose actionLength
 returns-4 c =
-    rw (c .before .match .keys4) (record { same = omega arith; bound = omega arith })
+    let a = c .before .before .before .args in
+    rw (action-length (actionFrom (a .op) (a .first) (a .second) (a .k)), c .before .match .keys4) (record { same = omega arith; bound = omega arith })
 
 returns-5 : tie.Need-returns-5
-unfolding actionOf choose actionLength
+unfolding actionFrom actionOf choose actionLength
 returns-5 c =
-    rw (c .before .match .keys5) (record { same = omega arith; bound = omega arith })
+    let a = c .before .before .before .args in
+    rw (action-length (actionFrom (a .op) (a .first) (a .second) (a .k)), c .before .match .keys5) (record { same = omega arith; bound = omega arith })
 
 returns-6 : tie.Need-returns-6
-unfolding actionOf choose actionLength angleLength
+unfolding actionFrom actionOf choose actionLength angleLength
 returns-6 c =
-    rw (c .before .match .keys6) (record { same = omega arith; bound = omega arith })
+    let a = c .before .before .before .args in
+    rw (action-length (actionFrom (a .op) (a .first) (a .second) (a .k)), c .before .match .keys6) (record { same = omega arith; bound = omega arith })
 
 returns-7 : tie.Need-returns-7
-unfolding actionOf choose actionLength angleLength
+unfolding actionFrom actionOf choose actionLength angleLength
 returns-7 c =
-    rw (c .before .match .keys7) (record { same = omega arith; bound = omega arith })
+    let a = c .before .before .before .args in
+    rw (action-length (actionFrom (a .op) (a .first) (a .second) (a .k)), c .before .match .keys7) (record { same = omega arith; bound = omega arith })
 
 returns-8 : tie.Need-returns-8
-unfolding actionOf choose actionLength angleLength
+unfolding actionFrom actionOf choose actionLength angleLength
 returns-8 c =
-    rw (c .before .before .match .keys8) (record { same = omega arith; bound = omega arith })
+    let a = c .before .before .before .before .args in
+    rw (action-length (actionFrom (a .op) (a .first) (a .second) (a .k)), c .before .before .match .keys8) (record { same = omega arith; bound = omega arith })
 
 returns-9 : tie.Need-returns-9
-unfolding actionOf choose actionLength angleLength
+unfolding actionFrom actionOf choose actionLength angleLength
 returns-9 c =
-    rw (c .before .before .match .keys9) (record { same = omega arith; bound = omega arith })
+    let a = c .before .before .before .before .args in
+    rw (action-length (actionFrom (a .op) (a .first) (a .second) (a .k)), c .before .before .match .keys9) (record { same = omega arith; bound = omega arith })
 
 returns-10 : tie.Need-returns-10
 returns-10 c =

@@ -6,12 +6,12 @@ use Prim.Native.Nat.{ℕ, _-_}
 use mathlib.Core.Path.{ap}
 use native.Mathlib.Omega.{arith}
 use Rattle.text_bytes.specs.Decimal.{width}
-use Rattle.qasm_text.specs.Text.{conditionLength}
-use Rattle.qasm_text.specs.RecordsIn.{conditionOf}
+use Rattle.qasm_text.specs.Text.{conditionText}
+use Rattle.qasm_length.specs.AnyBytes.{conditionFrom}
 use Rattle.qasm_length.proofs.Parts.{some-condition}
 
 returns : tie.Need-returns
-unfolding conditionOf conditionLength
+unfolding conditionFrom conditionText
 returns c =
     rw (c .if1 .taken) (record { same = omega arith; bound = omega arith })
 

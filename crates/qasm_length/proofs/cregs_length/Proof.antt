@@ -4,19 +4,20 @@ use Rattle.qasm_length.proofs.cregs_length.Tie as tie
 use Prim.Native.Nat.{_*_, _-_, _≤_}
 use mathlib.Core.Path.{_≡_, refl, ap}
 use native.Mathlib.Omega.{arith}
-use Rattle.qasm_text.specs.Text.{cregsLength}
+use lib.ListN.{length}
+use Rattle.qasm_text.specs.Text.{cregLines}
 use Rattle.qasm_length.proofs.Parts.{bits-more}
 
 abbrev Inv-loop : tie.InvT-loop
 Inv-loop bits k₀ total₀ k total =
-    (k ≤ bits) × (total ≡ cregsLength k) × (total ≤ 16 * k)
+    (k ≤ bits) × (total ≡ length (cregLines k)) × (total ≤ 16 * k)
 
 abbrev μ-loop : tie.MeasureT-loop
 μ-loop bits k₀ total₀ k total =
     bits - k
 
 loop-holds : tie.Need-loop-holds Inv-loop μ-loop
-unfolding cregsLength
+unfolding cregLines
 loop-holds c =
     (omega arith, refl, omega arith)
 
@@ -47,7 +48,7 @@ loop-again c =
 returns : tie.Need-returns Inv-loop μ-loop
 returns c =
     let e : c .before .loop .k ≡ c .before .before .args .bits = omega arith in
-    record { same = omega (arith, ap cregsLength e); bound = omega arith }
+    record { same = omega (arith, ap (λ n. length (cregLines n)) e); bound = omega arith }
 
 pub cregs-length-spec : {M : Type 1} → statement M
 cregs-length-spec =

@@ -4,7 +4,7 @@ use Rattle.qasm_length.proofs.line_length.Statement.{statement}
 use Rattle.qasm_length.proofs.line_length.Tie as tie
 use native.Mathlib.Omega.{arith}
 use denote.Ref.{now}
-use Rattle.qasm_length.proofs.Records.{line-read}
+use Rattle.qasm_length.proofs.Parts.{line-read}
 
 add-condition-length : tie.Need-add-condition-length
 add-condition-length c = search needs

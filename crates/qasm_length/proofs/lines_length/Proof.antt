@@ -5,21 +5,22 @@ use Prim.Native.Nat.{_+_, _-_, _≤_}
 use mathlib.Core.Path.{_≡_, refl, ap}
 use native.Mathlib.Omega.{arith}
 use denote.Ref.{now}
-use Rattle.qasm_text.specs.Text.{linesLength}
-use Rattle.qasm_text.specs.RecordsIn.{recordsIn}
-use Rattle.qasm_text.proofs.RecordsBack.{few-at}
-use Rattle.qasm_length.proofs.Records.{lines-more, lines-rise}
+use lib.ListN.{length}
+use Rattle.qasm_text.specs.Text.{lines}
+use Rattle.qasm_length.specs.AnyBytes.{recordsFrom}
+use Rattle.qasm_length.proofs.Records.{few-at}
+use Rattle.qasm_length.proofs.Parts.{lines-more, lines-rise}
 
 abbrev Inv-loop : tie.InvT-loop
 Inv-loop output records room i₀ total₀ i total =
-    (i ≤ records) × (total ≡ linesLength (recordsIn i output)) × (total ≤ room)
+    (i ≤ records) × (total ≡ length (lines (recordsFrom i output))) × (total ≤ room)
 
 abbrev μ-loop : tie.MeasureT-loop
 μ-loop output records room i₀ total₀ i total =
     records - i
 
 loop-holds : tie.Need-loop-holds Inv-loop μ-loop
-unfolding recordsIn linesLength
+unfolding recordsFrom lines
 loop-holds c =
     (omega arith, refl, omega arith)
 
@@ -60,7 +61,7 @@ loop-again c =
 returns-2 : tie.Need-returns-2 Inv-loop μ-loop
 returns-2 c =
     let e : c .before .loop .i ≡ c .before .before .before .args .records = omega arith in
-    let s = ap (λ n. linesLength (recordsIn n (now (c .before .before .before .args .output)))) e in
+    let s = ap (λ n. length (lines (recordsFrom n (now (c .before .before .before .args .output))))) e in
     (omega arith, omega arith)
 
 pub lines-length-spec : {M : Type 1} → statement M

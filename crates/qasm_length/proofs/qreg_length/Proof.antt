@@ -3,11 +3,11 @@ use borrow.Author.Needs.{needs}
 use Rattle.qasm_length.proofs.qreg_length.Statement.{statement}
 use Rattle.qasm_length.proofs.qreg_length.Tie as tie
 use native.Mathlib.Omega.{arith}
-use Rattle.qasm_text.specs.Text.{qregLength}
+use Rattle.qasm_text.specs.Text.{qregLine}
 use Rattle.qasm_length.proofs.Parts.{some-wires}
 
 returns : tie.Need-returns
-unfolding qregLength
+unfolding qregLine
 returns c =
     rw (c .if1 .taken) (record { same = omega arith; bound = omega arith })
 

@@ -3,7 +3,9 @@ use borrow.Author.Needs.{needs}
 use Rattle.qasm_length.proofs.text_length.Statement.{statement}
 use Rattle.qasm_length.proofs.text_length.Tie as tie
 use native.Mathlib.Omega.{arith}
-use Rattle.qasm_text.specs.Text.{textLength}
+use denote.Ref.{now}
+use Rattle.qasm_text.proofs.TextLength.{text-length}
+use Rattle.qasm_length.specs.AnyBytes.{recordsFrom}
 
 qreg-length-requires : tie.Need-qreg-length-requires
 qreg-length-requires c κs = search needs
@@ -18,8 +20,9 @@ add-header-2 : tie.Need-add-header-2
 add-header-2 c = search needs
 
 returns : tie.Need-returns
-unfolding textLength
 returns c =
+    let a = c .before .before .before .before .args in
+    let l = text-length (a .wires) (a .bits) (recordsFrom (a .records) (now (a .output))) in
     omega arith
 
 lines-length-requires : tie.Need-lines-length-requires
@@ -32,8 +35,9 @@ enum-told : tie.Need-enum-told
 enum-told c = search needs
 
 returns-2 : tie.Need-returns-2
-unfolding textLength
 returns-2 c =
+    let a = c .before .before .before .before .before .before .before .args in
+    let l = text-length (a .wires) (a .bits) (recordsFrom (a .records) (now (a .output))) in
     let h = rw (c .enum-told .given .1) at (c .before .before .lines-length .ensures) in
     omega arith
 
@@ -43,8 +47,9 @@ add-whole c =
     omega arith
 
 returns-3 : tie.Need-returns-3
-unfolding textLength
 returns-3 c =
+    let a = c .before .before .before .before .before .before .before .before .args in
+    let l = text-length (a .wires) (a .bits) (recordsFrom (a .records) (now (a .output))) in
     let h = rw (c .before .n .given .1) at (c .before .before .before .lines-length .ensures) in
     (omega arith, omega arith)
 

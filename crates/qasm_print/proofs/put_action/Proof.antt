@@ -6,13 +6,14 @@ use Rattle.language.specs.Read.{choose}
 use Rattle.text_bytes.specs.Decimal.{ascii}
 use Rattle.qasm_text.specs.Text.{angleText, actionText}
 use Rattle.qasm_text.specs.RecordsIn.{actionOf}
-use Rattle.qasm_text.proofs.RecordsBack.{action-other}
+use Rattle.qasm_length.specs.AnyBytes.{actionFrom}
+use Rattle.qasm_length.proofs.Records.{action-other}
 
 slice-aggregate-put-on-wire : tie.Need-slice-aggregate-put-on-wire
 slice-aggregate-put-on-wire c = search needs
 
 put-on-wire-requires : tie.Need-put-on-wire-requires
-unfolding actionOf choose actionText ascii
+unfolding actionFrom actionOf choose actionText ascii
 put-on-wire-requires c κs =
     rw (c .before .before .match .keys1) at (c .before .before .before .before .pre .1)
 
@@ -20,7 +21,7 @@ slice-aggregate-put-on-wire-2 : tie.Need-slice-aggregate-put-on-wire-2
 slice-aggregate-put-on-wire-2 c = search needs
 
 put-on-wire-requires-2 : tie.Need-put-on-wire-requires-2
-unfolding actionOf choose actionText ascii
+unfolding actionFrom actionOf choose actionText ascii
 put-on-wire-requires-2 c κs =
     rw (c .before .before .match .keys2) at (c .before .before .before .before .pre .1)
 
@@ -28,17 +29,17 @@ slice-aggregate-put-on-wire-3 : tie.Need-slice-aggregate-put-on-wire-3
 slice-aggregate-put-on-wire-3 c = search needs
 
 put-on-wire-requires-3 : tie.Need-put-on-wire-requires-3
-unfolding actionOf choose actionText ascii
+unfolding actionFrom actionOf choose actionText ascii
 put-on-wire-requires-3 c κs =
     rw (c .before .before .match .keys3) at (c .before .before .before .before .pre .1)
 
 put-cx-requires : tie.Need-put-cx-requires
-unfolding actionOf choose
+unfolding actionFrom actionOf choose
 put-cx-requires c κs =
     rw (c .before .match .keys4) at (c .before .before .before .pre .1)
 
 put-measure-requires : tie.Need-put-measure-requires
-unfolding actionOf choose
+unfolding actionFrom actionOf choose
 put-measure-requires c κs =
     rw (c .before .match .keys5) at (c .before .before .before .pre .1)
 
@@ -46,7 +47,7 @@ slice-aggregate-put-phase : tie.Need-slice-aggregate-put-phase
 slice-aggregate-put-phase c = search needs
 
 put-phase-requires : tie.Need-put-phase-requires
-unfolding actionOf choose actionText angleText ascii
+unfolding actionFrom actionOf choose actionText angleText ascii
 put-phase-requires c κs =
     (c .before .before .before .before .pre .0, rw (c .before .before .match .keys6) at (c .before .before .before .before .pre .1))
 
@@ -54,7 +55,7 @@ slice-aggregate-put-phase-2 : tie.Need-slice-aggregate-put-phase-2
 slice-aggregate-put-phase-2 c = search needs
 
 put-phase-requires-2 : tie.Need-put-phase-requires-2
-unfolding actionOf choose actionText angleText ascii
+unfolding actionFrom actionOf choose actionText angleText ascii
 put-phase-requires-2 c κs =
     (c .before .before .before .before .pre .0, rw (c .before .before .match .keys7) at (c .before .before .before .before .pre .1))
 
@@ -62,7 +63,7 @@ slice-aggregate-put-cphase : tie.Need-slice-aggregate-put-cphase
 slice-aggregate-put-cphase c = search needs
 
 put-cphase-requires : tie.Need-put-cphase-requires
-unfolding actionOf choose actionText angleText ascii
+unfolding actionFrom actionOf choose actionText angleText ascii
 put-cphase-requires c κs =
     (c .before .before .before .before .pre .0, rw (c .before .before .match .keys8) at (c .before .before .before .before .pre .1))
 
@@ -70,7 +71,7 @@ slice-aggregate-put-cphase-2 : tie.Need-slice-aggregate-put-cphase-2
 slice-aggregate-put-cphase-2 c = search needs
 
 put-cphase-requires-2 : tie.Need-put-cphase-requires-2
-unfolding actionOf choose actionText angleText ascii
+unfolding actionFrom actionOf choose actionText angleText ascii
 put-cphase-requires-2 c κs =
     (c .before .before .before .before .pre .0, rw (c .before .before .match .keys9) at (c .before .before .before .before .pre .1))
 
@@ -87,7 +88,7 @@ same-length : tie.Need-same-length
 same-length c = search needs
 
 returns : tie.Need-returns
-unfolding actionOf choose actionText ascii
+unfolding actionFrom actionOf choose actionText ascii
 returns c =
     rw (c .before .before .before .before .before .match .keys1) (c .before .before .put-on-wire .ensures)
 
@@ -95,7 +96,7 @@ same-length-2 : tie.Need-same-length-2
 same-length-2 c = search needs
 
 returns-2 : tie.Need-returns-2
-unfolding actionOf choose actionText ascii
+unfolding actionFrom actionOf choose actionText ascii
 returns-2 c =
     rw (c .before .before .before .before .before .match .keys2) (c .before .before .put-on-wire2 .ensures)
 
@@ -103,7 +104,7 @@ same-length-3 : tie.Need-same-length-3
 same-length-3 c = search needs
 
 returns-3 : tie.Need-returns-3
-unfolding actionOf choose actionText ascii
+unfolding actionFrom actionOf choose actionText ascii
 returns-3 c =
     rw (c .before .before .before .before .before .match .keys3) (c .before .before .put-on-wire3 .ensures)
 
@@ -111,7 +112,7 @@ same-length-4 : tie.Need-same-length-4
 same-length-4 c = search needs
 
 returns-4 : tie.Need-returns-4
-unfolding actionOf choose
+unfolding actionFrom actionOf choose
 returns-4 c =
     rw (c .before .before .before .before .match .keys4) (c .before .before .put-cx .ensures)
 
@@ -119,7 +120,7 @@ same-length-5 : tie.Need-same-length-5
 same-length-5 c = search needs
 
 returns-5 : tie.Need-returns-5
-unfolding actionOf choose
+unfolding actionFrom actionOf choose
 returns-5 c =
     rw (c .before .before .before .before .match .keys5) (c .before .before .put-measure .ensures)
 
@@ -127,7 +128,7 @@ same-length-6 : tie.Need-same-length-6
 same-length-6 c = search needs
 
 returns-6 : tie.Need-returns-6
-unfolding actionOf choose actionText angleText ascii
+unfolding actionFrom actionOf choose actionText angleText ascii
 returns-6 c =
     rw (c .before .before .before .before .before .match .keys6) (c .before .before .put-phase .ensures)
 
@@ -135,7 +136,7 @@ same-length-7 : tie.Need-same-length-7
 same-length-7 c = search needs
 
 returns-7 : tie.Need-returns-7
-unfolding actionOf choose actionText angleText ascii
+unfolding actionFrom actionOf choose actionText angleText ascii
 returns-7 c =
     rw (c .before .before .before .before .before .match .keys7) (c .before .before .put-phase2 .ensures)
 
@@ -143,7 +144,7 @@ same-length-8 : tie.Need-same-length-8
 same-length-8 c = search needs
 
 returns-8 : tie.Need-returns-8
-unfolding actionOf choose actionText angleText ascii
+unfolding actionFrom actionOf choose actionText angleText ascii
 returns-8 c =
     rw (c .before .before .before .before .before .match .keys8) (c .before .before .put-cphase .ensures)
 
@@ -151,7 +152,7 @@ same-length-9 : tie.Need-same-length-9
 same-length-9 c = search needs
 
 returns-9 : tie.Need-returns-9
-unfolding actionOf choose actionText angleText ascii
+unfolding actionFrom actionOf choose actionText angleText ascii
 returns-9 c =
     rw (c .before .before .before .before .before .match .keys9) (c .before .before .put-cphase2 .ensures)
 

@@ -6,12 +6,12 @@ use Prim.Native.Nat.{_-_}
 use denote.Ref.{now}
 use Rattle.text_bytes.specs.Decimal.{ascii, decimal}
 use Rattle.qasm_text.specs.Text.{bitText, conditionText}
-use Rattle.qasm_text.specs.RecordsIn.{conditionOf}
+use Rattle.qasm_length.specs.AnyBytes.{conditionFrom}
 use Rattle.text_bytes.proofs.Pieces.{room-first, room-next, puts-none, puts-both}
-use Rattle.qasm_text.proofs.RecordsBack.{condition-some}
+use Rattle.qasm_length.proofs.Records.{condition-some}
 
 returns : tie.Need-returns
-unfolding conditionText conditionOf
+unfolding conditionText conditionFrom
 returns c =
     rw (c .if1 .taken) (puts-none (now (c .before .before .args .text)) (c .before .before .args .from))
 
