@@ -1,9 +1,12 @@
 -- The lengths of a text's parts, by the tests that code makes and as its loops add them.
-use mathlib.Core.Path.{_≡_, sym, ap, _∙_}
-use mathlib.Core.List.{List}
+use mathlib.Core.Path.{_≡_, refl, sym, ap, _∙_}
+use mathlib.Core.List.{List, _++_}
+use mathlib.Core.Bool.{Bool, true, false}
 use Prim.Native.Nat.{ℕ, zero, suc, _+_, _*_, _-_, _≤_}
 use native.Mathlib.Omega.{arith}
 use native.Mathlib.Numerals.{add-one}
+use borrow.Author.Tests.{ltb-true, ltb-false}
+use lib.Dec.{ltb}
 use lib.ListN.{length, length-append, getD}
 use Rattle.language.specs.Limits.{recordSize}
 use Rattle.language.specs.Machine.{Record}
@@ -42,16 +45,14 @@ line-read output at first second bit k f s b h = sym (line-length _) ∙ ap (λ 
 pub lines-more : (output : List ℕ) (i : ℕ) → length (lines (recordsFrom (i + 1) output)) ≡ length (lines (recordsFrom i output)) + length (line (recordFrom output (recordSize * i)))
 lines-more output i = rw (add-one i) (ap length (lines-next i output) ∙ length-append (lines (recordsFrom i output)) (line (recordFrom output (recordSize * i))))
 
--- more records never take less
-rises : (output : List ℕ) (i more : ℕ) → length (lines (recordsFrom i output)) ≤ length (lines (recordsFrom (i + more) output))
-rises output i zero =
-    let e : i + 0 ≡ i = omega arith in
-    rw e (omega arith)
-rises output i (suc more) =
-    let e : i + suc more ≡ i + more + 1 = omega arith in
-    rw e (omega (arith, rises output i more, lines-more output (i + more)))
+-- fewer lines take no more bytes
+pub fewer : (all one : ℕ → List ℕ) → ((k : ℕ) → all (suc k) ≡ all k ++ one k) → (k n : ℕ) → k ≤ n → length (all k) ≤ length (all n)
+fewer all one next k zero h = let e : k ≡ 0 = omega arith in rw e (omega arith)
+fewer all one next k (suc n) h = go (ltb n k) refl (fewer all one next k n)
+  where
+    go : (b : Bool) → ltb n k ≡ b → (k ≤ n → length (all k) ≤ length (all n)) → length (all k) ≤ length (all (suc n))
+    go true e f = let g : k ≡ suc n = omega (arith, ltb-true n k e) in rw g (omega arith)
+    go false e f = omega (arith, ap length (next n), length-append (all n) (one n), f (ltb-false n k e))
 
 pub lines-rise : (output : List ℕ) (i records : ℕ) → i ≤ records → length (lines (recordsFrom i output)) ≤ length (lines (recordsFrom records output))
-lines-rise output i records h =
-    let e : i + (records - i) ≡ records = omega arith in
-    rw e at (rises output i (records - i))
+lines-rise output = fewer (λ k. lines (recordsFrom k output)) (λ k. line (recordFrom output (recordSize * k))) (λ k. lines-next k output)

@@ -93,56 +93,47 @@ add-result-18 c = search needs
 returns : tie.Need-returns
 unfolding actionFrom actionOf choose actionLength
 returns c =
-    let a = c .before .before .args in
-    rw (action-length (actionFrom (a .op) (a .first) (a .second) (a .k)), c .match .keys1) (record { same = omega arith; bound = omega arith })
+    rw (action-length, c .match .keys1) (record { same = omega arith; bound = omega arith })
 
 returns-2 : tie.Need-returns-2
 unfolding actionFrom actionOf choose actionLength
 returns-2 c =
-    let a = c .before .before .args in
-    rw (action-length (actionFrom (a .op) (a .first) (a .second) (a .k)), c .match .keys2) (record { same = omega arith; bound = omega arith })
+    rw (action-length, c .match .keys2) (record { same = omega arith; bound = omega arith })
 
 returns-3 : tie.Need-returns-3
 unfolding actionFrom actionOf choose actionLength
 returns-3 c =
-    let a = c .before .before .args in
-    rw (action-length (actionFrom (a .op) (a .first) (a .second) (a .k)), c .match .keys3) (record { same = omega arith; bound = omega arith })
+    rw (action-length, c .match .keys3) (record { same = omega arith; bound = omega arith })
 
 returns-4 : tie.Need-returns-4
 unfolding actionFrom actionOf choose actionLength
 returns-4 c =
-    let a = c .before .before .before .args in
-    rw (action-length (actionFrom (a .op) (a .first) (a .second) (a .k)), c .before .match .keys4) (record { same = omega arith; bound = omega arith })
+    rw (action-length, c .before .match .keys4) (record { same = omega arith; bound = omega arith })
 
 returns-5 : tie.Need-returns-5
 unfolding actionFrom actionOf choose actionLength
 returns-5 c =
-    let a = c .before .before .before .args in
-    rw (action-length (actionFrom (a .op) (a .first) (a .second) (a .k)), c .before .match .keys5) (record { same = omega arith; bound = omega arith })
+    rw (action-length, c .before .match .keys5) (record { same = omega arith; bound = omega arith })
 
 returns-6 : tie.Need-returns-6
 unfolding actionFrom actionOf choose actionLength angleLength
 returns-6 c =
-    let a = c .before .before .before .args in
-    rw (action-length (actionFrom (a .op) (a .first) (a .second) (a .k)), c .before .match .keys6) (record { same = omega arith; bound = omega arith })
+    rw (action-length, c .before .match .keys6) (record { same = omega arith; bound = omega arith })
 
 returns-7 : tie.Need-returns-7
 unfolding actionFrom actionOf choose actionLength angleLength
 returns-7 c =
-    let a = c .before .before .before .args in
-    rw (action-length (actionFrom (a .op) (a .first) (a .second) (a .k)), c .before .match .keys7) (record { same = omega arith; bound = omega arith })
+    rw (action-length, c .before .match .keys7) (record { same = omega arith; bound = omega arith })
 
 returns-8 : tie.Need-returns-8
 unfolding actionFrom actionOf choose actionLength angleLength
 returns-8 c =
-    let a = c .before .before .before .before .args in
-    rw (action-length (actionFrom (a .op) (a .first) (a .second) (a .k)), c .before .before .match .keys8) (record { same = omega arith; bound = omega arith })
+    rw (action-length, c .before .before .match .keys8) (record { same = omega arith; bound = omega arith })
 
 returns-9 : tie.Need-returns-9
 unfolding actionFrom actionOf choose actionLength angleLength
 returns-9 c =
-    let a = c .before .before .before .before .args in
-    rw (action-length (actionFrom (a .op) (a .first) (a .second) (a .k)), c .before .before .match .keys9) (record { same = omega arith; bound = omega arith })
+    rw (action-length, c .before .before .match .keys9) (record { same = omega arith; bound = omega arith })
 
 returns-10 : tie.Need-returns-10
 returns-10 c =

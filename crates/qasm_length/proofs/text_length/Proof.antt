@@ -3,9 +3,7 @@ use borrow.Author.Needs.{needs}
 use Rattle.qasm_length.proofs.text_length.Statement.{statement}
 use Rattle.qasm_length.proofs.text_length.Tie as tie
 use native.Mathlib.Omega.{arith}
-use denote.Ref.{now}
 use Rattle.qasm_text.proofs.TextLength.{text-length}
-use Rattle.qasm_length.specs.AnyBytes.{recordsFrom}
 
 qreg-length-requires : tie.Need-qreg-length-requires
 qreg-length-requires c κs = search needs
@@ -21,9 +19,7 @@ add-header-2 c = search needs
 
 returns : tie.Need-returns
 returns c =
-    let a = c .before .before .before .before .args in
-    let l = text-length (a .wires) (a .bits) (recordsFrom (a .records) (now (a .output))) in
-    omega arith
+    rw text-length (omega arith)
 
 lines-length-requires : tie.Need-lines-length-requires
 lines-length-requires c κs = search needs
@@ -36,10 +32,8 @@ enum-told c = search needs
 
 returns-2 : tie.Need-returns-2
 returns-2 c =
-    let a = c .before .before .before .before .before .before .before .args in
-    let l = text-length (a .wires) (a .bits) (recordsFrom (a .records) (now (a .output))) in
     let h = rw (c .enum-told .given .1) at (c .before .before .lines-length .ensures) in
-    omega arith
+    rw text-length (omega arith)
 
 add-whole : tie.Need-add-whole
 add-whole c =
@@ -48,10 +42,8 @@ add-whole c =
 
 returns-3 : tie.Need-returns-3
 returns-3 c =
-    let a = c .before .before .before .before .before .before .before .before .args in
-    let l = text-length (a .wires) (a .bits) (recordsFrom (a .records) (now (a .output))) in
     let h = rw (c .before .n .given .1) at (c .before .before .before .lines-length .ensures) in
-    (omega arith, omega arith)
+    rw text-length (omega arith, omega arith)
 
 pub text-length-spec : {M : Type 1} → statement M
 text-length-spec =
