@@ -1,4 +1,4 @@
--- Computed examples of calls with a two-byte family number, and of the limit of families.
+-- Computed examples of calls with a two-byte family number, and of the limit of families. Calls in libraries of so many families are computed in further_examples.
 use mathlib.Core.Path.{_≡_, refl}
 use mathlib.Core.List.{List, [], _∷_, _++_}
 use mathlib.Core.Bool.{true}
@@ -8,7 +8,7 @@ use Rattle.language.specs.Limits.{mostFamilies}
 use Rattle.language.specs.Tree.{number, family, plain, qbit, ended, nil}
 use Rattle.language.specs.Check.{Checked, good, refused, Declared, checkTop}
 use Rattle.language.specs.Computed.{checking}
-use Rattle.language.specs.Calls.{Example, run, instance, allHold, computed, field, reverse, qreg, one, lent, gives, turnedDown, nested}
+use Rattle.language.specs.Calls.{Example, allHold, computed, field, reverse, qreg, turnedDown, nested}
 
 -- a gate: a family of one Qbit and no index variables
 abbrev pub gate : List ℕ → List ℕ
@@ -22,10 +22,6 @@ gates (suc n) = gate [] ++ gates n
 -- h of the parameter 0
 abbrev pub hOfIt : List ℕ
 hOfIt = field 32 (field 48 (0 ∷ []))
-
--- 256 families that do nothing, and the family 256, which does h; 2,063 bytes
-abbrev library : List ℕ
-library = gates 256 ++ gate hOfIt
 
 -- a call with a two-byte family number and these operands
 abbrev pub longCall : ℕ → List ℕ → List ℕ
@@ -51,31 +47,9 @@ longCalls =
     ∷ turnedDown (nested 16 reverse (field 43 [])) 3 48
     ∷ []
 
--- the same over 257 families
-longCallsMade : List Example
-longCallsMade =
-    -- the family 256 is entered, and not the family 0
-    gives (run (library ++ qreg 1 ++ longCall 256 q) 100 (lent 12)) 0 0 1 2 (one 1 0)
-    ∷ gives (run (library ++ qreg 1 ++ field 36 (0 ∷ q) ++ field 36 (255 ∷ q)) 100 (lent 8)) 0 0 0 2 (lent 8)
-    ∷ turnedDown (library ++ qreg 1 ++ longCall 255 q) 31 2068
-    ∷ turnedDown (library ++ qreg 1 ++ longCall 257 q) 8 2068
-    -- parts after the number are as for a one-byte number: 4 where one is due, and where one is left over
-    ∷ turnedDown (library ++ qreg 1 ++ longCall 256 []) 4 2068
-    ∷ turnedDown (library ++ qreg 1 ++ longCall 256 (q ++ q)) 4 2068
-    -- a family does not see itself
-    ∷ turnedDown (gates 256 ++ gate (longCall 256 (field 48 (0 ∷ [])))) 8 2056
-    ∷ gives (instance library 256 [] 100 (lent 12)) 0 0 1 1 (one 1 0)
-    ∷ gives (instance library 255 [] 100 (lent 8)) 0 0 0 0 (lent 8)
-    ∷ gives (instance library 257 [] 100 (lent 8)) 20 0 0 0 (lent 8)
-    ∷ []
-
 longCalls-hold : allHold longCalls ≡ true
 unfolding computed longCalls
 longCalls-hold = refl
-
-longCallsMade-hold : allHold longCallsMade ≡ true
-unfolding computed longCallsMade
-longCallsMade-hold = refl
 
 -- after so many families
 abbrev after : ℕ → Declared

@@ -15,16 +15,16 @@ use Rattle.language.specs.Machine.{Meaning, aWire, wires, theFamily, Out
 use Rattle.language.specs.Machine as M
 use Rattle.language.specs.Computed.{forming, checking, machining}
 use Rattle.language.specs.Calls.{Example, run, instance, allHold, computed, field, lit, var, _plus_, _minus_, _times_, at, bit, h, phase, reverse, for, qreg, creg, family, family₂, n, i, L, falling, call, size, one, row, lent, gives, accepted, turnedDown, nested}
-use Rattle.language.specs.LongCalls.{gate, gates, hOfIt, longCall}
+use Rattle.language.specs.LongCalls.{gate, hOfIt}
 
 -- ---- how they are written
 
 -- an operand as a whole
-abbrev whole : ℕ → List ℕ
+abbrev pub whole : ℕ → List ℕ
 whole k = field 48 (k ∷ [])
 
 -- a family as an operand
-abbrev passed : ℕ → List ℕ
+abbrev pub passed : ℕ → List ℕ
 passed k = field 51 (k % 256 ∷ k / 256 ∷ [])
 
 abbrev callParameter : ℕ → List ℕ → List ℕ
@@ -47,7 +47,7 @@ abbrev applies : List ℕ
 applies = taker (taking n) (callParameter 0 (n ++ whole 1))
 
 -- for i=0..n-1 f(x[i]); 52 bytes
-abbrev each : List ℕ
+abbrev pub each : List ℕ
 each = taker ofQbit (for (lit 0) (n minus lit 1) (callParameter 0 (bit i)))
 
 -- the same with each of its calls reversed
@@ -116,19 +116,6 @@ several =
     ∷ gives (run (L ++ family n falling ++ both ++ qreg 2 ++ givingTwo 2 (passed 0 ++ passed 0)) 100 (lent 48)) 0 0 4 13 (one 1 0 ++ one 1 1 ++ one 1 0 ++ one 1 1)
     -- a family is passed to one that itself passes another
     ∷ gives (run (L ++ applies ++ family n falling ++ further ++ qreg 2 ++ givingTwo 3 (passed 2)) 100 (lent 48)) 0 0 4 14 (one 1 1 ++ one 1 0 ++ one 1 0 ++ one 1 1)
-    ∷ []
-
--- 256 families that do nothing, the family 256, which does h, and `each`, the family 257; 2,115 bytes
-abbrev library : List ℕ
-library = gates 256 ++ gate hOfIt ++ each
-
--- numbers of two bytes, of the family called and of the one passed; the operand is at 2,130
-long : List Example
-long =
-    gives (run (library ++ qreg 2 ++ longCall 257 (lit 2 ++ passed 256 ++ whole 0)) 100 (lent 24)) 0 0 2 8 (one 1 0 ++ one 1 1)
-    ∷ gives (run (library ++ qreg 2 ++ longCall 257 (lit 2 ++ passed 0 ++ whole 0)) 100 (lent 24)) 0 0 0 6 (lent 24)
-    ∷ turnedDown (library ++ qreg 2 ++ longCall 257 (lit 2 ++ passed 257 ++ whole 0)) 33 2130
-    ∷ turnedDown (library ++ qreg 2 ++ longCall 257 (lit 2 ++ passed 258 ++ whole 0)) 8 2130
     ∷ []
 
 -- x:Qbit, y:Qbit; cx(x, y), at 11
@@ -353,10 +340,6 @@ runs-hold = refl
 several-hold : allHold several ≡ true
 unfolding computed several
 several-hold = refl
-
-long-hold : allHold long ≡ true
-unfolding computed long
-long-hold = refl
 
 ends-hold : allHold ends ≡ true
 unfolding computed ends

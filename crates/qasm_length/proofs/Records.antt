@@ -7,8 +7,8 @@ use Prim.Native.Nat.{ℕ, zero, suc, _+_, _*_, _-_, _≤_, _<_}
 use native.Mathlib.Omega.{arith}
 use native.Mathlib.Nat.{add-assoc}
 use borrow.Author.Tests.{ne-eqb}
-use lib.Dec.{eqb}
-use lib.ListN.{drop, getD}
+use lib.Dec.{leb, eqb}
+use lib.ListN.{length, drop, getD}
 use lib.Seq.{getD-drop}
 use Rattle.language.specs.Limits.{recordSize, mostHalvings}
 use Rattle.language.specs.Read.{choose}
@@ -31,6 +31,10 @@ says-both f none p x y s t = tt
 says-both f (some a) none x y s t = tt
 says-both f (some a) (some b) x y s t = ap₂ f s t
 
+says-where : {A : Type 0} (b : Bool) (o : Option A) (x : A) → Says o x → Says (cond b o none) x
+says-where true o x s = s
+says-where false o x s = tt
+
 action-says : (o : Option Action) (other : Action) → Says o (Option·getD o other)
 action-says none other = tt
 action-says (some a) other = refl
@@ -50,7 +54,8 @@ record-says output at =
 records-say : (n : ℕ) (output : List ℕ) → Says (recordsIn n output) (recordsFrom n output)
 unfolding recordsIn recordsFrom
 records-say zero output = refl
-records-say (suc n) output = says-both (λ (r : Record) (rs : List Record). r ∷ rs) _ _ _ _ (record-says output 0) (records-say n (drop recordSize output))
+records-say (suc n) output =
+    says-where (leb recordSize (length output)) _ _ (says-both (λ (r : Record) (rs : List Record). r ∷ rs) _ _ _ _ (record-says output 0) (records-say n (drop recordSize output)))
 
 pub records-there : (n : ℕ) (output : List ℕ) (rs : List Record) → recordsIn n output ≡ some rs → recordsFrom n output ≡ rs
 records-there n output rs e = rw e at (records-say n output)

@@ -1,10 +1,13 @@
 -- The records in an output are those written there.
 use mathlib.Core.Path.{_≡_, refl}
 use mathlib.Core.List.{List, [], _∷_, _++_, append-assoc}
+use mathlib.Core.Bool.{true}
 use mathlib.Core.Option.{some}
 use Prim.Native.Nat.{ℕ, zero, suc, _*_, _/_, _%_}
 use native.Mathlib.Omega.{arith}
-use lib.ListN.{length, drop}
+use lib.Dec.{leb}
+use lib.ListN.{length, drop, length-append}
+use borrow.Author.Tests.{le-leb}
 use lib.Seq.{drop-at}
 use Rattle.language.specs.Limits.{recordSize}
 use Rattle.language.specs.Read.{twoBytes, choose}
@@ -43,11 +46,14 @@ unfolding recordAt recordBytes bytesOf mapped followed
 record-back b r rest n =
     rw (two-bytes (firstNumber (r .action)), two-bytes (secondNumber (r .action)), two-bytes (conditionBit (r .condition)), two-bytes (halvingsOf (r .action)), action-back (r .action), condition-back b (r .condition) n)
 
+long-enough : (r : Record) (rest : List ℕ) → leb recordSize (length (recordBytes r ++ rest)) ≡ true
+long-enough r rest = le-leb recordSize (length (recordBytes r ++ rest)) (omega (arith, length-append (recordBytes r) rest, record-size r))
+
 records-back : (q b : ℕ) (rs : List Record) (rest : List ℕ) → AllName q b rs → recordsIn (length rs) (outputBytes rs ++ rest) ≡ some rs
 unfolding recordsIn outputBytes mapped followed
 records-back q b [] rest n = refl
 records-back q b (r ∷ rs) rest n =
-    rw (append-assoc (recordBytes r) (outputBytes rs) rest, drop-at (recordBytes r) (outputBytes rs ++ rest) recordSize (record-size r), record-back b r (outputBytes rs ++ rest) (n .1), records-back q b rs rest (n .2))
+    rw (append-assoc (recordBytes r) (outputBytes rs) rest, drop-at (recordBytes r) (outputBytes rs ++ rest) recordSize (record-size r), long-enough r (outputBytes rs ++ rest), record-back b r (outputBytes rs ++ rest) (n .1), records-back q b rs rest (n .2))
 
 -- a list that names only what is laid out is the records in its output
 pub records-written : (q b : ℕ) (lent : List ℕ) (rs : List Record) → AllName q b rs → recordsIn (length rs) (writtenInto lent rs) ≡ some rs

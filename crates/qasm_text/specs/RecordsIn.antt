@@ -1,8 +1,10 @@
--- Records read back from an output's bytes: none where the bytes of one of them say nothing.
+-- Records read back from an output's bytes: none where the output ends before the last of them, or where the bytes of one say nothing.
 use mathlib.Core.List.{List, [], _∷_}
+use mathlib.Core.Bool.{cond}
 use mathlib.Core.Option.{Option, none, some}
 use Prim.Native.Nat.{ℕ, zero, suc, _+_}
-use lib.ListN.{drop, getD}
+use lib.Dec.{leb}
+use lib.ListN.{length, drop, getD}
 use Rattle.language.specs.Limits.{recordSize}
 use Rattle.language.specs.Read.{twoBytes, choose}
 use Rattle.language.specs.Machine.{forward, backward, Wire, Bit, Condition, always, whenBit, Action, doH, doT, doTdg, doReset, doCx, doMeasure, doPhase, doCphase, Record}
@@ -28,7 +30,7 @@ conditionOf byte bit =
 abbrev pub numberAt : List ℕ → (at : ℕ) → ℕ
 numberAt bytes at = twoBytes (getD bytes at 0) (getD bytes (at + 1) 0)
 
--- the record whose bytes stand from a position on
+-- the record whose twelve bytes stand from a position on
 unfoldable pub recordAt : List ℕ → (at : ℕ) → Option Record
 recordAt output at =
     followed (actionOf (getD output at 0) (numberAt output (at + 2)) (numberAt output (at + 4)) (numberAt output (at + 8)))
@@ -37,4 +39,5 @@ recordAt output at =
 -- the first so many records
 unfoldable pub recordsIn : (count : ℕ) → List ℕ → Option (List Record)
 recordsIn zero output = some []
-recordsIn (suc n) output = followed (recordAt output 0) (λ r. mapped (λ rs. r ∷ rs) (recordsIn n (drop recordSize output)))
+recordsIn (suc n) output =
+    cond (leb recordSize (length output)) (followed (recordAt output 0) (λ r. mapped (λ rs. r ∷ rs) (recordsIn n (drop recordSize output)))) none

@@ -5,7 +5,7 @@ use mathlib.Core.Bool.{Bool, true, false, _&&_}
 use mathlib.Core.Option.{none, some}
 use Prim.Native.Nat.{ℕ}
 use lib.Dec.{eqb}
-use lib.ListN.{length}
+use lib.ListN.{length, take}
 use Rattle.text_bytes.specs.Decimal.{ascii}
 use Rattle.qasm_text.specs.TextResult.{TextAnswer, TextConclusion, textFinished, textStuck, runTextOutcome, instanceTextOutcome}
 use Rattle.language.specs.Calls.{computed, sameBytes, field, lit, at, bit, h, t, cx, phase, cphase, reverse, qreg, creg, L, size, lent, row, one, two}
@@ -130,7 +130,7 @@ read-back : R.recordsIn 2 measuringRecords ≡ some (record { action = doMeasure
 unfolding reading measuringRecords
 read-back = refl
 
--- the bytes of a record whose op or condition there is not say nothing, whatever stands before them
-no-record : (R.recordsIn 1 (one 0 0) ≡ none) × (R.recordsIn 1 (one 11 0) ≡ none) × (R.recordsIn 1 (1 ∷ 3 ∷ lent 10) ≡ none) × (R.recordsIn 2 (one 6 0 ++ one 0 0) ≡ none)
+-- the bytes of a record whose op or condition there is not say nothing, whatever stands before them, and neither do eleven bytes
+no-record : (R.recordsIn 1 (one 0 0) ≡ none) × (R.recordsIn 1 (one 11 0) ≡ none) × (R.recordsIn 1 (1 ∷ 3 ∷ lent 10) ≡ none) × (R.recordsIn 2 (one 6 0 ++ one 0 0) ≡ none) × (R.recordsIn 1 (take 11 (one 6 0)) ≡ none)
 unfolding reading
-no-record = (refl, refl, refl, refl)
+no-record = (refl, refl, refl, refl, refl)
