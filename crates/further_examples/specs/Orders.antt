@@ -7,7 +7,7 @@ use lib.ListN.{replicate}
 use Rattle.language.specs.Tree.{missing, family, nil}
 use Rattle.language.specs.Check.{refused, Declared, checkTop}
 use Rattle.language.specs.Computed.{checking}
-use Rattle.language.specs.Calls.{Example, run, allHold, computed, field, lit, var, _plus_, _minus_, _times_, at, h, cx, phase, cphase, reverse, for, qreg, one, lent, gives, accepted, turnedDown, family₂, call, creg, bit, nested}
+use Rattle.language.specs.Calls.{Example, run, allHold, computed, field, lit, var, _plus_, _minus_, _times_, at, h, phase, cphase, reverse, for, qreg, one, lent, gives, accepted, turnedDown, family₂, call, creg, bit, nested}
 
 -- 2,000,000,000, the largest number of a form
 abbrev furthestIndex : List ℕ
@@ -276,7 +276,9 @@ kinds =
     ∷ accepted (qreg 3 ++ for (lit 1) (lit 1) (h (var 0 times lit 2)))
     ∷ turnedDown (qreg 2 ++ for (lit 1) (lit 1) (h (var 0 times lit 2))) 12 21
     ∷ turnedDown (qreg 2 ++ for (lit 1) (lit 1) (h (lit 2 times var 0))) 12 21
-    -- bits do not count as qubits
+    -- all qubits count, and all bits, and bits do not count as qubits
+    ∷ turnedDown (qreg 1 ++ qreg 65_534 ++ qreg 1) 7 10
+    ∷ turnedDown (creg 1 ++ creg 65_534 ++ creg 1) 7 10
     ∷ accepted (creg 65_535 ++ qreg 65_535)
     ∷ []
 
