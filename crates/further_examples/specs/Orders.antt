@@ -8,6 +8,8 @@ use Rattle.language.specs.Tree.{missing, family, nil}
 use Rattle.language.specs.Check.{refused, Declared, checkTop}
 use Rattle.language.specs.Computed.{checking}
 use Rattle.language.specs.Calls.{Example, run, allHold, computed, field, lit, var, _plus_, _minus_, _times_, at, h, phase, cphase, reverse, for, qreg, one, lent, gives, accepted, turnedDown, family₂, call, creg, bit, nested}
+use Rattle.language.specs.LongCalls.{gate}
+use Rattle.language.specs.Passing.{whole, passed}
 
 -- 2,000,000,000, the largest number of a form
 abbrev furthestIndex : List ℕ
@@ -25,17 +27,7 @@ calling argument = field 36 (0 ∷ argument)
 abbrev sliced : List ℕ → List ℕ → List ℕ
 sliced first last = field 50 (0 ∷ first ++ last)
 
--- an operand as a whole, and a family as an operand
-abbrev whole : ℕ → List ℕ
-whole k = field 48 (k ∷ [])
-
-abbrev passed : ℕ → List ℕ
-passed k = field 51 (k ∷ 0 ∷ [])
-
--- a family of one Qbit, 8 bytes; one of a register of any size, 13 bytes; one of a family of a Qbit, 13 bytes
-abbrev ofQbit : List ℕ → List ℕ
-ofQbit body = taking (field 16 [] ++ body)
-
+-- a family of a register of any size, 13 bytes, and one of a family of a Qbit, 13 bytes
 abbrev ofRegister : List ℕ
 ofRegister = taking (field 17 (lit 0))
 
@@ -107,7 +99,7 @@ due =
     ∷ turnedDown (qreg 1 ++ (32 ∷ 0 ∷ [])) 2 5
     ∷ turnedDown (reverse (32 ∷ [])) 2 3
     ∷ turnedDown (taking (17 ∷ [])) 2 5
-    ∷ turnedDown (ofQbit [] ++ qreg 1 ++ calling (49 ∷ [])) 2 17
+    ∷ turnedDown (gate [] ++ qreg 1 ++ calling (49 ∷ [])) 2 17
     ∷ turnedDown (sized ++ qreg 1 ++ calling (64 ∷ [])) 2 21
     -- a literal has two bytes, a variable one, an operation two indexes
     ∷ turnedDown (qreg 1 ++ h (field 64 [])) 4 12
@@ -137,8 +129,8 @@ due =
     ∷ turnedDown (field 1 []) 4 0
     ∷ turnedDown (field 1 (0 ∷ [])) 4 0
     -- what is left over in a call is 4 at the call, whatever it is
-    ∷ turnedDown (ofQbit [] ++ qreg 1 ++ calling (at (lit 0) ++ field 7 [])) 4 13
-    ∷ turnedDown (ofQbit [] ++ qreg 1 ++ calling (at (lit 0) ++ (49 ∷ []))) 4 13
+    ∷ turnedDown (gate [] ++ qreg 1 ++ calling (at (lit 0) ++ field 7 [])) 4 13
+    ∷ turnedDown (gate [] ++ qreg 1 ++ calling (at (lit 0) ++ (49 ∷ []))) 4 13
     ∷ []
 
 -- which tags are allowed where: the neighbours of each table's first and last
@@ -149,7 +141,7 @@ tags =
     ∷ turnedDown (qreg 1 ++ field 31 (at (lit 0))) 3 5
     ∷ turnedDown (qreg 1 ++ field 43 (0 ∷ [])) 3 5
     -- in a family, a reverse, a loop and a conditional: the fields of the top are not statements
-    ∷ turnedDown (ofQbit (qreg 1)) 3 8
+    ∷ turnedDown (gate (qreg 1)) 3 8
     ∷ turnedDown (reverse (qreg 1)) 3 3
     ∷ turnedDown (for (lit 0) (lit 0) (qreg 1)) 3 13
     ∷ turnedDown (creg 1 ++ field 6 (1 ∷ at (lit 0) ++ qreg 1)) 3 18
@@ -174,7 +166,7 @@ tags =
     -- a part of a call: its tag before its content, where the other kind is due
     ∷ turnedDown (sized ++ qreg 1 ++ calling (field 7 [])) 3 21
     ∷ turnedDown (sized ++ qreg 1 ++ calling (whole 9)) 3 21
-    ∷ turnedDown (ofQbit [] ++ qreg 1 ++ calling (var 9)) 3 17
+    ∷ turnedDown (gate [] ++ qreg 1 ++ calling (var 9)) 3 17
     -- tdg is neither h nor t
     ∷ gives (run (qreg 1 ++ field 34 (at (lit 0))) 100 (lent 12)) 0 0 1 1 (one 3 0)
     ∷ []
@@ -183,8 +175,8 @@ tags =
 levels : List Example
 levels =
     -- directly in a family
-    accepted (ofQbit (nested 16 reverse []))
-    ∷ turnedDown (ofQbit (nested 17 reverse [])) 5 56
+    accepted (gate (nested 16 reverse []))
+    ∷ turnedDown (gate (nested 17 reverse [])) 5 56
     -- the two indexes of a slice, a call's, a k, and the two of a for
     ∷ accepted (ofRegister ++ qreg 1 ++ calling (sliced sixteen sixteen))
     ∷ turnedDown (ofRegister ++ qreg 1 ++ calling (sliced seventeen (lit 0))) 5 74
@@ -246,7 +238,7 @@ faults =
     ∷ turnedDown (sized ++ qreg 1 ++ calling (var 9 ++ whole 9)) 8 21
     ∷ turnedDown (field 1 (0 ∷ 2 ∷ field 16 [] ++ field 16 []) ++ calling (whole 0 ++ passed 0)) 8 15
     ∷ turnedDown (sized ++ qreg 1 ++ calling (var 9)) 8 21
-    ∷ turnedDown (ofQbit [] ++ calling (whole 0 ++ whole 0)) 8 12
+    ∷ turnedDown (gate [] ++ calling (whole 0 ++ whole 0)) 8 12
     -- 6 of the 256th register before bytes left over in it
     ∷ turnedDown (nested 255 (λ rest. qreg 0 ++ rest) (field 3 (0 ∷ 0 ∷ 0 ∷ []))) 6 1275
     ∷ []
@@ -264,14 +256,14 @@ kinds =
     -- for a register of size 0: a creg, an element of one; a Qbit parameter, an element of it, and of a family parameter
     ∷ turnedDown (ofRegister ++ creg 1 ++ calling (whole 0)) 9 22
     ∷ turnedDown (ofRegister ++ creg 1 ++ calling (at (lit 0))) 9 22
-    ∷ turnedDown (ofRegister ++ ofQbit (calling (whole 0))) 9 25
-    ∷ turnedDown (ofRegister ++ ofQbit (calling (at (lit 0)))) 9 25
+    ∷ turnedDown (ofRegister ++ gate (calling (whole 0))) 9 25
+    ∷ turnedDown (ofRegister ++ gate (calling (at (lit 0)))) 9 25
     ∷ turnedDown (ofRegister ++ taking (field 18 (0 ∷ 1 ∷ field 16 []) ++ calling (at (lit 0)))) 9 30
     -- for a family: an element of a creg, and a family whose own parameter is a family where a register is asked for
     ∷ turnedDown (ofFamily ++ creg 1 ++ calling (at (lit 0))) 9 22
     ∷ turnedDown (ofFamily ++ taking (field 18 (0 ∷ 1 ∷ field 17 (lit 0))) ++ field 36 (1 ∷ passed 0)) 9 35
     -- a family names no register
-    ∷ turnedDown (qreg 1 ++ ofQbit (field 32 (bit (lit 0)))) 8 16
+    ∷ turnedDown (qreg 1 ++ gate (field 32 (bit (lit 0)))) 8 16
     -- either side of a product may be the number: 2i where i is 1
     ∷ accepted (qreg 3 ++ for (lit 1) (lit 1) (h (var 0 times lit 2)))
     ∷ turnedDown (qreg 2 ++ for (lit 1) (lit 1) (h (var 0 times lit 2))) 12 21
