@@ -1,4 +1,4 @@
--- The check by fewer rules: what Trials and Twice compare the check with.
+-- The check by fewer rules: what crate rule_laws compares the check with.
 use mathlib.Core.List.{List}
 use mathlib.Core.Bool.{true, false}
 use Prim.Native.Nat.{ℕ}

@@ -24,7 +24,7 @@ pub record Reports {A : Type 0} (least limit wireCount bitCount : ℕ) (lent : L
   pub last : State
   -- The number 0, with place 0, says that the machine came to the end of the body or of the program: the list is complete.
   pub complete : answer .result .number ≡ 0 → (answer .result .place ≡ 0) × ((value : A) × (o ≡ going value last))
-  -- Any other number, with its place, is the machine's own end, one from `least` to 27, or 32. Ends says what they come of.
+  -- Any other number, with its place, is the machine's own end, one from `least` to 27, or 32. Ends of crate run_laws says what they come of.
   pub cut : 1 ≤ answer .result .number
       → (o ≡ ended (answer .result .number) (answer .result .place) last) × EndsWith least (answer .result .number)
   -- The records and the steps are the machine's: so many are counted, and these records and no others are written, at the output's front.
