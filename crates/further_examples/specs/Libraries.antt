@@ -3,17 +3,13 @@ use mathlib.Core.Path.{_≡_, refl}
 use mathlib.Core.List.{List, [], _∷_, _++_}
 use mathlib.Core.Bool.{true}
 use Prim.Native.Nat.{ℕ}
-use Rattle.language.specs.Calls.{Example, run, instance, allHold, computed, field, lit, at, qreg, one, lent, gives, turnedDown}
-use Rattle.language.specs.LongCalls.{gate, gates, hOfIt, longCall}
+use Rattle.language.specs.Calls.{Example, run, instance, allHold, computed, field, lit, qreg, one, lent, gives, turnedDown}
+use Rattle.language.specs.LongCalls.{gate, gates, hOfIt, longCall, q}
 use Rattle.language.specs.Passing.{whole, passed, each}
 
 -- 256 families that do nothing, and the family 256, which does h; 2,063 bytes
 abbrev library : List ℕ
 library = gates 256 ++ gate hOfIt
-
--- q[0]
-abbrev q : List ℕ
-q = at (lit 0)
 
 -- calls with a two-byte family number
 calls : List Example

@@ -7,13 +7,10 @@ use lib.ListN.{replicate}
 use Rattle.language.specs.Tree.{missing, family, nil}
 use Rattle.language.specs.Check.{refused, Declared, checkTop}
 use Rattle.language.specs.Computed.{checking}
-use Rattle.language.specs.Calls.{Example, run, allHold, computed, field, lit, var, _plus_, _minus_, _times_, at, h, phase, cphase, reverse, for, qreg, one, lent, gives, accepted, turnedDown, family₂, call, creg, bit, nested}
+use Rattle.language.specs.Calls.{Example, run, allHold, computed, field, lit, var, _plus_, _minus_, _times_, at, h, phase, cphase, reverse, for, qreg, one, lent, gives, accepted, turnedDown, family₂, call, creg, bit, nested, from}
+use Rattle.language.specs.Numbers.{furthestIndex}
 use Rattle.language.specs.LongCalls.{gate}
 use Rattle.language.specs.Passing.{whole, passed}
-
--- 2,000,000,000, the largest number of a form
-abbrev furthestIndex : List ℕ
-furthestIndex = lit 40_000 times lit 50_000
 
 -- a family without index variables whose parameter is of this type
 abbrev taking : List ℕ → List ℕ
@@ -22,10 +19,6 @@ taking type = field 1 (0 ∷ 1 ∷ type)
 -- a call of the family 0 with this argument
 abbrev calling : List ℕ → List ℕ
 calling argument = field 36 (0 ∷ argument)
-
--- a slice of the operand 0
-abbrev sliced : List ℕ → List ℕ → List ℕ
-sliced first last = field 50 (0 ∷ first ++ last)
 
 -- a family of a register of any size, 13 bytes, and one of a family of a Qbit, 13 bytes
 abbrev ofRegister : List ℕ
@@ -81,10 +74,10 @@ orders =
     ∷ turnedDown (creg 1 ++ h (lit 60_000 times lit 60_000)) 11 12
     -- I ≥ 0 before size − 1 − I, which is out of range here; and so in a slice
     ∷ turnedDown (qreg 2 ++ h (lit 0 minus furthestIndex)) 12 8
-    ∷ turnedDown (taking (field 17 (lit 0)) ++ qreg 2 ++ calling (sliced (lit 0 minus lit 1) (lit 0 minus furthestIndex))) 12 22
+    ∷ turnedDown (taking (field 17 (lit 0)) ++ qreg 2 ++ calling (from (lit 0 minus lit 1) (lit 0 minus furthestIndex))) 12 22
     -- size − 1 first, then I: size − I would leave the range; and last − first before 1 is added
     ∷ accepted (qreg 1 ++ for furthestIndex furthestIndex (h (var 0 minus furthestIndex)))
-    ∷ accepted (taking (field 17 (lit 1)) ++ qreg 1 ++ for furthestIndex furthestIndex (calling (sliced (furthestIndex minus var 0) (furthestIndex minus var 0))))
+    ∷ accepted (taking (field 17 (lit 1)) ++ qreg 1 ++ for furthestIndex furthestIndex (calling (from (furthestIndex minus var 0) (furthestIndex minus var 0))))
     ∷ []
 
 orders-hold : allHold orders ≡ true
@@ -178,9 +171,9 @@ levels =
     accepted (gate (nested 16 reverse []))
     ∷ turnedDown (gate (nested 17 reverse [])) 5 56
     -- the two indexes of a slice, a call's, a k, and the two of a for
-    ∷ accepted (ofRegister ++ qreg 1 ++ calling (sliced sixteen sixteen))
-    ∷ turnedDown (ofRegister ++ qreg 1 ++ calling (sliced seventeen (lit 0))) 5 74
-    ∷ turnedDown (ofRegister ++ qreg 1 ++ calling (sliced (lit 0) seventeen)) 5 79
+    ∷ accepted (ofRegister ++ qreg 1 ++ calling (from sixteen sixteen))
+    ∷ turnedDown (ofRegister ++ qreg 1 ++ calling (from seventeen (lit 0))) 5 74
+    ∷ turnedDown (ofRegister ++ qreg 1 ++ calling (from (lit 0) seventeen)) 5 79
     ∷ accepted (sized ++ qreg 1 ++ call 0 sixteen)
     ∷ turnedDown (sized ++ qreg 1 ++ call 0 seventeen) 5 69
     ∷ accepted (qreg 2 ++ phase sixteen (at (lit 0)) ++ cphase sixteen (at (lit 0) ++ at (lit 1)))
@@ -208,13 +201,13 @@ faults =
     ∷ turnedDown (qreg 1 ++ field 32 (field 49 (0 ∷ lit 1 ++ lit 0))) 4 8
     ∷ turnedDown (creg 1 ++ h below) 9 8
     -- a slice: first, last, bytes left over, 9, then first ≥ 0, its room and its size
-    ∷ turnedDown (ofRegister ++ qreg 2 ++ calling (sliced (var 0) (field 7 []))) 8 26
+    ∷ turnedDown (ofRegister ++ qreg 2 ++ calling (from (var 0) (field 7 []))) 8 26
     ∷ turnedDown (ofRegister ++ qreg 2 ++ calling (field 50 (0 ∷ lit 0 ++ var 0 ++ lit 0))) 8 31
-    ∷ turnedDown (ofRegister ++ qreg 2 ++ calling (sliced below (var 0))) 8 39
-    ∷ turnedDown (ofRegister ++ creg 2 ++ calling (sliced (var 0) (lit 0))) 8 26
-    ∷ turnedDown (ofFamily ++ qreg 2 ++ calling (sliced below (lit 0))) 9 22
-    ∷ turnedDown (ofRegister ++ qreg 2 ++ calling (sliced (lit 0) furthestIndex)) 12 22
-    ∷ turnedDown (ofRegister ++ qreg 2 ++ calling (sliced (lit 0) (lit 0 minus furthestIndex))) 11 22
+    ∷ turnedDown (ofRegister ++ qreg 2 ++ calling (from below (var 0))) 8 39
+    ∷ turnedDown (ofRegister ++ creg 2 ++ calling (from (var 0) (lit 0))) 8 26
+    ∷ turnedDown (ofFamily ++ qreg 2 ++ calling (from below (lit 0))) 9 22
+    ∷ turnedDown (ofRegister ++ qreg 2 ++ calling (from (lit 0) furthestIndex)) 12 22
+    ∷ turnedDown (ofRegister ++ qreg 2 ++ calling (from (lit 0) (lit 0 minus furthestIndex))) 11 22
     -- a type: the index, bytes left over, 12; of two types the first; a family type's and a family's counts before their types
     ∷ turnedDown (taking (field 17 (var 0 ++ lit 0))) 8 8
     ∷ turnedDown (taking (field 17 (below ++ lit 0))) 4 5
@@ -251,8 +244,8 @@ kinds =
     ∷ turnedDown (creg 1 ++ field 6 (1 ∷ whole 0)) 9 9
     ∷ turnedDown (qreg 1 ++ field 6 (1 ∷ whole 0)) 9 9
     ∷ turnedDown (qreg 1 ++ field 6 (1 ∷ at (lit 0))) 9 9
-    ∷ turnedDown (creg 1 ++ field 6 (1 ∷ sliced below (lit 0))) 9 9
-    ∷ turnedDown (qreg 1 ++ field 6 (1 ∷ sliced below (lit 0))) 9 9
+    ∷ turnedDown (creg 1 ++ field 6 (1 ∷ from below (lit 0))) 9 9
+    ∷ turnedDown (qreg 1 ++ field 6 (1 ∷ from below (lit 0))) 9 9
     -- for a register of size 0: a creg, an element of one; a Qbit parameter, an element of it, and of a family parameter
     ∷ turnedDown (ofRegister ++ creg 1 ++ calling (whole 0)) 9 22
     ∷ turnedDown (ofRegister ++ creg 1 ++ calling (at (lit 0))) 9 22

@@ -68,6 +68,10 @@ a times b = field 68 (a ++ b)
 abbrev pub at : List ℕ → List ℕ
 at i = field 49 (0 ∷ i)
 
+-- a slice of the operand 0
+abbrev pub from : List ℕ → List ℕ → List ℕ
+from first last = field 50 (0 ∷ first ++ last)
+
 abbrev pub h : List ℕ → List ℕ
 h i = field 32 (at i)
 

@@ -28,7 +28,7 @@ abbrev pub longCall : ℕ → List ℕ → List ℕ
 longCall n operands = field 39 (n % 256 ∷ n / 256 ∷ operands)
 
 -- q[0]
-abbrev q : List ℕ
+abbrev pub q : List ℕ
 q = field 49 (0 ∷ 64 ∷ 2 ∷ 0 ∷ 0 ∷ 0 ∷ [])
 
 longCalls : List Example

@@ -6,9 +6,9 @@ use Prim.Native.Nat.{ℕ}
 use lib.ListN.{replicate}
 use Rattle.language.specs.Calls.{instance, run, Example, allHold, computed, field, lit, var, _plus_, _minus_, _times_, at, h, cx, phase, reverse, for, qreg, family, n, L, size, lent, row, one, gives, accepted, turnedDown, call, creg, nested}
 
--- 2,000,000,000
-abbrev far : List ℕ
-far = lit 40_000 times lit 50_000
+-- 2,000,000,000, the largest number of a form and of an index value
+abbrev pub furthestIndex : List ℕ
+furthestIndex = lit 40_000 times lit 50_000
 
 -- turned down for the input: by the check, before the machine
 forInput : List Example
@@ -74,10 +74,10 @@ forState =
     ∷ gives (instance (family (n times lit 60_000) []) 0 (size 65_535) 100 (lent 8)) 24 5 0 0 (lent 8)
     ∷ gives (instance (family (n plus lit 1) (h (lit 0) ++ for (lit 0) (n times lit 60_000) [])) 0 (size 65_534) 100 (lent 13)) 24 32 1 2 (one 1 0 ++ lent 1)
     -- 2,000,000,000 and its negative are in range, and one more is not
-    ∷ gives (instance (family n (for (far plus n) (far plus n) [])) 0 (size 0) 100 (lent 8)) 0 0 0 2 (lent 8)
-    ∷ gives (instance (family n (for (far plus n) (far plus n) [])) 0 (size 1) 100 (lent 8)) 24 12 0 1 (lent 8)
-    ∷ gives (instance (family n (for (lit 0 minus far minus n) (lit 0 minus far minus n) [])) 0 (size 0) 100 (lent 8)) 0 0 0 2 (lent 8)
-    ∷ gives (instance (family n (for (lit 0 minus far minus n) (lit 0 minus far minus n) [])) 0 (size 1) 100 (lent 8)) 24 12 0 1 (lent 8)
+    ∷ gives (instance (family n (for (furthestIndex plus n) (furthestIndex plus n) [])) 0 (size 0) 100 (lent 8)) 0 0 0 2 (lent 8)
+    ∷ gives (instance (family n (for (furthestIndex plus n) (furthestIndex plus n) [])) 0 (size 1) 100 (lent 8)) 24 12 0 1 (lent 8)
+    ∷ gives (instance (family n (for (lit 0 minus furthestIndex minus n) (lit 0 minus furthestIndex minus n) [])) 0 (size 0) 100 (lent 8)) 0 0 0 2 (lent 8)
+    ∷ gives (instance (family n (for (lit 0 minus furthestIndex minus n) (lit 0 minus furthestIndex minus n) [])) 0 (size 1) 100 (lent 8)) 24 12 0 1 (lent 8)
     -- 25: both operands are one wire in the round i = 1
     ∷ gives (run (qreg 2 ++ h (lit 1) ++ for (lit 1) (lit 1) (cx (lit 1) (var 0))) 100 (lent 13)) 25 30 1 4 (one 1 1 ++ lent 1)
     -- 26: the third step

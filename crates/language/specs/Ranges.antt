@@ -6,7 +6,7 @@ use Prim.Native.Nat.{ℕ}
 use Rattle.language.specs.Rules.{noRanges, checkProgramBy}
 use Rattle.language.specs.Result.{verdict}
 use Rattle.language.specs.Result as R
-use Rattle.language.specs.Calls.{instance, Example, allHold, computed, field, lit, var, _plus_, _minus_, _times_, at, h, t, phase, reverse, for, qreg, family, n, i, L, size, lent, one, gives, accepted, turnedDown, family₂, call}
+use Rattle.language.specs.Calls.{instance, Example, allHold, computed, field, lit, var, _plus_, _minus_, _times_, at, h, t, phase, reverse, for, qreg, family, n, i, L, size, lent, one, gives, accepted, turnedDown, family₂, call, from}
 
 -- for i=1..n-1 around a body
 abbrev guarded : List ℕ → List ℕ
@@ -19,10 +19,6 @@ F body = family n (guarded body)
 -- 1,800,000,000
 abbrev large : List ℕ
 large = lit 60_000 times lit 30_000
-
--- the operand 0 from first to last
-abbrev from : List ℕ → List ℕ → List ℕ
-from first last = field 50 (0 ∷ first ++ last)
 
 -- L on k wires with a slice of x
 abbrev sliced : ℕ → List ℕ → List ℕ → List ℕ

@@ -2,7 +2,7 @@
 use mathlib.Core.Path.{_≡_, refl}
 use mathlib.Core.List.{List, [], _∷_, _++_}
 use mathlib.Core.Bool.{Bool, true, not, _&&_}
-use Prim.Native.Nat.{ℕ, _/_, _%_}
+use Prim.Native.Nat.{ℕ}
 use lib.IntN.{pos, negsuc}
 use lib.ListN.{replicate}
 use Rattle.language.specs.Tree.{Index, literal, variable, operation, badIndex, product, ended, leftover, Operand}
@@ -15,23 +15,14 @@ use Rattle.language.specs.Result as R
 use Rattle.language.specs.Forms.{form}
 use Rattle.language.specs.Forms as S
 use Rattle.language.specs.Computed.{forming, checking}
-use Rattle.language.specs.Calls.{Example, run, instance, allHold, computed, field, lit, var, _plus_, _minus_, _times_, at, bit, h, cx, cphase, reverse, for, qreg, creg, family, n, i, L, size, one, two, lent, gives, accepted, turnedDown, nested}
+use Rattle.language.specs.Calls.{Example, run, instance, allHold, computed, field, lit, var, _plus_, _minus_, _times_, at, bit, h, cx, cphase, reverse, for, qreg, creg, family, n, i, L, size, one, two, lent, gives, accepted, turnedDown, nested, from}
+use Rattle.language.specs.Passing.{whole, passed}
 
 -- ---- how they are written
 
 -- cx on two operands
 abbrev pair : List ℕ → List ℕ → List ℕ
 pair c o = field 35 (c ++ o)
-
--- an operand as a whole, from first to last, and a family as an operand
-abbrev whole : ℕ → List ℕ
-whole k = field 48 (k ∷ [])
-
-abbrev from : List ℕ → List ℕ → List ℕ
-from first last = field 50 (0 ∷ first ++ last)
-
-abbrev passed : ℕ → List ℕ
-passed k = field 51 (k % 256 ∷ k / 256 ∷ [])
 
 -- q[0], q[1]
 abbrev q₀ : List ℕ

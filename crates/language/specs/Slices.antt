@@ -7,11 +7,7 @@ use lib.IntN.{ℤ, pos, negsuc}
 use Rattle.language.specs.Machine as M
 use Rattle.language.specs.Machine.{Meaning, aWire, aBit, wires, bits, theFamily, Outcome, stuck, sliceAt, begin}
 use Rattle.language.specs.Computed.{machining}
-use Rattle.language.specs.Calls.{Example, run, instance, allHold, computed, field, lit, var, _plus_, _minus_, for, qreg, creg, family, n, i, L, size, one, lent, gives, accepted, turnedDown}
-
--- the operand 0 from first to last
-abbrev from : List ℕ → List ℕ → List ℕ
-from first last = field 50 (0 ∷ first ++ last)
+use Rattle.language.specs.Calls.{Example, run, instance, allHold, computed, field, lit, var, _plus_, _minus_, for, qreg, creg, family, n, i, L, size, one, lent, gives, accepted, turnedDown, from}
 
 -- a call of the family 0, which is L: h on each of n wires; its slice is the last operand
 abbrev call : List ℕ → List ℕ → List ℕ

@@ -11,7 +11,7 @@ use borrow.Author.Tests.{eqb-true, eq-eqb, ltb-true}
 use lib.ListN.{length, getElem?}
 use Rattle.language.specs.Limits.{allVariables}
 use Rattle.language.specs.Tree.{Place, Ending, Index, literal, variable, operation, badIndex, Operand, whole, element, slice, passed, badOperand, Statement}
-use Rattle.language.specs.Form.{Form, inRange, constantForm, variableForm, sameNumber, sameNumbers, sameForm}
+use Rattle.language.specs.Form.{Form, inRange, constantForm, variableForm}
 use Rattle.language.specs.Check as C
 use Rattle.language.specs.Check.{Checked, good, refused, fine, Scope, formOf, noLeftover, require, equalForms, sameWire}
 use Rattle.language.specs.Machine as M

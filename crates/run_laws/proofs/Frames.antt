@@ -2,19 +2,19 @@
 use mathlib.Core.Path.{_≡_, refl, sym, ap, _∙_, subst, fun-ext}
 use mathlib.Core.List.{List, [], _∷_, _++_}
 use mathlib.Core.Bool.{cond}
-use mathlib.Core.Option.{none, some}
+use mathlib.Core.Option.{none}
 use Prim.Native.Nat.{ℕ, zero, suc, _+_}
 use native.Mathlib.Omega.{arith}
 use lib.IntN.{ℤ, _-ℤ_}
 use lib.ListN.{length, getElem?}
-use Rattle.language.specs.Tree.{Place, number, missing, ParameterType, Argument, Statement, Statements, gate, cx, phase, cphase, call, callParameter, reverse, for, badStatement, nil, cons}
+use Rattle.language.specs.Tree.{Place, number, missing, ParameterType, Argument, Statements, gate, cx, phase, cphase, call, callParameter, reverse, for, badStatement, nil, cons}
 use Rattle.language.specs.Tree.{Top, family, qreg, creg, measure, reset, if, statement, badTop}
 use Rattle.language.specs.Machine as M
 use Rattle.language.specs.Machine.{Meaning, Frame, State, Outcome, going, ended, stuck, Run, Family}
 use Rattle.language.specs.Inside.{AllLie, registersOf, registersIn, meaningsLaid, Gives}
 use Rattle.language.specs.Sound.{qubitsOf}
 use Rattle.language.proofs.Inside.{lie-all, lie-parts, call-law, Yields, gives-after, yields-bind, yields-give, yields-nothing, yields-any}
-use Rattle.run_laws.specs.Frames.{Leads, itself, turned, around, conditioned, called, instanceFrame, Body, SameFrom, SameFamily, SameFamilies, more}
+use Rattle.run_laws.specs.Frames.{Leads, itself, turned, around, conditioned, called, instanceFrame, SameFamily, SameFamilies, more}
 use Rattle.run_laws.specs.Frames.{ReverseLaw, ForLaw, IfLaw, StatementLaw, DeclaredLaw, TopLaw, LaidOutLaw, RunLaw, InstanceLaw}
 use Rattle.run_laws.specs.Frames as F
 

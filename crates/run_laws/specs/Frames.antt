@@ -5,7 +5,7 @@ use mathlib.Core.List.{List, [], _∷_}
 use Prim.Native.Nat.{ℕ}
 use lib.IntN.{ℤ}
 use Rattle.language.specs.Tree.{Place, Index, Operand, ParameterType, Argument, Statement, Top}
-use Rattle.language.specs.Machine.{Meaning, Direction, forward, Condition, always, Frame, State, Outcome, going, Run, Family, meaningsOf, inDirection, inRound, inCondition, inCall}
+use Rattle.language.specs.Machine.{Meaning, Direction, forward, Condition, always, Frame, State, going, Run, Family, meaningsOf, inDirection, inRound, inCondition, inCall}
 use Rattle.language.specs.Machine.{Globals, nothingYet, begin, topFrame, withFamilies, layout, runReverse, runFor, runIf, runStatement, declared, actTop, runTops, instanceRun}
 use Rattle.language.specs.Inside.{AllLie, registersIn, meaningsLaid}
 
