@@ -58,7 +58,8 @@ def table(texts):
         if is_lemma_file(path):
             declared.update(DECLARED.findall(text))
         if path.endswith(".antt"):
-            camel.update(it for it in TOKEN.findall(text) if CAMEL.match(it))
+            code = (line for line in text.split("\n") if not line.lstrip().startswith("--"))
+            camel.update(it for line in code for it in TOKEN.findall(line) if CAMEL.match(it))
     camel -= KEPT
     dashed = {it for it in declared if DASHED.match(it)}
     meet = collections.defaultdict(set)
@@ -95,7 +96,10 @@ def turned(path, text, new, kept, called):
     def word(found):
         it = found[0]
         is_behind_dot = found.start() > 0 and found.string[found.start() - 1] == "."
-        return it if it in kept or is_behind_dot and it in called else new.get(it, it)
+        if it in kept or is_behind_dot and it in called:
+            return it
+        bare = it.strip("◌")
+        return it.replace(bare, new.get(bare, bare)) if bare else it
 
     if path.endswith(".antt"):
         return TOKEN.sub(word, text)

@@ -1,7 +1,9 @@
 // A call's arguments, and the family that it names.
+#![tactic(auto)]
+
 ghost use Rattle.std.specs.Prelude.{◌≡◌, [], ◌∷◌, ◌++◌, ◌+◌, ◌*◌, ◌<◌, ◌≤◌, length, get_or, set, take, true};
 ghost use Rattle.std.proofs.Math.Seq.{slice};
-ghost use Rattle.language.specs.Form.{in_range_lem};
+ghost use Rattle.language.specs.Form.{in_range};
 ghost use Rattle.language.specs.Limits.{most_variables, most_parameters};
 ghost use Rattle.language.specs.Read.{is_index_tag, is_operand_tag};
 ghost use Rattle.fields.specs.Table.{past_of};
@@ -70,7 +72,7 @@ pub fn body_of<'a>(program: &'a [u8], at: usize, start: usize) -> &'a [u8]
 }
 
 // A call's sizes or operands: how many, or that an index is out of range or that one has no meaning.
-#[derive(Drop)]
+#[derive(Clone, Copy)]
 pub enum Gathered {
     Are(usize),
     Over,
@@ -93,7 +95,7 @@ fn is_operand(tag: u8) -> bool
 
 // Stores a size if it is one of the first that a family can have.
 fn store_size(sizes: &mut [i32; VALUES], k: usize, z: i64)
-    requires { in_range_lem z ≡ true }
+    requires { in_range z ≡ true }
     ensures { (k < most_variables → sizes.new ≡ set sizes.old k z) × (length sizes.old ≡ most_values) }
 {
     indexes::tell_values(*sizes);
@@ -253,7 +255,7 @@ fn takes(tag: u8, kind: Kind) -> bool
 }
 
 // Whether types take the operands gathered, and if so where the fields after them begin.
-#[derive(Drop)]
+#[derive(Clone, Copy)]
 pub enum Fit {
     From(usize),
     Not,
@@ -354,7 +356,7 @@ pub fn scope_of(given: &[u16; OPERAND_NUMBERS], count: u8) -> Scope
 
 // How a call's arguments come out: all are taken, so many operands, and the family's body begins there; an index is out of
 // range; or the call has no meaning.
-#[derive(Drop)]
+#[derive(Clone, Copy)]
 pub enum Taken {
     All(u8, usize),
     Over,

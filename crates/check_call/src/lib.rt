@@ -1,4 +1,6 @@
 // The check of a call: its indexes' forms, its operands against the family's parameters, and families that are passed.
+#![tactic(auto)]
+
 ghost use Rattle.std.specs.Prelude.{◌≡◌, List, [], map, ◌+◌, ◌≤◌, ◌<◌, length, get_or, ℤ};
 ghost use Rattle.std.proofs.Math.Seq.{slice};
 ghost use Rattle.language.specs.Tree.{bad_operand, call, call_parameter};

@@ -1,4 +1,6 @@
 // The check of what declares: parameters' types, a family's numbers, registers.
+#![tactic(auto)]
+
 ghost use Rattle.std.specs.Prelude.{◌≡◌, List, [], ℕ, ◌+◌, ◌≤◌, ◌<◌, length};
 ghost use Rattle.std.proofs.Math.Seq.{slice};
 ghost use Rattle.language.specs.Tree.{bad_type, plain};
@@ -21,7 +23,7 @@ use forms::{FORM_NUMBERS, Form, SIZE_NUMBERS, Size};
 use limits::{DEEPEST, MOST_FAMILIES, MOST_PARAMETERS, MOST_REGISTERS, MOST_VARIABLES};
 
 // What a parameter's type is: Qbit, or Qbit[I], whose form lies beside; each with the position past it. Or a refusal.
-#[derive(Drop)]
+#[derive(Clone, Copy)]
 pub enum TypeRead {
     Single(usize),
     Many(usize),
@@ -29,7 +31,7 @@ pub enum TypeRead {
 }
 
 // The numbers of index variables and of parameters of a family or a family type, or a refusal's number and place.
-#[derive(Drop)]
+#[derive(Clone, Copy)]
 pub enum Counts {
     Both(usize, usize),
     Bad(u32, usize),

@@ -1,4 +1,6 @@
 // The check of an index field: the form that it means.
+#![tactic(auto)]
+
 ghost use Rattle.std.specs.Prelude.{◌≡◌, List, ℕ, ◌+◌, ◌≤◌, length};
 ghost use Rattle.std.proofs.Math.Seq.{slice};
 ghost use Rattle.language.specs.Tree.{bad_index};
@@ -21,7 +23,7 @@ const FIRST_TAG: u8 = 64;
 const LAST_TAG: u8 = 68;
 
 // The operations on index forms.
-#[derive(Drop)]
+#[derive(Clone, Copy)]
 pub enum Operation {
     Sum,
     Difference,
@@ -29,7 +31,7 @@ pub enum Operation {
 }
 
 // What an index field's tag says.
-#[derive(Drop)]
+#[derive(Clone, Copy)]
 pub enum IndexTag {
     Literal,
     Variable,
@@ -38,7 +40,7 @@ pub enum IndexTag {
 }
 
 // What reading a part that is due gives: the position past it, or a refusal's number and place.
-#[derive(Drop)]
+#[derive(Clone, Copy)]
 pub enum Read {
     Upto(usize),
     Refused(u32, usize),

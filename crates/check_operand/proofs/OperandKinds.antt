@@ -6,7 +6,7 @@ use Prim.Native.Nat.{ℕ}
 use lib.IntN.{ℤ}
 use types.Run.{OneOf, miss}
 use denote.Enum.Declared.{tag_of}
-use Rattle.language.specs.Form.{Form, Built, built, out_of_range, difference_of, ◌thenBuild◌}
+use Rattle.language.specs.Form.{Form, Built, built, out_of_range, difference_of, ◌then_build◌}
 use Rattle.language.specs.Check.{good, refused, Formal, Kind, must_show, whole_fits, element_size}
 use Rattle.kinds.specs.contracts.Kind.{the_type}
 use Rattle.kinds.specs.declared.Kind.TheVariants.{Qubit, Quantum, Classical, Family}
@@ -27,11 +27,11 @@ is_made l e q = sym e ∙ ap (λ (t : Bool). built_of t l) q
 -- what is built from what may be refused
 module _ (next : Form → Built) where
   pub then_not : {b : Built} → b ≡ out_of_range → (b then_build next) ≡ out_of_range
-  unfolding ◌thenBuild◌
+  unfolding ◌then_build◌
   then_not e = ap (λ (b : Built). b then_build next) e
 
   pub then_made : {b : Built} (f : Form) → b ≡ built f → (b then_build next) ≡ next f
-  unfolding ◌thenBuild◌
+  unfolding ◌then_build◌
   then_made f e = ap (λ (b : Built). b then_build next) e
 
 -- an operand of the kind k taken whole

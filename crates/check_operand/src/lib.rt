@@ -1,9 +1,11 @@
 // The check of operands: what is due, and what is shown of it.
+#![tactic(auto)]
+
 ghost use Rattle.std.specs.Prelude.{◌≡◌, true, List, ℕ, ◌+◌, ◌≤◌, length, replicate, ℤ, pos};
 ghost use Rattle.std.proofs.Math.Seq.{slice};
 ghost use Rattle.language.specs.Tree.{Place, Operand, bad_operand};
 ghost use Rattle.language.specs.Read.{due, read_operand, read_whole, read_element, read_slice, read_passed};
-ghost use Rattle.language.specs.Form.{Form, built, difference_of, ◌thenBuild◌, shown, showing};
+ghost use Rattle.language.specs.Form.{Form, built, difference_of, ◌then_build◌, shown, showing};
 ghost use Rattle.language.specs.Check.{Formal, Kind, Signature, size_scope, element_size, room_after, by_showing, must_show, wire, whole_fits, check_within, slice_size, check_slice, slice_fits, check_operand};
 ghost use Rattle.language.specs.Limits.{most_variables, all_variables};
 ghost use Rattle.fields.specs.Header.{fields_at};
@@ -22,7 +24,7 @@ use limits::DEEPEST;
 pub const KINDS: u16 = 4;
 
 // What is in scope: how many families, the rows of the table of operands, and how many index variables and open loops.
-#[derive(Drop)]
+#[derive(Clone, Copy)]
 pub struct Visible {
     pub families: usize,
     pub first: usize,
@@ -33,7 +35,7 @@ pub struct Visible {
 
 // What an operand is due to be: a wire, a bit, a register of at least a size, which lies beside, if it was built, or a family for the
 // family parameter whose number this is.
-#[derive(Drop)]
+#[derive(Clone, Copy)]
 pub enum Wanted {
     Wire,
     Bit,

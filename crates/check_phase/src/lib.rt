@@ -1,4 +1,6 @@
 // The check of phases: their k, and their operands.
+#![tactic(auto)]
+
 ghost use Rattle.std.specs.Prelude.{◌≡◌, List, ◌≤◌, length};
 ghost use Rattle.language.specs.Tree.{bad_index};
 ghost use Rattle.language.specs.Read.{due, outer_index};

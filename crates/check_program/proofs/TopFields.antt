@@ -18,7 +18,7 @@ use Rattle.language.specs.Read.{Field, field, bad_header, fields, choose, read_f
 use Rattle.language.specs.Check.{Checked, ◌>>=◌, ◌>>◌, require, Declared, check_top, check_top_by, check_tops, check_tops_by, check}
 use Rattle.language.specs.Tree.{qreg, creg}
 use Rattle.language.specs.Result.{verdict, check_program, check_result}
-use Rattle.language.specs.Form.{in_range_lem, all_in_range}
+use Rattle.language.specs.Form.{in_range, all_in_range}
 use Rattle.fields.specs.Header.{fields_at}
 use Rattle.fields.proofs.Headers.{Wholly}
 use Rattle.check_operand.specs.Tables.{size_of_row, tabulated}
@@ -138,7 +138,7 @@ zero_taken n at kinds x =
 -- nothing is declared in tables of zeros that are long enough
 pub zeros_hold : (bytes rows named : ℕ) → bytes ≤ longest_program → 3 * most_registers + bytes < 3 * (rows / 2) → rows ≤ most_rows → size_row bytes most_registers < named
     → DeclaredRight bytes 0 none_so_far (replicate (most_families + named) (replicate 3 0)) (replicate rows 0) (replicate named (replicate 5 (pos 0)))
-unfolding in_range_lem all_in_range size_of_row
+unfolding in_range all_in_range size_of_row
 zeros_hold bytes rows named s k w n = record {
   short = s;
   table = record {

@@ -1,4 +1,6 @@
 // The check of a whole program: what the fields at the top declare, one after the other, and the answer.
+#![tactic(auto)]
+
 ghost use Rattle.std.specs.Prelude.{◌≡◌, ◌+◌, ◌≤◌, ◌<◌, length};
 ghost use Rattle.std.proofs.Math.Seq.{slice};
 ghost use Rattle.language.specs.Read.{field, read_top, read_family, read_register, read};
@@ -42,7 +44,7 @@ const SHORT_FAMILIES: usize = MOST_FAMILIES + SHORT_SIZES;
 const FAMILY_ROWS: usize = MOST_FAMILIES + MOST_SIZES;
 
 // How much is declared so far: families, registers, qubits and bits; and how many rows of the table of operands are in use.
-#[derive(Drop)]
+#[derive(Clone, Copy)]
 pub struct SoFar {
     pub families: usize,
     pub rows: usize,
@@ -52,14 +54,14 @@ pub struct SoFar {
 }
 
 // What a top field comes to: what is declared after it, or a refusal's number and place.
-#[derive(Drop)]
+#[derive(Clone, Copy)]
 pub enum Step {
     Going(SoFar),
     Stopped(u32, usize),
 }
 
 // The answer of the check: acceptance, or a refusal's number and place.
-#[derive(Drop)]
+#[derive(Clone, Copy)]
 pub enum Outcome {
     Accepted,
     Turned(u32, usize),

@@ -1,4 +1,6 @@
 // The check of statements: gates, phases, calls, reverse, loops, lists of them, and top fields that declare nothing.
+#![tactic(auto)]
+
 ghost use Rattle.std.specs.Prelude.{◌≡◌, List, ℕ, ◌+◌, ◌≤◌, length};
 ghost use Rattle.std.proofs.Math.Seq.{slice};
 ghost use Rattle.language.specs.Tree.{bad_statement};
@@ -21,7 +23,7 @@ use limits::{DEEPEST, MOST_LOOPS};
 const IN_CONDITIONAL: usize = DEEPEST - 1;
 
 // What a statement's tag says.
-#[derive(Drop)]
+#[derive(Clone, Copy)]
 pub enum StatementTag {
     Gate,
     Cx,

@@ -1,5 +1,7 @@
 // A walk over the fields of a list, forward or backward, in constant space. Backward, positions of fields are kept in a lent
 // array: all of them where there is room, else some, closer to each other toward the end.
+#![tactic(auto)]
+
 ghost use Rattle.std.specs.Prelude.{◌≡◌, true, false, ◌<◌, ◌≤◌, length};
 ghost use Rattle.language.specs.Limits.{longest_program};
 ghost use Rattle.field_walk.specs.Walks.{most_kept, PositionsKept, Lasts, KeepsLast, Walking, Sought, Starting, passed_of, whole_of};
@@ -11,7 +13,7 @@ pub const KEPT: usize = 24;
 
 // What is left of a list: the bytes from `at` to `to`. `here` is where the next field begins; `depth` positions are kept, and
 // from the one numbered `sure` on they are those of all fields.
-#[derive(Drop)]
+#[derive(Clone, Copy)]
 pub struct Walk {
     pub at: usize,
     pub to: usize,
@@ -21,14 +23,14 @@ pub struct Walk {
 }
 
 // A walk begins with so many positions kept, sure from this one on, or the list is to be walked backward and has a bad header.
-#[derive(Drop)]
+#[derive(Clone, Copy)]
 pub enum Begun {
     With(usize, usize),
     Broken,
 }
 
 // How many positions are kept, and from which on they are sure.
-#[derive(Drop)]
+#[derive(Clone, Copy)]
 struct Held {
     depth: usize,
     sure: usize,

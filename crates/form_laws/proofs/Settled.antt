@@ -7,7 +7,7 @@ use native.Mathlib.Omega.{arith}
 use native.Mathlib.Decide.{dec_le}
 use lib.IntN.{ℤ, pos, negsuc, ◌+ℤ◌, ◌*ℤ◌, *ℤ-zero}
 use lib.ListN.{get_or, set, length, drop}
-use Rattle.language.specs.Form.{Form, Built, built, out_of_range, build, zipped, sum_of, multiple_of, ◌thenBuild◌, is_zero, Loop, without, closed, closed_all, plainly}
+use Rattle.language.specs.Form.{Form, Built, built, out_of_range, build, zipped, sum_of, multiple_of, ◌then_build◌, is_zero, Loop, without, closed, closed_all, plainly}
 use Rattle.form_laws.specs.Settled.{coefficient, replaced, settled, Scan, ended, one_more, then_scan, scan, settling_of, settling, if_built, replacements, none_true, to_last, gone_through, AgreeLaw, Last, LastLaw, closed_to, SettledAfter, EndLaw, remaining, after, onward, NextLaw, Below, Scoped, none, inner, ScopeLaw}
 use Rattle.language.proofs.Integers.{and_both}
 use Rattle.language.proofs.FormLaws.{then_built, build_is}
@@ -17,7 +17,7 @@ use Rattle.language.proofs.FormLaws.{then_built, build_is}
 -- of one variable whose coefficient is c
 module _ (m : ℕ) (l : Loop) (ls : List Loop) (f : Form) where
   settled_here : (settled m ls f ≡ true → closed_all m ls f ≡ built f) → (c : ℤ) → (is_zero c && settled m ls f) ≡ true → (closed (m + length ls) l f c then_build closed_all m ls) ≡ built f
-  unfolding is_zero closed ◌thenBuild◌
+  unfolding is_zero closed ◌then_build◌
   settled_here rest (pos zero) e = rest e
   settled_here rest (pos (suc n)) e = absurd (let z : ◌≡◌ {A = ℕ} 0 1 = cc in omega arith)
   settled_here rest (negsuc n) e = absurd (let z : ◌≡◌ {A = ℕ} 0 1 = cc in omega arith)
@@ -45,7 +45,7 @@ plain_scan m ls f = record { form = closed_all m ls f; through = to_last (replac
 
 plain_further : (m : ℕ) (ls : List Loop) → ((g : Form) → scan m ls g ≡ plain_scan m ls g) → (b : Built)
     → then_scan b (scan m ls) ≡ record { form = b then_build closed_all m ls; through = suc (to_last (if_built b (replacements m ls))) }
-unfolding then_scan ◌thenBuild◌ if_built to_last
+unfolding then_scan ◌then_build◌ if_built to_last
 plain_further m ls rest (built g) = ap one_more (rest g)
 plain_further m ls rest out_of_range = refl
 
@@ -67,7 +67,7 @@ scan_plain m (l ∷ ls) f =
     go rest false e = plain_further m ls rest (replaced m l ls f)
 
 pub agree_law : AgreeLaw
-unfolding settling plainly gone_through ◌thenBuild◌
+unfolding settling plainly gone_through ◌then_build◌
 agree_law m ls (built f) = ap settling_of (scan_plain m ls f)
 agree_law m ls out_of_range = refl
 
@@ -152,7 +152,7 @@ module _ (m : ℕ) (l : Loop) (ls : List Loop) (f : Form) where
   next then e = ap (λ (x : Built). x then_build then) e
 
   ends_further : ((g : Form) → SettledAfter m ls g (scan m ls g).through) → settled m (l ∷ ls) f ≡ false → (b : Built) → replaced m l ls f ≡ b → SettledAfter m (l ∷ ls) f (then_scan b (scan m ls)).through
-  unfolding then_scan closed_to closed_all ◌thenBuild◌
+  unfolding then_scan closed_to closed_all ◌then_build◌
   ends_further r n (built h) e = record {
     final = next (closed_to (scan m ls h).through m ls) e ∙ (r h).final ∙ sym (next (closed_all m ls) e);
     settled_then = λ g q. (r h).settled_then g (sym (next (closed_to (scan m ls h).through m ls) e) ∙ q);

@@ -1,7 +1,7 @@
 -- The plain rule's showing that ends as soon as its form is settled, and the number of loop variables that it goes through. Its laws are stated here; proofs/Settled and proofs/Scoped prove them.
 use Rattle.std.specs.Prelude.{◌≡◌, ◌↔◌, List, [], ◌∷◌, Bool, true, false, cond, not, ◌&&◌, ℕ, zero, suc, ◌+◌, ◌≤◌, ◌<◌, ℤ, pos, get_or, length, drop}
 use Rattle.language.specs.Tree.{Index}
-use Rattle.language.specs.Form.{Form, Built, built, out_of_range, ◌thenBuild◌, is_zero, Loop, closed, closed_all, Showing, showing_of, plainly}
+use Rattle.language.specs.Form.{Form, Built, built, out_of_range, ◌then_build◌, is_zero, Loop, closed, closed_all, Showing, showing_of, plainly}
 use Rattle.language.specs.Check.{Scope, good, form_of, check_bounds, in_loop}
 
 -- the coefficient of the variable v

@@ -8,7 +8,7 @@ use lib.IntN.{ℤ, pos, negsuc, ◌+ℤ◌, ◌-ℤ◌, ◌*ℤ◌, +ℤ_idl, +�
 use native.Mathlib.Numerals.{add-one}
 use lib.ListN.{length, get_or, set, take, drop, replicate, length-map, length-take, drop_of_length-le, get_or-map}
 use lib.Seq.{drop-cons, get_or-take, length-take-le, set-get_or}
-use Rattle.language.specs.Form.{Form, Built, built, out_of_range, is_zero, closed, Loop, beyond_range, Showing, plainly, less_range, is_shown, trial, by_trial, or_tried, showing, showing_of, in_range_lem, all_in_range, zipped, build, sum_of, difference_of, multiple_of, ◌thenBuild◌, constant_form, terms_put_in}
+use Rattle.language.specs.Form.{Form, Built, built, out_of_range, is_zero, closed, Loop, beyond_range, Showing, plainly, less_range, is_shown, trial, by_trial, or_tried, showing, showing_of, in_range, all_in_range, zipped, build, sum_of, difference_of, multiple_of, ◌then_build◌, constant_form, terms_put_in}
 use Rattle.form_laws.specs.Settled.{coefficient, Scan, ended, one_more, then_scan, scan, remaining, after, onward, Settling, settling, gone_through}
 use Rattle.form_laws.specs.Trials.{trials_for, trials_made}
 use Rattle.form_laws.proofs.Settled.{next_law, agree_law, gone_most}
@@ -20,14 +20,14 @@ use Rattle.forms.proofs.Lists as L
 use Rattle.forms.specs.Rows.{Rows, loop_at, loops_of, forms_of}
 
 -- adding a multiple of 0 changes nothing
-pub zero_added : (x k : ℤ) {y : ℤ} → in_range_lem x ≡ true → y ≡ pos 0 → (true ≡ (in_range_lem (k *ℤ y) && in_range_lem (x +ℤ k *ℤ y))) × (x +ℤ k *ℤ y ≡ x)
-unfolding in_range_lem
+pub zero_added : (x k : ℤ) {y : ℤ} → in_range x ≡ true → y ≡ pos 0 → (true ≡ (in_range (k *ℤ y) && in_range (x +ℤ k *ℤ y))) × (x +ℤ k *ℤ y ≡ x)
+unfolding in_range
 zero_added x k {y} h e =
     let p : k *ℤ y ≡ pos 0 = ap (λ (z : ℤ). k *ℤ z) e ∙ *ℤ-zero k in
     let s : x +ℤ k *ℤ y ≡ x = ap (λ (z : ℤ). x +ℤ z) p ∙ +ℤ_idr x in
-    (sym ((λ j. in_range_lem (p j) && in_range_lem (s j)) ∙ h), s)
+    (sym ((λ j. in_range (p j) && in_range (s j)) ∙ h), s)
 
-pub nothing_added : (f : List ℤ) (i : ℕ) (k : ℤ) {y : ℤ} → in_range_lem (get_or f i (pos 0)) ≡ true → y ≡ pos 0 → (true ≡ (in_range_lem (k *ℤ y) && in_range_lem (get_or f i (pos 0) +ℤ k *ℤ y))) × (f ≡ set f i (get_or f i (pos 0) +ℤ k *ℤ y))
+pub nothing_added : (f : List ℤ) (i : ℕ) (k : ℤ) {y : ℤ} → in_range (get_or f i (pos 0)) ≡ true → y ≡ pos 0 → (true ≡ (in_range (k *ℤ y) && in_range (get_or f i (pos 0) +ℤ k *ℤ y))) × (f ≡ set f i (get_or f i (pos 0) +ℤ k *ℤ y))
 nothing_added f i k h e =
     let z = zero_added (get_or f i (pos 0)) k h e in
     (z.0, sym (ap (λ (z : ℤ). set f i z) z.1 ∙ set-get_or f i (pos 0)))
@@ -49,7 +49,7 @@ scaled_map k [] h = absurd (let l = h.long in omega arith)
 scaled_map k (x ∷ g) h = refl
 
 pub both_flat : (k : ℤ) (f g : List ℤ) → Kept f → Kept g → built_of (all_in_range (map (λ z. k *ℤ z) g) && all_in_range (zipped (λ x y. x +ℤ k *ℤ y) f g)) (zipped (λ x y. x +ℤ k *ℤ y) f g) ≡ (multiple_of k (as_form g) then_build sum_of (as_form f))
-unfolding ◌thenBuild◌
+unfolding ◌then_build◌
 both_flat k f g kf kg = by (all_in_range (map (λ z. k *ℤ z) g)) refl ∙ sym (ap (λ (b : Built). b then_build sum_of (as_form f)) (scaled_map k g kg))
   where
     by : (t : Bool) → all_in_range (map (λ z. k *ℤ z) g) ≡ t → built_of (t && all_in_range (zipped (λ x y. x +ℤ k *ℤ y) f g)) (zipped (λ x y. x +ℤ k *ℤ y) f g) ≡ (built_of t (map (λ z. k *ℤ z) g) then_build sum_of (as_form f))
@@ -63,13 +63,13 @@ zipped_same op q e [] g = refl
 zipped_same op q e (x ∷ f) [] = refl
 zipped_same op q e (x ∷ f) (y ∷ g) = λ j. e x y j ∷ zipped_same op q e f g j
 
-all_map : (h : ℤ → ℤ) → ((z : ℤ) → in_range_lem z ≡ true → in_range_lem (h z) ≡ true) → (l : List ℤ) → all_in_range l ≡ true → all_in_range (map h l) ≡ true
+all_map : (h : ℤ → ℤ) → ((z : ℤ) → in_range z ≡ true → in_range (h z) ≡ true) → (l : List ℤ) → all_in_range l ≡ true → all_in_range (map h l) ≡ true
 all_map h p [] e = ranges.none
 all_map h p (x ∷ l) e =
-    let b = both (in_range_lem x) (all_in_range l) (sym (ranges.more x l) ∙ e) in
+    let b = both (in_range x) (all_in_range l) (sym (ranges.more x l) ∙ e) in
     ranges.more (h x) (map h l) ∙ rw (p x b.0, all_map h p l b.1)
 
-unit_flat : (k : ℤ) (op : ℤ → ℤ → ℤ) → ((x y : ℤ) → x +ℤ k *ℤ y ≡ op x y) → ((z : ℤ) → in_range_lem z ≡ true → in_range_lem (k *ℤ z) ≡ true) → (f g : List ℤ) → Kept f → Kept g → (multiple_of k (as_form g) then_build sum_of (as_form f)) ≡ built_of (all_in_range (zipped op f g)) (zipped op f g)
+unit_flat : (k : ℤ) (op : ℤ → ℤ → ℤ) → ((x y : ℤ) → x +ℤ k *ℤ y ≡ op x y) → ((z : ℤ) → in_range z ≡ true → in_range (k *ℤ z) ≡ true) → (f g : List ℤ) → Kept f → Kept g → (multiple_of k (as_form g) then_build sum_of (as_form f)) ≡ built_of (all_in_range (zipped op f g)) (zipped op f g)
 unit_flat k op e p f g kf kg =
     sym (both_flat k f g kf kg) ∙ rw (all_map (λ z. k *ℤ z) p g kg.inside, zipped_same (λ x y. x +ℤ k *ℤ y) op e f g)
 
@@ -105,21 +105,21 @@ module _ {k : ℤ} {f h r g : List ℤ} {i : ℕ} (s : Scaling k f h r g i) (kf 
   products_long : length (map (λ z. k *ℤ z) h) ≡ 13
   products_long = length-map h (λ z. k *ℤ z) ∙ kh.long
 
-  pub scaling_again : i < 13 → (in_range_lem (k *ℤ get_or h i (pos 0)) && in_range_lem (get_or f i (pos 0) +ℤ k *ℤ get_or h i (pos 0))) ≡ true → Scaling k f h r (set g i (get_or f i (pos 0) +ℤ k *ℤ get_or h i (pos 0))) (i + 1)
+  pub scaling_again : i < 13 → (in_range (k *ℤ get_or h i (pos 0)) && in_range (get_or f i (pos 0) +ℤ k *ℤ get_or h i (pos 0))) ≡ true → Scaling k f h r (set g i (get_or f i (pos 0) +ℤ k *ℤ get_or h i (pos 0))) (i + 1)
   scaling_again p e =
       let y = both _ _ e in
       let l = products_long in
       record {
         sums = again s.sums kf kh lr p refl y.1;
-        products = s.products ∙ rw add-one (rest_good ranges (map (λ z. k *ℤ z) h) i (omega arith) (ap in_range_lem (product_at_lem p) ∙ y.0));
+        products = s.products ∙ rw add-one (rest_good ranges (map (λ z. k *ℤ z) h) i (omega arith) (ap in_range (product_at_lem p) ∙ y.0));
       }
 
-  pub scaling_stopped : i < 13 → (in_range_lem (k *ℤ get_or h i (pos 0)) && in_range_lem (get_or f i (pos 0) +ℤ k *ℤ get_or h i (pos 0))) ≡ false → out_of_range ≡ (multiple_of k (as_form h) then_build sum_of (as_form f))
+  pub scaling_stopped : i < 13 → (in_range (k *ℤ get_or h i (pos 0)) && in_range (get_or f i (pos 0) +ℤ k *ℤ get_or h i (pos 0))) ≡ false → out_of_range ≡ (multiple_of k (as_form h) then_build sum_of (as_form f))
   scaling_stopped p e =
       let l = products_long in
       let bad =
       both_no _ _ (all_in_range (map (λ z. k *ℤ z) h)) (all_in_range (zipped (λ x y. x +ℤ k *ℤ y) f h)) e
-      (λ q. s.products ∙ rest_bad ranges (map (λ z. k *ℤ z) h) i (omega arith) (ap in_range_lem (product_at_lem p) ∙ q))
+      (λ q. s.products ∙ rest_bad ranges (map (λ z. k *ℤ z) h) i (omega arith) (ap in_range (product_at_lem p) ∙ q))
       (λ q. stopped s.sums kf kh lr p refl q) in
       sym (ap (λ (t : Bool). built_of t (zipped (λ x y. x +ℤ k *ℤ y) f h)) bad) ∙ both_flat k f h kf kh
 
@@ -149,7 +149,7 @@ pub trials_few : (m n : ℕ) (l h : List (List ℤ)) (e : Built) {k : ℕ} → k
 trials_few m n l h e p = omega (arith, trials_most m (loops_of n l h) e, length_loops n l h)
 
 pub show_outside : (m : ℕ) (ls : List Loop) → showing m ls out_of_range ≡ beyond_range
-unfolding showing or_tried plainly ◌thenBuild◌ showing_of
+unfolding showing or_tried plainly ◌then_build◌ showing_of
 show_outside m ls = refl
 
 -- the next loop is passed over where its variable's coefficient is 0, and else it is the first that remains
@@ -273,11 +273,11 @@ module _ (m loops n : ℕ) (l h : List (List ℤ)) (f₀ f : Form) (le : n ≤ l
 -- the trial for one loop, where e − (high − low) is built, and where it is not
 module _ (m : ℕ) (ls : List Loop) (l : Loop) (f : Form) where
   pub trial_made : {g : Form} {x : Showing} → built g ≡ less_range l f → x ≡ plainly m ls (built g) → is_shown x ≡ trial m ls l (built f)
-  unfolding trial ◌thenBuild◌
+  unfolding trial ◌then_build◌
   trial_made e q = ap is_shown (q ∙ ap (plainly m ls) e)
 
   pub trial_out : out_of_range ≡ less_range l f → false ≡ trial m ls l (built f)
-  unfolding trial plainly is_shown showing_of ◌thenBuild◌
+  unfolding trial plainly is_shown showing_of ◌then_build◌
   trial_out e = ap (λ (b : Built). is_shown (plainly m ls b)) e
 
 -- the trials for the outermost loops, so many: of none; where the innermost of them shows e, and where it does not
@@ -310,7 +310,7 @@ module _ (m : ℕ) (ls : List Loop) (l h : List (List ℤ)) (e : Built) where
 -- ---- forms that are set
 
 pub zeros_kept : Kept (replicate 13 (pos 0))
-unfolding in_range_lem all_in_range
+unfolding in_range all_in_range
 zeros_kept = record { long = refl; inside = refl }
 
 zipped_zeros : (n : ℕ) (l : List ℤ) → length l ≡ n → zipped ◌+ℤ◌ (replicate n (pos 0)) l ≡ l
@@ -322,7 +322,7 @@ zipped_zeros (suc n) (x ∷ l) e = λ j. +ℤ_idl x j ∷ zipped_zeros n l (omeg
 
 -- what a multiple of a form is, added to the form 0
 pub multiple_alone : (k : ℤ) (z g : List ℤ) → Kept g → as_form z ≡ constant_form (pos 0) → (multiple_of k (as_form g) then_build sum_of (as_form z)) ≡ multiple_of k (as_form g)
-unfolding ◌thenBuild◌ as_form
+unfolding ◌then_build◌ as_form
 multiple_alone k z g kg e =
     ap (λ (f : Form). multiple_of k (as_form g) then_build sum_of f) e
     ∙ ap (λ (b : Built). b then_build sum_of (constant_form (pos 0))) (scaled_map k g kg)
@@ -349,23 +349,23 @@ and_yes : (s : Bool) {t : Bool} → t ≡ true → s ≡ (s && t)
 and_yes true e = sym e
 and_yes false e = refl
 
-plus_flat : (f : List ℤ) (z : ℤ) → Kept f → built_of (in_range_lem (get_or f 0 (pos 0) +ℤ z)) (set f 0 (get_or f 0 (pos 0) +ℤ z)) ≡ sum_of (as_form f) (constant_form z)
+plus_flat : (f : List ℤ) (z : ℤ) → Kept f → built_of (in_range (get_or f 0 (pos 0) +ℤ z)) (set f 0 (get_or f 0 (pos 0) +ℤ z)) ≡ sum_of (as_form f) (constant_form z)
 unfolding sum_of build as_form
 plus_flat [] z k = absurd (let l = k.long in omega arith)
 plus_flat (x ∷ f) z k =
     let l = k.long in
-    let r = both (in_range_lem x) (all_in_range f) (sym (ranges.more x f) ∙ k.inside) in
-    rw (zipped_none ◌+ℤ◌ +ℤ_idr 12 f (omega arith)) (ap (λ (t : Bool). built_of t ((x +ℤ z) ∷ f)) (and_yes (in_range_lem (x +ℤ z)) r.1))
+    let r = both (in_range x) (all_in_range f) (sym (ranges.more x f) ∙ k.inside) in
+    rw (zipped_none ◌+ℤ◌ +ℤ_idr 12 f (omega arith)) (ap (λ (t : Bool). built_of t ((x +ℤ z) ∷ f)) (and_yes (in_range (x +ℤ z)) r.1))
 
 -- y is z, as the machine reads it
-module _ (f : List ℤ) {y z : ℤ} (e : y ≡ z) (k : Kept f) (q : in_range_lem z ≡ true) where
+module _ (f : List ℤ) {y z : ℤ} (e : y ≡ z) (k : Kept f) (q : in_range z ≡ true) where
   once : pos 1 *ℤ y ≡ z
   once = ap (λ (x : ℤ). pos 1 *ℤ x) e ∙ omega (integers, times (pos 1) z)
 
-  pub constant_added : (g : List ℤ) (t : Bool) → t ≡ (in_range_lem (pos 1 *ℤ y) && in_range_lem (get_or f 0 (pos 0) +ℤ pos 1 *ℤ y)) → (t ≡ true → g ≡ set f 0 (get_or f 0 (pos 0) +ℤ pos 1 *ℤ y)) → (built_of t g ≡ sum_of (as_form f) (constant_form z)) × (t ≡ true → Kept g)
-  constant_added g t p h = by t (p ∙ (λ j. in_range_lem (once j) && in_range_lem (get_or f 0 (pos 0) +ℤ once j)) ∙ ap (λ (b : Bool). b && in_range_lem (get_or f 0 (pos 0) +ℤ z)) q) (λ u. h u ∙ ap (λ (x : ℤ). set f 0 (get_or f 0 (pos 0) +ℤ x)) once)
+  pub constant_added : (g : List ℤ) (t : Bool) → t ≡ (in_range (pos 1 *ℤ y) && in_range (get_or f 0 (pos 0) +ℤ pos 1 *ℤ y)) → (t ≡ true → g ≡ set f 0 (get_or f 0 (pos 0) +ℤ pos 1 *ℤ y)) → (built_of t g ≡ sum_of (as_form f) (constant_form z)) × (t ≡ true → Kept g)
+  constant_added g t p h = by t (p ∙ (λ j. in_range (once j) && in_range (get_or f 0 (pos 0) +ℤ once j)) ∙ ap (λ (b : Bool). b && in_range (get_or f 0 (pos 0) +ℤ z)) q) (λ u. h u ∙ ap (λ (x : ℤ). set f 0 (get_or f 0 (pos 0) +ℤ x)) once)
     where
-      by : (t : Bool) → t ≡ in_range_lem (get_or f 0 (pos 0) +ℤ z) → (t ≡ true → g ≡ set f 0 (get_or f 0 (pos 0) +ℤ z)) → (built_of t g ≡ sum_of (as_form f) (constant_form z)) × (t ≡ true → Kept g)
+      by : (t : Bool) → t ≡ in_range (get_or f 0 (pos 0) +ℤ z) → (t ≡ true → g ≡ set f 0 (get_or f 0 (pos 0) +ℤ z)) → (built_of t g ≡ sum_of (as_form f) (constant_form z)) × (t ≡ true → Kept g)
       by true p h = ((λ j. built_of (p j) (h refl j)) ∙ plus_flat f z k, λ u. subst Kept (sym (h refl)) (set_kept f 0 (get_or f 0 (pos 0) +ℤ z) (sym p) k))
       by false p h = (ap (λ (b : Bool). built_of b (set f 0 (get_or f 0 (pos 0) +ℤ z))) p ∙ plus_flat f z k, λ u. absurd (clash (sym u)))
 

@@ -12,7 +12,7 @@ use lib.IntN.{ℤ, pos, negsuc, ◌+ℤ◌, ◌-ℤ◌}
 use lib.Signed.{le_z, lt_z}
 use lib.ListN.{length, get_or, take, drop, set, replicate, length-set, length-take, length-append, drop_of_length-le, take-append-drop, get_or-append}
 use lib.Seq.{take_all}
-use Rattle.language.specs.Form.{Built, built, Loop, closed, showing_of, in_range_lem, all_in_range, zipped, build, sum_of, difference_of, multiple_of, ◌thenBuild◌, without, none_negative, is_zero, all_zero, same_number, same_numbers, same_form}
+use Rattle.language.specs.Form.{Built, built, Loop, closed, showing_of, in_range, all_in_range, zipped, build, sum_of, difference_of, multiple_of, ◌then_build◌, without, none_negative, is_zero, all_zero, same_number, same_numbers, same_form}
 use Rattle.forms.specs.Flat.{Kept, Short, widened, as_form, built_of, showing_by}
 use Rattle.language.proofs.Integers.{clash, lt_true}
 use Rattle.form_laws.proofs.Equal.{same_number_lem, number_itself}
@@ -75,7 +75,7 @@ pub record EachOf (p : ℤ → Bool) (all : List ℤ → Bool) : Type 0 where
   pub none : all [] ≡ true
   pub more : (x : ℤ) (xs : List ℤ) → all (x ∷ xs) ≡ (p x && all xs)
 
-pub ranges : EachOf in_range_lem all_in_range
+pub ranges : EachOf in_range all_in_range
 unfolding all_in_range
 ranges = record { none = refl; more = λ x xs. refl }
 
@@ -188,17 +188,17 @@ module _ {op : ℤ → ℤ → ℤ} {f₀ g r f : List ℤ} {i : ℕ} (p : Passe
       new_at : z ≡ get_or (zipped op f₀ g) i (pos 0)
       new_at = let l = kf.long in let m = kg.long in e ∙ sym (zipped_at op f₀ g i (pos 0) (omega arith) (omega arith))
 
-      pub again : in_range_lem z ≡ true → Passed op f₀ g r (set f i z) (i + 1)
+      pub again : in_range z ≡ true → Passed op f₀ g r (set f i z) (i + 1)
       again q =
           let l = new_long in
           rw add-one (record {
             bound = omega arith;
             shape = rw (p.shape, new_at) (front_put i (zipped op f₀ g) r (pos 0) (omega arith) (k ∙ sym l));
-            answer = p.answer ∙ rest_good ranges (zipped op f₀ g) i (omega arith) (ap in_range_lem (sym new_at) ∙ q);
+            answer = p.answer ∙ rest_good ranges (zipped op f₀ g) i (omega arith) (ap in_range (sym new_at) ∙ q);
           })
 
-      pub stopped : in_range_lem z ≡ false → all_in_range (zipped op f₀ g) ≡ false
-      stopped q = let l = new_long in p.answer ∙ rest_bad ranges (zipped op f₀ g) i (omega arith) (ap in_range_lem (sym new_at) ∙ q)
+      pub stopped : in_range z ≡ false → all_in_range (zipped op f₀ g) ≡ false
+      stopped q = let l = new_long in p.answer ∙ rest_bad ranges (zipped op f₀ g) i (omega arith) (ap in_range (sym new_at) ∙ q)
 
     pub ended : 13 ≤ i → (f ≡ zipped op f₀ g) × (all_in_range (zipped op f₀ g) ≡ true)
     ended h =
@@ -236,18 +236,18 @@ constant_flat (x ∷ f) h = refl
 
 -- ---- a term dropped, and replaced
 
-all_set : (n : ℕ) (l : List ℤ) (z : ℤ) → in_range_lem z ≡ true → all_in_range l ≡ true → all_in_range (set l n z) ≡ true
+all_set : (n : ℕ) (l : List ℤ) (z : ℤ) → in_range z ≡ true → all_in_range l ≡ true → all_in_range (set l n z) ≡ true
 all_set n [] z q e = e
-all_set zero (x ∷ l) z q e = ranges.more z l ∙ rw (q, (both (in_range_lem x) (all_in_range l) (sym (ranges.more x l) ∙ e)).1)
+all_set zero (x ∷ l) z q e = ranges.more z l ∙ rw (q, (both (in_range x) (all_in_range l) (sym (ranges.more x l) ∙ e)).1)
 all_set (suc n) (x ∷ l) z q e =
-    let b = both (in_range_lem x) (all_in_range l) (sym (ranges.more x l) ∙ e) in
+    let b = both (in_range x) (all_in_range l) (sym (ranges.more x l) ∙ e) in
     ranges.more x (set l n z) ∙ rw (b.0, all_set n l z q b.1)
 
-pub set_kept : (f : List ℤ) (i : ℕ) (z : ℤ) → in_range_lem z ≡ true → Kept f → Kept (set f i z)
+pub set_kept : (f : List ℤ) (i : ℕ) (z : ℤ) → in_range z ≡ true → Kept f → Kept (set f i z)
 set_kept f i z q k = record { long = length-set f i z ∙ k.long; inside = all_set i f z q k.inside }
 
 pub drop_kept : (f : List ℤ) (v : ℕ) → Kept f → Kept (set f (v + 1) (pos 0))
-unfolding in_range_lem
+unfolding in_range
 drop_kept f v k = set_kept f (v + 1) (pos 0) refl k
 
 pub drop_flat : (f : List ℤ) (v : ℕ) → Kept f → as_form (set f (v + 1) (pos 0)) ≡ without v (as_form f)
@@ -296,7 +296,7 @@ unfolding as_form
 rest_long [] k = absurd (let l = k.long in omega arith)
 rest_long (x ∷ f) k = let l = k.long in omega arith
 
-pub kept_at : (f : List ℤ) (i : ℕ) → i < 13 → Kept f → in_range_lem (get_or f i (pos 0)) ≡ true
+pub kept_at : (f : List ℤ) (i : ℕ) → i < 13 → Kept f → in_range (get_or f i (pos 0)) ≡ true
 kept_at f i h k = each_at ranges f i (let l = k.long in omega arith) k.inside
 
 -- ---- rows of five numbers
@@ -306,9 +306,9 @@ both_true true b c f e = f e
 both_true false b c f e = absurd (clash (sym e))
 
 widened_range : (l : List ℤ) → all_in_range l ≡ true → all_in_range (widened l) ≡ true
-unfolding in_range_lem all_in_range
+unfolding in_range all_in_range
 widened_range [] e = refl
-widened_range (z ∷ l) e = both_true (in_range_lem z) (all_in_range l) (all_in_range (widened l)) (widened_range l) e
+widened_range (z ∷ l) e = both_true (in_range z) (all_in_range l) (all_in_range (widened l)) (widened_range l) e
 
 pub short_kept : (l : List ℤ) → Short l → Kept (widened l)
 short_kept l s = record { long = (let n = s.long in omega (arith, length-append l (replicate 8 (pos 0)))); inside = widened_range l s.inside }
@@ -316,8 +316,8 @@ short_kept l s = record { long = (let n = s.long in omega (arith, length-append 
 pub short_at : (l : List ℤ) (i : ℕ) → i < 5 → Short l → get_or (widened l) i (pos 0) ≡ get_or l i (pos 0)
 short_at l i h s = let n = s.long in get_or-append l (replicate 8 (pos 0)) (pos 0) i (omega arith)
 
-pub short_range : (l : List ℤ) (i : ℕ) → i < 5 → Short l → in_range_lem (get_or l i (pos 0)) ≡ true
-short_range l i h s = ap in_range_lem (sym (short_at l i h s)) ∙ kept_at (widened l) i (omega arith) (short_kept l s)
+pub short_range : (l : List ℤ) (i : ℕ) → i < 5 → Short l → in_range (get_or l i (pos 0)) ≡ true
+short_range l i h s = ap in_range (sym (short_at l i h s)) ∙ kept_at (widened l) i (omega arith) (short_kept l s)
 
 -- the first five of a list, one by one
 abbrev pub listed : List ℤ → List ℤ
@@ -335,7 +335,7 @@ take_range : (n : ℕ) (l : List ℤ) → all_in_range l ≡ true → all_in_ran
 unfolding all_in_range
 take_range zero l e = refl
 take_range (suc n) [] e = refl
-take_range (suc n) (z ∷ l) e = both_true (in_range_lem z) (all_in_range l) (all_in_range (take n l)) (take_range n l) e
+take_range (suc n) (z ∷ l) e = both_true (in_range z) (all_in_range l) (all_in_range (take n l)) (take_range n l) e
 
 module _ (l : List ℤ) (s : Short l) where
   five_all : listed l ≡ l

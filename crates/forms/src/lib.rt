@@ -1,6 +1,8 @@
 // Index forms: the constant, and then the coefficient of each index variable.
+#![tactic(auto)]
+
 ghost use Rattle.std.specs.Prelude.{◌≡◌, true, false, ◌&&◌, List, ◌+◌, ◌≤◌, ◌<◌, length, get_or, set, drop, replicate, ℤ, pos, ◌+ℤ◌, ◌*ℤ◌};
-ghost use Rattle.language.specs.Form.{built, in_range_lem, constant_form, variable_form, sum_of, difference_of, multiple_of, ◌thenBuild◌, all_zero, same_form, closed, showing_of, plainly, less_range, trial, by_trial, showing, put_in};
+ghost use Rattle.language.specs.Form.{built, in_range, constant_form, variable_form, sum_of, difference_of, multiple_of, ◌then_build◌, all_zero, same_form, closed, showing_of, plainly, less_range, trial, by_trial, showing, put_in};
 ghost use Rattle.form_laws.specs.Settled.{gone_through, remaining};
 ghost use Rattle.form_laws.specs.Trials.{trials_for, trials_made};
 ghost use Rattle.language.specs.Tree.{Place, product};
@@ -26,7 +28,7 @@ pub type Form = [i64; FORM_NUMBERS];
 pub type Size = [i32; SIZE_NUMBERS];
 
 // What trying to show a form 0 or more gives.
-#[derive(Drop)]
+#[derive(Clone, Copy)]
 pub enum Verdict {
     Shown,
     NotShown,
@@ -34,21 +36,21 @@ pub enum Verdict {
 }
 
 // What the plain rule gives for a form, and how many loop variables were gone through.
-#[derive(Drop)]
+#[derive(Clone, Copy)]
 pub struct Settling {
     pub verdict: Verdict,
     pub through: usize,
 }
 
 // Whether a trial shows a form, and how many trials were made.
-#[derive(Drop)]
+#[derive(Clone, Copy)]
 pub struct Trials {
     pub shown: bool,
     pub made: usize,
 }
 
 // What trying to show a form gives, how many loop variables the plain rule went through, and how many trials were made after it.
-#[derive(Drop)]
+#[derive(Clone, Copy)]
 pub struct Shown {
     pub verdict: Verdict,
     pub through: usize,
@@ -56,7 +58,7 @@ pub struct Shown {
 }
 
 // What multiplying two forms gives: the product, a number out of range, or that both have variables.
-#[derive(Drop)]
+#[derive(Clone, Copy)]
 pub enum Product {
     Made,
     Outside,
@@ -65,7 +67,7 @@ pub enum Product {
 
 // Whether a form may have the number z.
 pub fn in_range(z: i64) -> bool
-    ensures { result ≡ in_range_lem z }
+    ensures { result ≡ in_range z }
 {
     LOWEST <= z && z <= FURTHEST
 }
@@ -73,10 +75,10 @@ pub fn in_range(z: i64) -> bool
 // f's number i becomes x plus k times y; false where the product or the sum is out of range.
 fn put_sum(f: &mut Form, i: usize, x: i64, k: i64, y: i64) -> bool
     requires i_lt_form_numbers { i < form_numbers }
-    requires x_value { in_range_lem x ≡ true }
-    requires k_value { in_range_lem k ≡ true }
-    requires y_value { in_range_lem y ≡ true }
-    ensures value { result ≡ (in_range_lem (k *ℤ y) && in_range_lem (x +ℤ k *ℤ y)) }
+    requires x_value { in_range x ≡ true }
+    requires k_value { in_range k ≡ true }
+    requires y_value { in_range y ≡ true }
+    ensures value { result ≡ (in_range (k *ℤ y) && in_range (x +ℤ k *ℤ y)) }
     ensures f_after { result ≡ true → f.new ≡ set f.old i (x +ℤ k *ℤ y) }
 {
     let p = k * y;
@@ -94,10 +96,10 @@ fn put_sum(f: &mut Form, i: usize, x: i64, k: i64, y: i64) -> bool
 // f's number i becomes itself plus k times y; false where the product or the sum is out of range.
 fn add_number(f: &mut Form, i: usize, k: i64, y: i64) -> bool
     requires i_lt_form_numbers { i < form_numbers }
-    requires pos_value { in_range_lem (get_or f.old i (pos 0)) ≡ true }
-    requires k_value { in_range_lem k ≡ true }
-    requires y_value { in_range_lem y ≡ true }
-    ensures value { result ≡ (in_range_lem (k *ℤ y) && in_range_lem (get_or f.old i (pos 0) +ℤ k *ℤ y)) }
+    requires pos_value { in_range (get_or f.old i (pos 0)) ≡ true }
+    requires k_value { in_range k ≡ true }
+    requires y_value { in_range y ≡ true }
+    ensures value { result ≡ (in_range (k *ℤ y) && in_range (get_or f.old i (pos 0) +ℤ k *ℤ y)) }
     ensures f_after { result ≡ true → f.new ≡ set f.old i (get_or f.old i (pos 0) +ℤ k *ℤ y) }
 {
     if y == 0 {
@@ -110,7 +112,7 @@ fn add_number(f: &mut Form, i: usize, k: i64, y: i64) -> bool
 // f becomes f plus k times g; false where a number is out of range, and what f holds then is of no use.
 pub fn add_scaled(f: &mut Form, k: i64, g: &Form) -> bool
     requires kept { Kept f.old }
-    requires k_value { in_range_lem k ≡ true }
+    requires k_value { in_range k ≡ true }
     requires kept_2 { Kept g.now }
     ensures f_after { built_of result f.new ≡ (multiple_of k (as_form g.now) then_build sum_of (as_form f.old)) }
     ensures kept_3 { result ≡ true → Kept f.new }
@@ -145,7 +147,7 @@ pub fn subtract(f: &mut Form, g: &Form) -> bool
 // f becomes f + z.
 pub fn add_constant(f: &mut Form, z: i64) -> bool
     requires kept { Kept f.old }
-    requires z_value { in_range_lem z ≡ true }
+    requires z_value { in_range z ≡ true }
     ensures f_after { built_of result f.new ≡ sum_of (as_form f.old) (constant_form z) }
     ensures kept_2 { result ≡ true → Kept f.new }
 {
@@ -154,7 +156,7 @@ pub fn add_constant(f: &mut Form, z: i64) -> bool
 
 // f becomes the form of a number.
 pub fn set_constant(f: &mut Form, z: i64)
-    requires { in_range_lem z ≡ true }
+    requires { in_range z ≡ true }
     ensures f_after { as_form f.new ≡ constant_form z }
     ensures kept { Kept f.new }
 {
@@ -174,7 +176,7 @@ pub fn set_variable(f: &mut Form, v: usize)
 
 // f becomes k times g.
 pub fn set_multiple(f: &mut Form, k: i64, g: &Form) -> bool
-    requires k_value { in_range_lem k ≡ true }
+    requires k_value { in_range k ≡ true }
     requires kept { Kept g.now }
     ensures f_after { built_of result f.new ≡ multiple_of k (as_form g.now) }
     ensures kept_2 { result ≡ true → Kept f.new }
@@ -298,10 +300,10 @@ fn number_but(f: &Form, at: usize, i: usize) -> i64
 // g's number i becomes x plus k times y, where y is mostly 0; false where the product or the sum is out of range.
 fn put_number(g: &mut Form, i: usize, x: i64, k: i64, y: i64) -> bool
     requires i_lt_form_numbers { i < form_numbers }
-    requires x_value { in_range_lem x ≡ true }
-    requires k_value { in_range_lem k ≡ true }
-    requires y_value { in_range_lem y ≡ true }
-    ensures value { result ≡ (in_range_lem (k *ℤ y) && in_range_lem (x +ℤ k *ℤ y)) }
+    requires x_value { in_range x ≡ true }
+    requires k_value { in_range k ≡ true }
+    requires y_value { in_range y ≡ true }
+    ensures value { result ≡ (in_range (k *ℤ y) && in_range (x +ℤ k *ℤ y)) }
     ensures g_after { result ≡ true → g.new ≡ set g.old i (x +ℤ k *ℤ y) }
 {
     if y == 0 {
@@ -316,7 +318,7 @@ fn sum_but(g: &mut Form, f: &Form, at: usize, k: i64, h: &Form) -> bool
     requires g_len { length g.old ≡ form_numbers }
     requires kept { Kept f.now }
     requires at_lt_form_numbers { at < form_numbers }
-    requires k_value { in_range_lem k ≡ true }
+    requires k_value { in_range k ≡ true }
     requires kept_2 { Kept h.now }
     ensures g_after { built_of result g.new ≡ (multiple_of k (as_form h.now) then_build sum_of (as_form (set f.now at (pos 0)))) }
     ensures kept_3 { result ≡ true → Kept g.new }

@@ -12,7 +12,7 @@ use lib.Signed.{lt_z, non_neg}
 use mir.Syntax.{w32, w64}
 use mir.Val.{Fits, SFits}
 use Rattle.language.specs.Limits.{furthest}
-use Rattle.language.specs.Form.{in_range_lem}
+use Rattle.language.specs.Form.{in_range}
 use Rattle.language.specs.Machine.{rounds_of, start_of, step_of}
 use Rattle.language.proofs.Integers.{integers, eq_by, minus, plus, next, last, fits, up, dn}
 use Rattle.gates.specs.declared.Mode.{Mode}
@@ -42,7 +42,7 @@ natural_size : (z : ℤ) → dn z ≤ up z → up z ≤ furthest + furthest → 
 natural_size (pos n) k h = h
 natural_size (negsuc n) k h = absurd (omega arith)
 
-module _ (x y : ℤ) (a : in_range_lem x ≡ true) (b : in_range_lem y ≡ true) (h : lt_z y x ≡ false) where
+module _ (x y : ℤ) (a : in_range x ≡ true) (b : in_range y ≡ true) (h : lt_z y x ≡ false) where
   pub tally_some : nat_abs (y -ℤ x) + 1 ≡ rounds_of (y -ℤ x)
   tally_some = rounds_natural (y -ℤ x) (omega (integers, minus y x))
 
@@ -78,12 +78,12 @@ turn_step false z i = eq_by (suc_ℤ (z +ℤ pos i)) (z +ℤ pos (i + 1)) (omega
 pub turn_next : (b : Bool) (start : ℤ) (i : ℕ) → step_of (direction_of b) (turn_of b start i) ≡ turn_of b start (suc i)
 turn_next b start i = turn_step b start i ∙ ap (turn_of b start) (add-one i)
 
-ranged : (z : ℤ) → up z ≤ furthest + dn z → dn z ≤ furthest + up z → in_range_lem z ≡ true
+ranged : (z : ℤ) → up z ≤ furthest + dn z → dn z ≤ furthest + up z → in_range z ≡ true
 ranged (pos n) a b = omega integers
 ranged (negsuc n) a b = omega integers
 
 -- both bounds are in range, and so is each value between them
-turn_between : (b : Bool) (x y : ℤ) (i : ℕ) → in_range_lem x ≡ true → in_range_lem y ≡ true → i < rounds_of (y -ℤ x) → in_range_lem (turn_of b (start_of (direction_of b) x y) i) ≡ true
+turn_between : (b : Bool) (x y : ℤ) (i : ℕ) → in_range x ≡ true → in_range y ≡ true → i < rounds_of (y -ℤ x) → in_range (turn_of b (start_of (direction_of b) x y) i) ≡ true
 unfolding turn_of direction_of start_of
 turn_between true x y i a b h =
     let k = below (y -ℤ x) i h in
@@ -92,7 +92,7 @@ turn_between false x y i a b h =
     let k = below (y -ℤ x) i h in
     ranged (x +ℤ pos i) (omega (integers, plus x (pos i), minus y x)) (omega (integers, plus x (pos i)))
 
-pub start_between : (b : Bool) (x y : ℤ) → in_range_lem x ≡ true → in_range_lem y ≡ true → in_range_lem (start_of (direction_of b) x y) ≡ true
+pub start_between : (b : Bool) (x y : ℤ) → in_range x ≡ true → in_range y ≡ true → in_range (start_of (direction_of b) x y) ≡ true
 unfolding direction_of start_of
 start_between true x y a b = b
 start_between false x y a b = a
@@ -109,20 +109,20 @@ module _ {l : List ℕ} {from to : ℕ} {values : List ℤ} {reversed : Bool} {s
       let h = few (r.y -ℤ r.x) (omega (integers, minus r.y r.x)) in
       omega (arith, r.often)
 
-  pub rounds_start : in_range_lem start ≡ true
-  rounds_start = ap in_range_lem r.first ∙ start_between reversed r.x r.y rounds_behind.low rounds_behind.high
+  pub rounds_start : in_range start ≡ true
+  rounds_start = ap in_range r.first ∙ start_between reversed r.x r.y rounds_behind.low rounds_behind.high
 
-  pub rounds_turn : (i : ℕ) → i < total → in_range_lem (turn_of reversed start i) ≡ true
-  rounds_turn i h = ap (λ (z : ℤ). in_range_lem (turn_of reversed z i)) r.first ∙ turn_between reversed r.x r.y i rounds_behind.low rounds_behind.high (omega (arith, r.often))
+  pub rounds_turn : (i : ℕ) → i < total → in_range (turn_of reversed start i) ≡ true
+  rounds_turn i h = ap (λ (z : ℤ). in_range (turn_of reversed z i)) r.first ∙ turn_between reversed r.x r.y i rounds_behind.low rounds_behind.high (omega (arith, r.often))
 
 -- ---- the code's numbers
 
 -- a number of four bytes
-pub narrow : (z : ℤ) → in_range_lem z ≡ true → SFits w32 z
+pub narrow : (z : ℤ) → in_range z ≡ true → SFits w32 z
 narrow (pos n) a = record { sfits = omega integers }
 narrow (negsuc n) a = record { sfits = omega integers }
 
-pub turn_small : (b : Bool) (start : ℤ) (i : ℕ) → in_range_lem start ≡ true → in_range_lem (turn_of b start i) ≡ true → i ≤ furthest + furthest
+pub turn_small : (b : Bool) (start : ℤ) (i : ℕ) → in_range start ≡ true → in_range (turn_of b start i) ≡ true → i ≤ furthest + furthest
 unfolding turn_of
 turn_small true start i a h = omega (integers, minus start (pos i))
 turn_small false start i a h = omega (integers, plus start (pos i))

@@ -1,9 +1,11 @@
 // What the statements that hold no statements do, and the numbers of a loop.
+#![tactic(auto)]
+
 ghost use Rattle.std.specs.Prelude.{◌≡◌, true, false, ◌+◌, ◌-◌, ◌<◌, ◌≤◌, length, take, ◌-ℤ◌};
 ghost use Rattle.std.proofs.Math.Seq.{slice};
 ghost use Rattle.language.specs.Limits.{longest_program};
 ghost use Rattle.language.specs.Machine.{rounds_of, start_of};
-ghost use Rattle.language.specs.Form.{in_range_lem};
+ghost use Rattle.language.specs.Form.{in_range};
 ghost use Rattle.indexes.specs.Values.{most_values};
 ghost use Rattle.gates.specs.Gates.{code_of, frame_in, direction_of, most_rounds, Repeated, turn_of, nameless_of, Entered, no_wire_of, OnWires, deeper_of, inner_of, entered_of};
 
@@ -18,7 +20,7 @@ pub const LEVELS: u8 = DEEPEST as u8;
 
 // What stays: the limit of steps, how many families may be called, the levels left, how many values are in scope, the
 // direction and the condition.
-#[derive(Drop)]
+#[derive(Clone, Copy)]
 pub struct Mode {
     pub limit: u64,
     pub families_visible: u16,
@@ -104,7 +106,7 @@ pub fn on_wires(
 
 // The number of a loop's rounds.
 fn tally(x: i64, y: i64) -> usize
-    requires { (in_range_lem x ≡ true) × (in_range_lem y ≡ true) }
+    requires { (in_range x ≡ true) × (in_range y ≡ true) }
     ensures { (result ≡ rounds_of (y -ℤ x)) × (result ≤ most_rounds) }
 {
     if y < x {
@@ -125,7 +127,7 @@ fn first_value(reversed: bool, x: i64, y: i64) -> i64
 }
 
 // How a body runs: from which value on, how often, and where it begins.
-#[derive(Drop)]
+#[derive(Clone, Copy)]
 pub enum Repeats {
     Are(i64, usize, usize),
     Over,
@@ -162,7 +164,7 @@ pub fn repeats_of(
 
 // The loop variable in the round i, of a loop whose first value is `start`.
 pub fn turn(reversed: bool, start: i64, i: usize) -> i32
-    requires { (in_range_lem start ≡ true) × (in_range_lem (turn_of reversed start i) ≡ true) }
+    requires { (in_range start ≡ true) × (in_range (turn_of reversed start i) ≡ true) }
     ensures { result ≡ turn_of reversed start i }
 {
     let k = i as i64;

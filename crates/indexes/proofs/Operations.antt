@@ -12,7 +12,7 @@ use lib.IntN.{ℤ}
 use types.Run.{OneOf}
 use denote.Enum.Declared.{tag_of}
 use Rattle.language.specs.Tree.{Place, Index, literal, variable, operation, bad_index, Operation, sum, difference, product}
-use Rattle.language.specs.Form.{in_range_lem}
+use Rattle.language.specs.Form.{in_range}
 use Rattle.language.specs.Read.{Field, field, bad_header, fields, read_index, index_by, deep_index, choose, due, read_literal, read_variable, operation_of, is_index_tag}
 use Rattle.language.specs.Machine.{Run, evaluate, inside, operate, after, ◌>>=◌, no_meaning}
 use Rattle.fields.specs.declared.Header.{Header}
@@ -235,7 +235,7 @@ module _ (l : List ℕ) (from to levels : ℕ) (values : List ℤ) where
         → (p q : Place) → evaluate p values (right_of levels q (slice from to l)) ≡ value_told p v
     right_some second end v f w p q = rw (right_at q) (part_some levels l mid to values p q (q + 3 + (mid - from)) second end v f w)
 
-pub is_ranged : (tag : ℕ) (l : List ℕ) (levels : ℕ) (values : List ℤ) (x : ℤ) → IndexIs tag l levels values (Is x) → in_range_lem x ≡ true
+pub is_ranged : (tag : ℕ) (l : List ℕ) (levels : ℕ) (values : List ℤ) (x : ℤ) → IndexIs tag l levels values (Is x) → in_range x ≡ true
 unfolding Ranged
 is_ranged tag l levels values x w = w.ranged
 
@@ -253,6 +253,6 @@ index_some l at to values tag next v e u = record { ranged = u.ranged; same = λ
 pub index_later : (l : List ℕ) (from n to : ℕ) (values : List ℤ) (v : Value) → IndexAt (slice (from + n) to l) 0 values v → IndexAt (slice from to l) n values v
 index_later l from n to values v u = record { ranged = u.ranged; same = λ p q t. rw (drop-drop n from (take to l)) (u.same p q t) }
 
-pub index_ranged : (l : List ℕ) (at : ℕ) (values : List ℤ) (x : ℤ) → IndexAt l at values (Is x) → in_range_lem x ≡ true
+pub index_ranged : (l : List ℕ) (at : ℕ) (values : List ℤ) (x : ℤ) → IndexAt l at values (Is x) → in_range x ≡ true
 unfolding Ranged
 index_ranged l at values x w = w.ranged

@@ -3,7 +3,7 @@ use Rattle.std.specs.Prelude.{ℕ, ◌+◌, ◌-◌, ◌≤◌, ◌≡◌, List,
 use Rattle.std.proofs.Math.Seq.{slice}
 use Rattle.language.specs.Tree.{Place, bad_index}
 use Rattle.language.specs.Read.{fields, due, outer_index}
-use Rattle.language.specs.Form.{in_range_lem}
+use Rattle.language.specs.Form.{in_range}
 use Rattle.language.specs.Machine.{Run, give, end_at, no_meaning, run_bounds}
 use Rattle.indexes.specs.declared.Value.{Value}
 use Rattle.indexes.specs.declared.Value.TheVariants.{Is, Over as v_over, Stuck as v_stuck}
@@ -24,8 +24,8 @@ bounding p Stuck k = no_meaning
 
 -- the bounds are in range, and what is behind them, in the content from `from` to `to`, begins at `at`
 pub record Behind (l : List ℕ) (from to : ℕ) (x y : ℤ) (at : ℕ) : Type 0 where
-  pub low : in_range_lem x ≡ true
-  pub high : in_range_lem y ≡ true
+  pub low : in_range x ≡ true
+  pub high : in_range y ≡ true
   pub within : at ≤ to
   pub past : from + 6 ≤ at
   pub rest : (q : Place) → drop 2 (fields q (slice from to l)) ≡ fields (q + (at - from)) (slice at to l)

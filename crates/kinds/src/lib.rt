@@ -1,9 +1,11 @@
 // The kinds of operands, and the numbers that stand for them in tables.
+#![tactic(auto)]
+
 ghost use Rattle.std.specs.Prelude.{◌≡◌};
 ghost use Rattle.kinds.specs.Numbers.{number_of, kind_with};
 
 // A Qbit parameter, a quantum register or Qbit[I] parameter, a classical register, or a family parameter.
-#[derive(Drop)]
+#[derive(Clone, Copy)]
 pub enum Kind {
     Qubit,
     Quantum,

@@ -1,4 +1,6 @@
 // The numbers laid out: the qubits and bits that a program declares, and the wires of an instance.
+#![tactic(auto)]
+
 ghost use Rattle.std.specs.Prelude.{◌≡◌, [], ◌∷◌, map, ◌≤◌, length, take};
 ghost use Rattle.std.proofs.Math.Seq.{slice};
 ghost use Rattle.language.specs.Limits.{longest_program, most_parameters};
@@ -23,7 +25,7 @@ const QREG: u8 = 2;
 const CREG: u8 = 3;
 
 // All qubits and all bits that a program declares.
-#[derive(Drop)]
+#[derive(Clone, Copy)]
 pub struct Locations {
     pub qubits: usize,
     pub bits: usize,

@@ -23,6 +23,7 @@ inside_part first size (later i) h k = later (inside_part first size i h k)
 pub inside_trans : (qs rs : List Meaning) {first n : ℕ} → AllLie qs rs → Inside rs first n → Inside qs first n
 inside_trans qs (wires a m ∷ rs) {first} {n} l (here x y) = inside_part first n l.0 x y
 inside_trans qs (r ∷ rs) l (later i) = inside_trans qs rs l.1 i
+inside_trans qs [] {first = first} {n = n} l i = elim i [ ]
 
 lies_trans : (qs rs : List Meaning) (m : Meaning) → AllLie qs rs → Lies rs m → Lies qs m
 lies_trans qs rs (a_wire w) l h = tt

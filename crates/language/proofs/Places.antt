@@ -8,8 +8,9 @@ use native.Mathlib.Omega.{arith}
 use lib.IntN.{ℤ, pos, negsuc}
 use lib.Dec.{leb, ltb, eqb}
 use lib.ListN.{length, get_elem?}
+use Rattle.std.specs.Prelude.{◌+◌}
 use Rattle.language.specs.Limits.{most_wires, record_size, most_halvings}
-use Rattle.language.specs.Form.{in_range_lem}
+use Rattle.language.specs.Form.{in_range}
 use Rattle.language.specs.Tree.{Place, number, missing, Index, literal, variable, operation, bad_index, Operand, whole, element, slice, passed, bad_operand, qbit, qbits, bad_type, ParameterType, plain, family_type, Argument, index, operand, bad_argument}
 use Rattle.language.specs.Tree.{Statement, Statements, gate, cx, phase, cphase, call, call_parameter, reverse, for, bad_statement, nil, cons, Top, family, qreg, creg, measure, reset, if, statement, bad_top}
 use Rattle.language.specs.Read.{read}
@@ -62,7 +63,7 @@ module _ (size : ℕ) where
 
   ends_inside : (p : Place) (z : ℤ) → p ≤ size → EndsWithin (M.inside p z)
   unfolding M.inside
-  ends_inside p z h = ends_cond (in_range_lem z) (ends_give z) (ends_at 24 p h)
+  ends_inside p z h = ends_cond (in_range z) (ends_give z) (ends_at 24 p h)
 
   ends_index : (p : Place) (values : List ℤ) (i : Index) → p ≤ size → EndsWithin (M.evaluate p values i)
   unfolding M.evaluate
@@ -168,9 +169,9 @@ module _ (size : ℕ) where
   ends_layout : (values : List ℤ) (next : ℕ) (types : List ParameterType) → AllOf (FairType size) types → EndsWithin (M.layout values next types)
   unfolding M.layout M.lay_wire M.lay_register M.laid_then
   ends_layout values next [] h = ends_give []
-  ends_layout values next (plain (qbit p e) ∷ types) h = ends_then (ends_laid p _ h.0) (ends_bind (ends_layout values _ types h.1) λ ms. ends_give _)
+  ends_layout values next (plain (qbit p e) ∷ types) h = ends_then (ends_laid p _ h.0) (ends_bind (ends_layout values (next + 1) types h.1) λ ms. ends_give _)
   ends_layout values next (plain (qbits p i e) ∷ types) h =
-      ends_bind (ends_index p values i h.0.0) λ z. ends_bind (ends_natural z) λ n. ends_then (ends_laid p _ h.0.0) (ends_bind (ends_layout values _ types h.1) λ ms. ends_give _)
+      ends_bind (ends_index p values i h.0.0) λ z. ends_bind (ends_natural z) λ n. ends_then (ends_laid p _ h.0.0) (ends_bind (ends_layout values (next + n) types h.1) λ ms. ends_give _)
   ends_layout values next (plain (bad_type n p) ∷ types) h = ends_nothing
   ends_layout values next (family_type p v n xs e ∷ types) h = ends_nothing
 

@@ -15,7 +15,7 @@ use lib.ListN.{length, take, set, length-set}
 use lib.Seq.{slice, take-suc-set}
 use lib.Signed.{lt_z}
 use Rattle.language.proofs.Integers.{integers, range_true}
-use Rattle.language.specs.Form.{in_range_lem}
+use Rattle.language.specs.Form.{in_range}
 use Rattle.language.specs.Limits.{most_parameters, most_wires, furthest}
 use Rattle.language.specs.Tree.{Place, bad_type, ParameterType, plain}
 use Rattle.language.specs.Read.{field, fields, Reader, read_type, read_plain, read_family_type, family_type_of, parts_of, types_of, due, choose, read_qbit, qbits_of}
@@ -39,7 +39,7 @@ use Rattle.layout.specs.declared.Layout.{Layout}
 use Rattle.layout.specs.declared.Layout.TheVariants as a
 use Rattle.layout.specs.Layout.{placed, WithinWires, WireFrom, RegisterFrom, TypeFrom, came_out, laid_with, laid, LaysOut}
 
-pub natural_small : (z : ℤ) → in_range_lem z ≡ true → nat_abs z ≤ furthest
+pub natural_small : (z : ℤ) → in_range z ≡ true → nat_abs z ≤ furthest
 natural_small (pos n) h = omega (integers, range_true)
 natural_small (negsuc n) h = omega (integers, range_true)
 

@@ -1,4 +1,5 @@
 // The limits of programs, instances and records, each once. The definitions have them in specs/Limits of crate language.
+#![tactic(auto)]
 
 // Bytes of a program.
 pub const LONGEST_PROGRAM: usize = 65_535;

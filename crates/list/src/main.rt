@@ -1,5 +1,7 @@
 // Lists a program: reads its bytes from standard input, runs it whole or one family of it at given sizes, and prints a
 // line for each record and last `end NUMBER PLACE RECORDS STEPS`.
+#![tactic(auto)]
+
 mod help;
 mod input;
 

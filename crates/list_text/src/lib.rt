@@ -1,4 +1,6 @@
 // The text of a listing: words and numbers put one after another into a buffer.
+#![tactic(auto)]
+
 ghost use Rattle.std.specs.Prelude.{◌≡◌, ◌++◌, ◌+◌, ◌*◌, ◌-◌, ◌<◌, ◌≤◌, length, take};
 ghost use Rattle.language.specs.Limits.{record_size};
 ghost use Rattle.io.specs.Counts.{IsPrefixLen};
@@ -10,7 +12,7 @@ use limits::RECORD_SIZE;
 const LINE: usize = 128;
 
 // The records up to `next` are in the first `size` bytes of a text.
-#[derive(Drop)]
+#[derive(Clone, Copy)]
 pub struct Chunk {
     pub next: usize,
     pub size: usize,

@@ -1,4 +1,6 @@
 // The words behind the program's name, and what they ask for.
+#![tactic(auto)]
+
 ghost use Rattle.std.specs.Prelude.{◌≡◌, ◌++◌, ◌+◌, ◌*◌, ◌-◌, ◌<◌, ◌≤◌, length, take, drop};
 ghost use Rattle.list_words.specs.Words.{number_in, size_bytes, sizes_in, words_in, request_of};
 ghost use Rattle.list_words.specs.Jobs.{said_by, sizes_meant, SizesHeld, WordAt, meant, Held};
@@ -10,35 +12,35 @@ const TOO_LARGE: u64 = 4294967296;
 const MOST_SIZES: usize = 16;
 
 // What a word says: a number, or nothing.
-#[derive(Drop)]
+#[derive(Clone, Copy)]
 pub enum Word {
     Number(u32),
     Bad,
 }
 
 // Where a word ends and where the next begins.
-#[derive(Drop)]
+#[derive(Clone, Copy)]
 pub struct Span {
     pub end: usize,
     pub next: usize,
 }
 
 // The sizes that words say, as so many bytes, or that one says none.
-#[derive(Drop)]
+#[derive(Clone, Copy)]
 pub enum Sizes {
     Bytes(usize),
     Bad,
 }
 
 // What is listed: the whole program, or a family at sizes of so many bytes.
-#[derive(Drop)]
+#[derive(Clone, Copy)]
 pub enum Job {
     Whole,
     Family(u32, usize),
 }
 
 // What is asked for: a listing, help, or nothing that can be done.
-#[derive(Drop)]
+#[derive(Clone, Copy)]
 pub enum Asked {
     Listing(Job),
     Help,

@@ -1,4 +1,6 @@
 // The library's calls from C.
+#![tactic(auto)]
+
 ghost use Rattle.std.specs.Prelude.{◌≡◌, List, ℕ, ◌*◌, ◌≤◌, length};
 ghost use Rattle.std.proofs.Math.Option.{some};
 ghost use Rattle.language.specs.Machine.{Record};
@@ -19,7 +21,7 @@ use records::{Answer, State};
 
 // The answer of a call: number (0 for done), place, records and steps.
 #[repr(C)]
-#[derive(Drop)]
+#[derive(Clone, Copy)]
 pub struct MetaqasmResult {
     pub number: u32,
     pub place: u32,
@@ -136,7 +138,7 @@ pub extern "C" fn metaqasm_instance(
 
 // The answer of a call that prints: that of the run, and the length of the text.
 #[repr(C)]
-#[derive(Drop)]
+#[derive(Clone, Copy)]
 pub struct MetaqasmTextResult {
     pub number: u32,
     pub place: u32,

@@ -16,7 +16,7 @@ use lib.Signed.{lt_z, non_neg}
 use mir.Syntax.{w64}
 use mir.Val.{Fits}
 use Rattle.language.proofs.Integers.{integers, range_true, plus, minus, ◌≼◌, ≼-pos}
-use Rattle.language.specs.Form.{in_range_lem}
+use Rattle.language.specs.Form.{in_range}
 use Rattle.kinds.specs.declared.Kind.{Kind}
 use Rattle.kinds.specs.declared.Kind.TheVariants.{Qubit, Quantum, Classical, Family as family_kind}
 use Rattle.kinds.specs.Numbers.{kind_with}
@@ -162,7 +162,7 @@ unfolding location_of
 indexed_negative f size (pos i) h = absurd (omega (integers))
 indexed_negative f size (negsuc i) h = refl
 
-pub natural_fits : (z : ℤ) → in_range_lem z ≡ true → lt_z z (pos 0) ≡ false → T (non_neg z) × Fits w64 (nat_abs z)
+pub natural_fits : (z : ℤ) → in_range z ≡ true → lt_z z (pos 0) ≡ false → T (non_neg z) × Fits w64 (nat_abs z)
 natural_fits (pos i) r h = (tt, record { fits = omega (integers, range_true) })
 natural_fits (negsuc i) r h = absurd (omega integers)
 
@@ -188,7 +188,7 @@ ordered (pos m) (pos n) h k = omega integers
 ordered (pos m) (negsuc n) h k = absurd (omega integers)
 ordered (negsuc m) z h k = absurd (omega integers)
 
-pub past_fits : (x y z : ℤ) → z ≡ y +ℤ pos 1 → in_range_lem y ≡ true → lt_z x (pos 0) ≡ false → lt_z z x ≡ false → T (non_neg z) × Fits w64 (nat_abs z)
+pub past_fits : (x y z : ℤ) → z ≡ y +ℤ pos 1 → in_range y ≡ true → lt_z x (pos 0) ≡ false → lt_z z x ≡ false → T (non_neg z) × Fits w64 (nat_abs z)
 past_fits x y (pos n) e r h k = (tt, record { fits = omega (integers, e, range_true y r, plus y (pos 1)) })
 past_fits x y (negsuc n) e r h k = absurd (omega integers)
 

@@ -1,7 +1,9 @@
 // What operands stand for.
+#![tactic(auto)]
+
 ghost use Rattle.std.specs.Prelude.{◌≡◌, true, ◌+◌, ◌*◌, ◌<◌, ◌≤◌, length, take, [], ◌∷◌, ◌++◌, map};
 ghost use Rattle.std.proofs.Math.Seq.{slice};
-ghost use Rattle.language.specs.Form.{in_range_lem};
+ghost use Rattle.language.specs.Form.{in_range};
 ghost use Rattle.language.specs.Limits.{most_registers, most_parameters};
 ghost use Rattle.indexes.specs.Values.{most_values};
 ghost use Rattle.operands.specs.Meanings.{register_numbers, of_parameter, register_of, registers_of, clipped, operands_of, OperandIs, location_in, location_of, ElementIs, RunIs, SliceIs, OverIn, SliceMeans, PassedMeans, FieldMeans, AsWire, WireAt, AsBit, BitAt, FamilyOf};
@@ -18,29 +20,29 @@ pub const REGISTER_NUMBERS: usize = 3 * MOST_REGISTERS;
 const LOCATIONS: usize = 65_535;
 
 // A quantum location.
-#[derive(Drop)]
+#[derive(Clone, Copy)]
 pub struct Wire(pub u16);
 
 // A classical location.
-#[derive(Drop)]
+#[derive(Clone, Copy)]
 pub struct Bit(pub u16);
 
 // What a parameter stands for: one wire, a register or a run of its wires, with the first wire and the size, or the family with a
 // number.
-#[derive(Drop)]
+#[derive(Clone, Copy)]
 pub enum Operand {
     Single(Wire),
     Register { first: Wire, size: u16 },
     Family(u16),
 }
 
-#[derive(Drop)]
+#[derive(Clone, Copy)]
 pub struct Parameter {
     pub operand: Operand,
 }
 
 // The operands in scope: the first `count` of a family's parameters, or at the top of the registers of a table.
-#[derive(Drop)]
+#[derive(Clone, Copy)]
 pub struct Scope {
     pub params: [Parameter; MOST_PARAMETERS],
     pub count: u8,
@@ -48,7 +50,7 @@ pub struct Scope {
 }
 
 // What an operand stands for, or that an index is out of range, or that it stands for nothing.
-#[derive(Drop)]
+#[derive(Clone, Copy)]
 pub enum OperandMeaning {
     AWire(Wire),
     ABit(Bit),
@@ -60,7 +62,7 @@ pub enum OperandMeaning {
 }
 
 // A location's number, or none.
-#[derive(Drop)]
+#[derive(Clone, Copy)]
 pub enum Location {
     At(u16),
     Nowhere,
@@ -161,7 +163,7 @@ fn locate(first: u16, size: u16, i: usize) -> Location
 
 // The location that an index names in a register.
 fn indexed(first: u16, size: u16, z: i64) -> Location
-    requires { in_range_lem z ≡ true }
+    requires { in_range z ≡ true }
     ensures { result ≡ location_of first size z }
 {
     if z < 0 {
@@ -172,7 +174,7 @@ fn indexed(first: u16, size: u16, z: i64) -> Location
 
 // What an element stands for.
 fn element(s: OperandMeaning, z: i64) -> OperandMeaning
-    requires { in_range_lem z ≡ true }
+    requires { in_range z ≡ true }
     ensures { ElementIs s z result }
 {
     match s {
@@ -210,7 +212,7 @@ pub fn room_of(first: u16, size: u16) -> usize
 
 // The run of wires from x to y in a register.
 fn run_of(first: Wire, size: u16, x: i64, y: i64) -> OperandMeaning
-    requires { (in_range_lem x ≡ true) × (in_range_lem y ≡ true) }
+    requires { (in_range x ≡ true) × (in_range y ≡ true) }
     ensures { RunIs first size x y result }
 {
     if x < 0 {
@@ -232,7 +234,7 @@ fn run_of(first: Wire, size: u16, x: i64, y: i64) -> OperandMeaning
 
 // What a slice from x to y stands for.
 fn sliced(s: OperandMeaning, x: i64, y: i64) -> OperandMeaning
-    requires { (in_range_lem x ≡ true) × (in_range_lem y ≡ true) }
+    requires { (in_range x ≡ true) × (in_range y ≡ true) }
     ensures { SliceIs s x y result }
 {
     match s {
@@ -328,7 +330,7 @@ pub fn meaning(
 }
 
 // The wire that an operand stands for.
-#[derive(Drop)]
+#[derive(Clone, Copy)]
 pub enum WireMeaning {
     Is(Wire),
     Over,
@@ -375,7 +377,7 @@ pub fn wire_at(
 }
 
 // The bit that an operand stands for.
-#[derive(Drop)]
+#[derive(Clone, Copy)]
 pub enum BitMeaning {
     Is(Bit),
     Over,
@@ -418,7 +420,7 @@ pub fn bit_at(
 }
 
 // The family that an operand stands for.
-#[derive(Drop)]
+#[derive(Clone, Copy)]
 pub enum FamilyMeaning {
     Is(u16),
     Stuck,

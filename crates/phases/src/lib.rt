@@ -1,4 +1,6 @@
 // What gates and phases write: their k, their op, and their records.
+#![tactic(auto)]
+
 ghost use Rattle.std.specs.Prelude.{◌≡◌, ◌≤◌, length, take};
 ghost use Rattle.std.proofs.Math.Seq.{slice};
 ghost use Rattle.language.specs.Limits.{longest_program};
@@ -14,7 +16,7 @@ use operands::{REGISTER_NUMBERS, Scope};
 use records::{Answer, State};
 
 // A phase's k, and where its operands begin; or why it has none.
-#[derive(Drop)]
+#[derive(Clone, Copy)]
 pub enum Halvings {
     Are(usize, usize),
     Over,
@@ -73,7 +75,7 @@ fn cphase_op(reversed: bool) -> u8
 }
 
 // What a gate or a phase writes, and on what: whether on a single wire, its op, its k, or 0 for it, and where its operands begin.
-#[derive(Drop)]
+#[derive(Clone, Copy)]
 pub enum Parts {
     Are(bool, u8, usize, usize),
     Over,

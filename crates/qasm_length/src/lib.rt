@@ -1,4 +1,6 @@
 // The length of a list's text, measured without writing it.
+#![tactic(auto)]
+
 ghost use Rattle.std.specs.Prelude.{◌≡◌, ◌+◌, ◌*◌, ◌^◌, ◌≤◌, length};
 ghost use Rattle.language.specs.Limits.{record_size, most_halvings};
 ghost use Rattle.text_bytes.specs.Decimal.{width};
@@ -13,7 +15,7 @@ use limits::RECORD_SIZE;
 const FIRST_LINES: usize = 36;
 
 // Whether a text fits, and its length.
-#[derive(Drop)]
+#[derive(Clone, Copy)]
 pub enum TextLength {
     Fits(usize),
     TooLong,

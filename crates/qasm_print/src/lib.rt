@@ -1,4 +1,6 @@
 // Prints a list as OpenQASM 2.0 text: words and numbers put one after another into a buffer.
+#![tactic(auto)]
+
 ghost use Rattle.std.specs.Prelude.{◌≡◌, List, ◌++◌, ◌+◌, ◌*◌, ◌^◌, ◌≤◌, ◌<◌, length};
 ghost use Rattle.std.proofs.Math.Option.{some};
 ghost use Rattle.language.specs.Limits.{record_size, most_halvings};

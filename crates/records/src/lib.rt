@@ -1,4 +1,6 @@
 // Records in the output.
+#![tactic(auto)]
+
 ghost use Rattle.std.specs.Prelude.{◌≡◌, [], ◌+◌, ◌<◌, ◌≤◌, length};
 ghost use Rattle.std.proofs.lemmas.List.Edits.{sets};
 ghost use Rattle.language.specs.Limits.{longest_program, record_size};
@@ -9,14 +11,14 @@ use limits::{MOST_HALVINGS, RECORD_SIZE};
 use operands::Bit;
 
 // What changes as a program runs: the bytes written, and the steps taken.
-#[derive(Drop)]
+#[derive(Clone, Copy)]
 pub struct State {
     pub written: usize,
     pub steps: u64,
 }
 
 // How a part of a run comes out: it goes on, it ends with a refusal at a place, or it has no meaning.
-#[derive(Drop)]
+#[derive(Clone, Copy)]
 pub enum Answer {
     Going(State),
     Ended(u16, u16, State),
@@ -24,7 +26,7 @@ pub enum Answer {
 }
 
 // The condition of the gates written.
-#[derive(Drop)]
+#[derive(Clone, Copy)]
 pub enum Condition {
     Always,
     IsZero(Bit),
@@ -48,7 +50,7 @@ pub fn take_step(limit: u64, place: usize, st: State) -> Answer
 }
 
 // A condition's byte and its bit.
-#[derive(Drop)]
+#[derive(Clone, Copy)]
 struct Pair(u8, u16);
 
 fn low(n: u16) -> u8

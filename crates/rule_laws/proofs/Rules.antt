@@ -11,7 +11,7 @@ use Rattle.language.specs.Limits.{most_variables, most_loops}
 use Rattle.language.specs.Tree.{Place, Refusal, Ending, Number, Index, literal, variable, operation, bad_index, Operand, whole, element, slice, passed, bad_operand}
 use Rattle.language.specs.Tree.{PlainType, qbit, qbits, bad_type, ParameterType, plain, family_type, Argument, index, operand, bad_argument}
 use Rattle.language.specs.Tree.{Statement, Statements, gate, cx, phase, cphase, call, call_parameter, reverse, for, bad_statement, nil, cons, Top, family, qreg, creg, measure, reset, if, statement, bad_top}
-use Rattle.language.specs.Form.{Form, Built, built, difference_of, ◌thenBuild◌, Loop}
+use Rattle.language.specs.Form.{Form, Built, built, difference_of, ◌then_build◌, Loop}
 use Rattle.language.specs.Check as C
 use Rattle.language.specs.Check.{Checked, good, refused, ◌>>=◌, ◌>>◌, fine, require, Rules, Kind, qubit, quantum, classical, formal, Signature, Scope, form_of, must_show, Due, wire, bit, register, fitting}
 use Rattle.language.specs.Check.{same_wire, check_bounds, in_loop, Declared, top_scope_by, family_scope_by, check_counts}

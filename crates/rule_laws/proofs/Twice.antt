@@ -11,7 +11,7 @@ use borrow.Author.Tests.{eqb-true, eq-eqb, ltb-true}
 use lib.ListN.{length, get_elem?}
 use Rattle.language.specs.Limits.{all_variables}
 use Rattle.language.specs.Tree.{Place, Ending, Index, literal, variable, operation, bad_index, Operand, whole, element, slice, passed, bad_operand, Statement}
-use Rattle.language.specs.Form.{Form, in_range_lem, constant_form, variable_form}
+use Rattle.language.specs.Form.{Form, in_range, constant_form, variable_form}
 use Rattle.language.specs.Check as C
 use Rattle.language.specs.Check.{Checked, good, refused, fine, Scope, form_of, no_leftover, require, equal_forms, same_wire}
 use Rattle.language.specs.Machine as M
@@ -105,7 +105,7 @@ module _ {p : Place} where
 
   looks_inside : (z : ℤ) → Looks p (λ x. x ≡ z) (M.inside p z)
   unfolding M.inside
-  looks_inside z = looks_cond (in_range_lem z) (looks_give refl) (record { looks = λ t. outside })
+  looks_inside z = looks_cond (in_range z) (looks_give refl) (record { looks = λ t. outside })
 
   looks_natural : (z : ℤ) → Looks p Any (M.natural_of z)
   unfolding M.natural_of

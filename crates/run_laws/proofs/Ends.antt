@@ -10,7 +10,7 @@ use borrow.Author.Tests.{ltb-true, ltb-false, leb-true, leb-false, eqb-true, le-
 use lib.ListN.{length, length-append}
 use Rattle.language.specs.Limits.{most_wires, record_size, most_halvings}
 use Rattle.language.specs.Tree.{Place}
-use Rattle.language.specs.Form.{in_range_lem}
+use Rattle.language.specs.Form.{in_range}
 use Rattle.language.specs.Machine as M
 use Rattle.language.specs.Machine.{Wire, Action, Frame, State, Outcome, going, ended, stuck, Run, after, done}
 use Rattle.run_laws.specs.Ends.{Event, step_at, value_at, pair_at, halvings_at, record_at, layout_at, no_meaning, changed, meet, Ends, too_many_wires, out_of_range, one_wire, too_many_halvings, limit_used_up, output_full, EventLaw, meet_all, First, FirstLaw, Room, RoomIn, RoomLaw, HandedOn, GateLaw, CxLaw, PhaseLaw, CphaseLaw}
@@ -68,9 +68,9 @@ module _ (limit room : ℕ) where
 
   value_only : (p : Place) (z : ℤ) (s : State) (n q : ℕ) (t : State) → meet limit room (value_at p z) s ≡ ended n q t → (t ≡ s) × Ends limit room s (value_at p z) n q
   unfolding meet M.inside M.◌>>=◌ after
-  value_only p z s n q t h = go (in_range_lem z) refl h
+  value_only p z s n q t h = go (in_range z) refl h
     where
-      go : (b : Bool) → in_range_lem z ≡ b → after (cond b (M.give z) (M.end_at 24 p) s) (λ x. done) ≡ ended n q t → (t ≡ s) × Ends limit room s (value_at p z) n q
+      go : (b : Bool) → in_range z ≡ b → after (cond b (M.give z) (M.end_at 24 p) s) (λ x. done) ≡ ended n q t → (t ≡ s) × Ends limit room s (value_at p z) n q
       go true e k = absurd (not_ended k)
       go false e k = same_ends (out_of_range e) (parts k)
 
@@ -119,7 +119,7 @@ module _ (limit room : ℕ) where
   goes_so : (e : Event) (s t : State) → meet limit room e s ≡ going tt t → t ≡ changed e s
   unfolding meet changed M.step M.write M.inside M.apart M.few_halvings M.laid_out M.◌>>=◌ after
   goes_so (step_at p) s t h = going_either 26 p s (ltb s.steps limit) h
-  goes_so (value_at p z) s t h = go (in_range_lem z) h
+  goes_so (value_at p z) s t h = go (in_range z) h
     where
       go : (b : Bool) → after (cond b (M.give z) (M.end_at 24 p) s) (λ x. done) ≡ going tt t → t ≡ s
       go true k = same_going k
@@ -186,7 +186,7 @@ module _ (limit room : ℕ) where
       go : (b : Bool) → ltb s.steps limit ≡ b → RoomIn limit room (cond b (going tt (record { records = s.records; steps = suc s.steps })) (ended 26 p s))
       go true e = record { few = ltb-true s.steps limit e; fit = h.fit }
       go false e = h
-  room_met (value_at p z) s h = go (in_range_lem z)
+  room_met (value_at p z) s h = go (in_range z)
     where
       go : (b : Bool) → RoomIn limit room (after (cond b (M.give z) (M.end_at 24 p) s) (λ x. done))
       go true = h

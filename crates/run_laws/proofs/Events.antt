@@ -8,7 +8,7 @@ use lib.IntN.{ℤ, pos, negsuc}
 use native.Mathlib.Omega.{arith}
 use lib.Dec.{ltb, eqb}
 use lib.ListN.{length, get_elem?}
-use Rattle.language.specs.Form.{in_range_lem}
+use Rattle.language.specs.Form.{in_range}
 use Rattle.language.specs.Tree as T
 use Rattle.language.specs.Tree.{Place, number, missing, Index, literal, variable, operation, bad_index, Operand, whole, element, slice, passed, bad_operand, qbit, qbits, bad_type, ParameterType, family_type, Argument, index, operand, bad_argument}
 use Rattle.language.specs.Tree.{Statement, Statements, gate, cx, phase, cphase, call, call_parameter, reverse, for, bad_statement, nil, cons, Top, family, qreg, creg, measure, reset, if, statement, bad_top}
@@ -112,7 +112,7 @@ through_laid p n = one_event (layout_at p n) tt (λ l r s. kept (M.laid_out p n 
 
 through_inside : (p : Place) (z : ℤ) → Passes (λ l r. M.inside p z)
 unfolding meet M.inside M.◌>>=◌ after
-through_inside p z = one_event (value_at p z) z (λ l r s. go (in_range_lem z) s)
+through_inside p z = one_event (value_at p z) z (λ l r s. go (in_range z) s)
   where
     go : (b : Bool) (s : State) → cond b (give z) (M.end_at 24 p) s ≡ after (after (cond b (give z) (M.end_at 24 p) s) (λ x. done)) (λ u. give z)
     go true s = refl

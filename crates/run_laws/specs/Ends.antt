@@ -3,7 +3,7 @@ use Rattle.std.specs.Prelude.{◌≡◌, List, [], ◌∷◌, ◌++◌, false, �
 use Rattle.std.proofs.Math.ListN.{get_elem?}
 use Rattle.language.specs.Limits.{most_wires, record_size, most_halvings}
 use Rattle.language.specs.Tree.{Place, Refusal, Ending, Gate, Index, Operand, gate, cx, phase, cphase, Top}
-use Rattle.language.specs.Form.{in_range_lem}
+use Rattle.language.specs.Form.{in_range}
 use Rattle.language.specs.Machine.{Wire, Action, do_cx, do_phase, do_cphase, Frame, Family, State, Outcome, going, ended, stuck, Run, after, ◌>>=◌, ◌>>◌, done, found, inside, halvings, few_halvings, wire_of, apart, written, laid_out, begin}
 use Rattle.language.specs.Machine as M
 
@@ -50,7 +50,7 @@ module _ (limit room : ℕ) where
   -- the conditions for an end, in the state s: a run has no other ends
   pub data Ends (s : State) : Event → Refusal → Place → Type 0 where
     too_many_wires : {p : Place} {n : ℕ} → most_wires < n → Ends s (layout_at p n) 23 p
-    out_of_range : {p : Place} {z : ℤ} → in_range_lem z ≡ false → Ends s (value_at p z) 24 p
+    out_of_range : {p : Place} {z : ℤ} → in_range z ≡ false → Ends s (value_at p z) 24 p
     one_wire : {p : Place} {x y : Wire} → x.number ≡ y.number → Ends s (pair_at p x y) 25 p
     too_many_halvings : {p : Place} {k : ℕ} → most_halvings < k → Ends s (halvings_at p k) 32 p
     limit_used_up : {p : Place} → limit ≤ s.steps → Ends s (step_at p) 26 p

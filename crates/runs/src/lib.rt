@@ -1,4 +1,6 @@
 // Whole runs and instances of accepted programs.
+#![tactic(auto)]
+
 ghost use Rattle.std.specs.Prelude.{◌≡◌, true, [], ◌∷◌, ◌++◌, ℕ, ◌+◌, ◌*◌, ◌≤◌, ◌<◌, length, take};
 ghost use Rattle.std.proofs.Math.Option.{some};
 ghost use Rattle.std.proofs.Math.ListN.{get_elem?};
@@ -30,7 +32,7 @@ use records::{Answer, Condition, State};
 const UNDER_CONDITION: u8 = LEVELS - 1;
 
 // How much a program has declared so far: families, registers, qubits and bits.
-#[derive(Drop)]
+#[derive(Clone, Copy)]
 pub struct Totals {
     pub families: usize,
     pub registers: usize,

@@ -1,4 +1,6 @@
 // The showing of a form as a call from C, with how far it goes (include/metaqasm_showing.h).
+#![tactic(auto)]
+
 ghost use Rattle.std.specs.Prelude.{◌≡◌, true, length};
 ghost use Rattle.language.specs.Form.{all_in_range};
 ghost use Rattle.forms.specs.Flat.{Kept, form_numbers, shown_of};
@@ -13,7 +15,7 @@ const NO_FORMS: u32 = 255;
 
 // The answer of a showing: its number, how many loop variables the plain rule went through, and how many trials were made.
 #[repr(C)]
-#[derive(Drop)]
+#[derive(Clone, Copy)]
 pub struct ShowingResult {
     pub number: u32,
     pub through: u32,

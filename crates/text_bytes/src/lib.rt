@@ -1,4 +1,6 @@
 // Words put into a buffer of text.
+#![tactic(auto)]
+
 ghost use Rattle.text_bytes.specs.Buffers.{Room, Puts};
 
 // Puts a word into the text at `from` and answers where it ends.

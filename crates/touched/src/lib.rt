@@ -1,4 +1,6 @@
 // Fills a map with the wires that the records in an output name, and counts them.
+#![tactic(auto)]
+
 ghost use Rattle.std.specs.Prelude.{◌≡◌, [], ◌+◌, ◌*◌, ◌≤◌, ◌<◌, length, take};
 ghost use Rattle.language.specs.Limits.{record_size};
 ghost use Rattle.written_records.specs.AnyBytes.{record_from, records_from};

@@ -10,7 +10,7 @@ use lib.Seq.{slice}
 use lib.Dec.{eqb}
 use lib.IntN.{ℤ, pos, ◌-ℤ◌}
 use Rattle.indexes.specs.Values.{most_values}
-use Rattle.language.specs.Form.{in_range_lem}
+use Rattle.language.specs.Form.{in_range}
 use Rattle.language.specs.Read.{fields, read_statement, statements_by}
 use Rattle.language.specs.Machine.{run_for, Run, no_meaning, end_at, step, rounds, rounds_of, start_of, in_round, in_direction, run_statements, ◌>>◌}
 use Rattle.operands.specs.declared.Scope.{Scope}
@@ -109,11 +109,11 @@ module _ (mode : Mode) (room base from to place tag : ℕ) (bytes program : List
     pub low : from ≤ body
     pub high : body ≤ to
     pub often : Often (eqb tag 38) (inner_of mode tag) start total
-    pub ranged : in_range_lem start ≡ true
+    pub ranged : in_range start ≡ true
     pub is : whole ≡ (step mode.limit room place >> bodied start total body)
 
   reverse_opens : tag ≡ 37 → from ≤ to → (start : ℤ) (total body : ℕ) → R.Are start total body ≡ R.Are (pos 0) 1 from → Opens start total body
-  unfolding Often in_range_lem
+  unfolding Often in_range
   reverse_opens t h start total body q =
       let u : start ≡ pos 0 = cc in
       let v : total ≡ 1 = cc in

@@ -9,7 +9,7 @@ use denote.Enum.Declared.{tag_of}
 use lib.IntN.{ℤ}
 use lib.ListN.{length, take, set}
 use lib.Seq.{take-suc-set, take-set-le, take-take}
-use Rattle.language.specs.Form.{in_range_lem}
+use Rattle.language.specs.Form.{in_range}
 use Rattle.language.specs.Machine.{Run, Frame, done, no_meaning, step, rounds, in_round, after, ◌>>=◌, ◌>>◌}
 use Rattle.language.proofs.Runs.{then_done}
 use Rattle.operands.specs.declared.Scope.{Scope}
@@ -156,7 +156,7 @@ module _ (looping : Bool) (mode : Mode) (place : ℕ) (start : ℤ) (i : ℕ) (v
     turned_none (Ended n p t) h k = rw e (record { none = h; kept = refl })
     turned_none Stuck h k = absurd h
 
-    pub turns_are : Turns looping mode start i → (1 ≤ mode.variables) × (in_range_lem start ≡ true) × (in_range_lem (turn_of mode.reversed start i) ≡ true)
+    pub turns_are : Turns looping mode start i → (1 ≤ mode.variables) × (in_range start ≡ true) × (in_range (turn_of mode.reversed start i) ≡ true)
     unfolding Turns
     turns_are w = rw e at w
 

@@ -1,4 +1,6 @@
 // The unroller's cycle: statements, lists, rounds and calls.
+#![tactic(auto)]
+
 ghost use Rattle.std.specs.Prelude.{◌≡◌, true, ◌+◌, ◌-◌, ◌<◌, ◌≤◌, length, get_or, take};
 ghost use Rattle.std.proofs.Math.Seq.{slice};
 ghost use Rattle.language.specs.Limits.{longest_program};
@@ -30,7 +32,7 @@ fn listed(table: &[u16], n: u16) -> usize
 }
 
 // The family that a call calls, with the position of its arguments, or that it has no meaning.
-#[derive(Drop)]
+#[derive(Clone, Copy)]
 pub enum Called {
     Family(u16, usize),
     Stuck,
@@ -88,7 +90,7 @@ fn begin_round(
 }
 
 // A reverse or a for whose step is taken: where its content begins, its tag, what stays in it, and the state.
-#[derive(Drop)]
+#[derive(Clone, Copy)]
 pub struct Nested {
     pub from: usize,
     pub tag: u8,

@@ -1,0 +1,17 @@
+-- `calls::takes` meets its contract. Assumes nothing.
+use borrow.Author.Rules.{rules}
+use Rattle.calls.proofs.Types.{takes_quantum, takes_family_lem, takes_single}
+use borrow.Enum.Refused.{opened}
+use Rattle.calls.proofs.takes.Goals as goal
+
+pub returns-in-Quantum : goal.returns-in-Quantum
+returns-in-Quantum c =
+    takes_quantum c.args.tag c.args.kind c.in-Quantum.is
+
+pub returns-in-Family : goal.returns-in-Family
+returns-in-Family c =
+    takes_family_lem c.args.tag c.args.kind c.in-Family.is
+
+pub returns : goal.returns
+returns c =
+    takes_single c.args.tag c.args.kind (opened c.in_default.in_default-own.keys2) (opened c.in_default-kind.in_default-kind-own.keys2)

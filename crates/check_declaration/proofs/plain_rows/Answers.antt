@@ -1,0 +1,120 @@
+-- `check_declaration::plain_rows` meets its contract. Assumes nothing.
+use mathlib.Core.Path.{◌≡◌, sym, ap, ◌∙◌}
+use mathlib.Core.List.{List, [], ◌++◌}
+use Prim.Native.Nat.{ℕ, suc, ◌+◌, ◌*◌, ◌-◌, ◌≤◌}
+use native.Mathlib.Omega.{arith}
+use borrow.Author.Rules.{rules}
+use lib.ListN.{length}
+use Rattle.language.specs.Tree.{bad_type}
+use Rattle.language.specs.Read.{read_plain, parts_of}
+use Rattle.language.specs.Check.{Checked, good, ◌>>=◌, Kind, Signature, plain_kinds}
+use Rattle.fields.specs.Header.{fields_at}
+use Rattle.check_operand.specs.Tables.{Formals, scope_with, kinds_at}
+use Rattle.check_index.specs.Answers.{Beyond}
+use Rattle.check_index.proofs.Answers.{beyond_none, beyond_more, beyond_stops, passes_upto}
+use Rattle.check_declaration.specs.Types.{Apart, InUse, PlainRows, checked_rows}
+use Rattle.check_declaration.proofs.Tables.{apart_none, apart_more, in_use_upto, rows_below}
+use Rattle.check_declaration.proofs.Types.{plain_level, rows_stop, types_stop, types_go, more_kinds, no_kinds, all_kinds}
+use Rattle.check_declaration.proofs.Formals.{no_plain, more_plain, plain_upto, within_stops, after_stops, plain_stops}
+use borrow.Enum.Refused.{opened}
+use Rattle.check_declaration.proofs.plain_rows.Goals as goal
+
+pub loop-j-init : goal.loop-j-init
+loop-j-init c =
+    let a = c.args in
+    (omega arith, apart_none (length a.program.now) a.first a.count a.kinds.now a.sizes.now c.requires.operand_table, beyond_none a.program.now a.at a.to, c.requires.in_use, c.requires.at_le_to.0, omega arith, no_plain a.first a.kinds.now, (λ fs ks g. let z : a.count - 0 ≡ a.count = omega arith in rw z (no_kinds g _ a.first a.kinds.now a.sizes.now)))
+
+pub overflow_add-row : goal.overflow_add-row
+overflow_add-row c =
+    let h = c.loop-j-test.true in
+    let r = c.requires.count_in_bounds in
+    omega (arith, c.well_formed, c.loop-j.invariant.1.kinds_same)
+
+pub plain_row-r-requires : goal.plain_row-r-requires
+plain_row-r-requires c =
+    let h = c.loop-j-test.true in
+    let r = c.requires.count_in_bounds in
+    record {
+      to_in_bounds = c.requires.to_in_bounds;
+      m_le_most_variables = c.requires.m_le_most_variables;
+      program_len_bound = c.requires.at_le_to.1;
+      row_in_bounds = omega (arith, c.loop-j.invariant.1.kinds_same);
+      in_use = c.loop-j.invariant.3;
+      operand_table = c.loop-j.invariant.1.table;
+    }
+
+pub shape_of-kinds-in_default : goal.shape_of-kinds-in_default
+shape_of-kinds-in_default c =
+    c.plain_row-r.ensures.apart.kinds_same ∙ c.loop-j.invariant.1.kinds_same
+
+pub shape_of-sizes-in_default : goal.shape_of-sizes-in_default
+shape_of-sizes-in_default c =
+    c.plain_row-r.ensures.apart.sizes_same ∙ c.loop-j.invariant.1.sizes_same
+
+pub returns-in_default : goal.returns-in_default
+returns-in_default c =
+    let a = c.args in
+    let program = a.program.now in
+    let i = c.loop-j in
+    let kinds = c.plain_row-r.new.kinds in
+    let sizes = c.plain_row-r.new.sizes in
+    let e : a.count - i.j ≡ suc (a.count - (i.j + 1)) = (let h = c.loop-j-test.true in omega arith) in
+    let sofar : Formals → List Kind → Checked (List Kind) = λ g rest. good (kinds_at g i.j a.first i.kinds i.sizes ++ rest) in
+    let last = apart_more (length program) a.first a.count i.j c.loop-j-test.true i.invariant.1 c.plain_row-r.ensures.apart in (
+      λ fs ks g. rows_stop g c.plain_row-r.result a.count a.first kinds sizes (sofar g) (opened c.in_default.in_default-own.keys2)
+          ∙ ap (λ (c : Checked (List Kind)). c >>= sofar g) (types_stop (plain_level (scope_with fs ks a.m []) a.parent) (a.count - (i.j + 1)) program i.from a.to g c.plain_row-r.result (a.first + i.j) kinds sizes (c.plain_row-r.ensures.sizes_after fs ks g) a.count a.first (opened c.in_default.in_default-own.keys2)
+          ∙ ap (λ (n : ℕ). plain_kinds (scope_with fs ks a.m []) (parts_of read_plain (bad_type 4 a.parent) n (fields_at program i.from a.to))) (sym e))
+          ∙ sym (i.invariant.7 fs ks g),
+      (beyond_stops program a.at a.to a.count c.plain_row-r.result (opened c.in_default.in_default-own.keys2), (within_stops a.at a.to a.count c.plain_row-r.result (opened c.in_default.in_default-own.keys2), (after_stops 0 a.registers c.plain_row-r.result kinds (opened c.in_default.in_default-own.keys2), (plain_stops c.plain_row-r.result a.count a.first kinds (opened c.in_default.in_default-own.keys2), last)))),
+    )
+
+pub loop-j-preserved : goal.loop-j-preserved
+loop-j-preserved c =
+    let a = c.args in
+    let program = a.program.now in
+    let i = c.loop-j in
+    let kinds = c.plain_row-r.new.kinds in
+    let sizes = c.plain_row-r.new.sizes in
+    let e : a.count - i.j ≡ suc (a.count - (i.j + 1)) = (let h = c.loop-j-test.true in omega arith) in
+    let sofar : Formals → List Kind → Checked (List Kind) = λ g rest. good (kinds_at g i.j a.first i.kinds i.sizes ++ rest) in
+    let next = c.in-Upto.next in
+    let v = passes_upto program i.from a.to c.plain_row-r.result next c.in-Upto.is c.plain_row-r.ensures.passes in
+    let used = in_use_upto 0 a.registers next c.plain_row-r.result kinds c.in-Upto.is c.plain_row-r.ensures.in_use_after in
+    let one = plain_upto c.plain_row-r.result next 1 (a.first + i.j) kinds c.in-Upto.is c.plain_row-r.ensures.plain_after in
+    let h = c.loop-j-test.true in
+    let low = i.invariant.5 in (
+      omega arith,
+      apart_more (length program) a.first a.count i.j h i.invariant.1 c.plain_row-r.ensures.apart,
+      beyond_more program a.at a.to i.j i.from next i.invariant.2 v,
+      used,
+      v.high,
+      omega (arith, v.low),
+      more_plain (length program) a.first i.j i.kinds kinds i.sizes sizes i.invariant.6 c.plain_row-r.ensures.apart one,
+      (λ fs ks g. i.invariant.7 fs ks g
+          ∙ ap (λ (n : ℕ). plain_kinds (scope_with fs ks a.m []) (parts_of read_plain (bad_type 4 a.parent) n (fields_at program i.from a.to)) >>= sofar g) e
+          ∙ ap (λ (c : Checked (List Kind)). c >>= sofar g) (types_go (plain_level (scope_with fs ks a.m []) a.parent) (a.count - (i.j + 1)) program i.from a.to g c.plain_row-r.result (a.first + i.j) kinds sizes (c.plain_row-r.ensures.sizes_after fs ks g) next c.in-Upto.is v)
+          ∙ more_kinds (plain_kinds (scope_with fs ks a.m []) (parts_of read_plain (bad_type 4 a.parent) (a.count - (i.j + 1)) (fields_at program next a.to))) a.first i.j g g i.kinds i.sizes kinds sizes (rows_below (length program) (a.first + i.j) 1 i.j a.first c.plain_row-r.ensures.apart (omega arith) g)),
+    )
+
+pub shape_of-kinds : goal.shape_of-kinds
+shape_of-kinds c =
+    c.loop-j.invariant.1.kinds_same
+
+pub shape_of-sizes : goal.shape_of-sizes
+shape_of-sizes c =
+    c.loop-j.invariant.1.sizes_same
+
+pub returns : goal.returns
+unfolding checked_rows
+returns c =
+    let a = c.args in
+    let program = a.program.now in
+    let i = c.loop-j in
+    let h = c.loop-j-test.false in
+    let b = i.invariant.0 in
+    let z : a.count - i.j ≡ 0 = omega arith in
+    let y : i.j ≡ a.count = omega arith in
+    let low = i.invariant.5 in (
+      λ fs ks g. sym (i.invariant.7 fs ks g ∙ ap (λ (n : ℕ). plain_kinds (scope_with fs ks a.m []) (parts_of read_plain (bad_type 4 a.parent) n (fields_at program i.from a.to)) >>= λ rest. good (kinds_at g i.j a.first i.kinds i.sizes ++ rest)) z ∙ all_kinds (plain_level (scope_with fs ks a.m []) a.parent) (fields_at program i.from a.to) (kinds_at g i.j a.first i.kinds i.sizes) ∙ ap (λ (n : ℕ). good (kinds_at g n a.first i.kinds i.sizes)) y),
+      (rw y at i.invariant.2, ((omega arith, i.invariant.4), (i.invariant.3, (rw y at i.invariant.6, i.invariant.1)))),
+    )

@@ -1,0 +1,196 @@
+-- `check_declaration::register` meets its contract. Assumes nothing.
+use borrow.Author.Rules.{rules}
+use mathlib.Core.Path.{◌≡◌, sym, ap, ◌∙◌}
+use Prim.Native.Nat.{ℕ, ◌+◌, ◌≤◌, ◌<◌}
+use native.Mathlib.Omega.{arith}
+use lib.IntN.{pos}
+use lib.ListN.{length, get_or}
+use lib.Seq.{slice, length-slice, get_or-set_same}
+use Rattle.language.specs.Form.{constant_form}
+use Rattle.language.proofs.Integers.{range_yes, range_back}
+use Rattle.forms.specs.Flat.{as_form}
+use Rattle.check_operand.specs.Tables.{kind_in, size_of_row}
+use Rattle.check_declaration.proofs.Sizes.{constant_narrow}
+use Rattle.check_declaration.specs.Types.{size_row}
+use Rattle.check_declaration.specs.Registers.{checked_register}
+use Rattle.check_declaration.proofs.Registers.{size_fits_lem, size_two, register_stops}
+use Rattle.check_declaration.proofs.Tables.{apart_both, row_both, in_use_set, number_size}
+use borrow.Enum.Refused.{opened}
+use Rattle.check_declaration.proofs.register.Goals as goal
+
+pub returns-in_default : goal.returns-in_default
+returns-in_default c =
+    let a = c.args in
+    let program = a.program.now in
+    record {
+      result_value = c.register_size-r.ensures;
+      register_set = register_stops (length program) a.next c.register_size-r.result a.kind a.count a.total a.most a.kinds.now a.sizes.now a.kinds.now a.sizes.now (opened c.in_default.in_default-own.keys2);
+    }
+
+pub overflow_cast-size : goal.overflow_cast-size
+overflow_cast-size c =
+    let a = c.args in
+    let program = a.program.now in
+    let content = slice (a.at + 3) a.next program in
+    let n = c.in-Upto.size in
+    let f = size_fits_lem c.register_size-r.result n a.at a.count a.total a.most content c.in-Upto.is c.register_size-r.ensures in
+    let room = f.room in
+    let fits = f.fits in
+    let before = c.requires.in_use in
+    let t = c.requires.operand_table in
+    let long = c.requires.program_len_bound in
+    search rules
+
+pub set_constant-requires : goal.set_constant-requires
+set_constant-requires c =
+    let a = c.args in
+    let program = a.program.now in
+    let content = slice (a.at + 3) a.next program in
+    let n = c.in-Upto.size in
+    let f = size_fits_lem c.register_size-r.result n a.at a.count a.total a.most content c.in-Upto.is c.register_size-r.ensures in
+    let room = f.room in
+    let fits = f.fits in
+    let before = c.requires.in_use in
+    let t = c.requires.operand_table in
+    let long = c.requires.program_len_bound in
+    let far = c.requires.most_le_furthest in
+    let fine = range_yes (pos n) (omega arith) in
+    rw (range_back fine) fine
+
+pub store-requires : goal.store-requires
+unfolding as_form
+store-requires c =
+    record {
+      kept = c.set_constant.ensures.kept;
+      f_value = constant_narrow c.set_constant.new.f _ c.set_constant.ensures.f_after c.set_constant.ensures.kept;
+    }
+
+pub size_row-own-requires : goal.size_row-own-requires
+size_row-own-requires c =
+    let a = c.args in
+    let program = a.program.now in
+    let content = slice (a.at + 3) a.next program in
+    let n = c.in-Upto.size in
+    let f = size_fits_lem c.register_size-r.result n a.at a.count a.total a.most content c.in-Upto.is c.register_size-r.ensures in
+    let room = f.room in
+    let fits = f.fits in
+    let before = c.requires.in_use in
+    let t = c.requires.operand_table in
+    let long = c.requires.program_len_bound in
+    record {
+      at_le_longest_program = omega (arith, c.requires.at_bound.0, c.requires.at_bound.1);
+      registers_le_most_registers = omega arith;
+    }
+
+pub row_number-requires : goal.row_number-requires
+row_number-requires c =
+    let a = c.args in
+    let program = a.program.now in
+    let content = slice (a.at + 3) a.next program in
+    let n = c.in-Upto.size in
+    let f = size_fits_lem c.register_size-r.result n a.at a.count a.total a.most content c.in-Upto.is c.register_size-r.ensures in
+    let room = f.room in
+    let fits = f.fits in
+    let before = c.requires.in_use in
+    let t = c.requires.operand_table in
+    let long = c.requires.program_len_bound in
+    omega (arith, c.size_row-own.ensures, c.requires.at_bound.0, c.requires.at_bound.1)
+
+pub offset_bounds-kinds-count : goal.offset_bounds-kinds-count
+offset_bounds-kinds-count c =
+    let a = c.args in
+    let program = a.program.now in
+    let content = slice (a.at + 3) a.next program in
+    let n = c.in-Upto.size in
+    let f = size_fits_lem c.register_size-r.result n a.at a.count a.total a.most content c.in-Upto.is c.register_size-r.ensures in
+    let room = f.room in
+    let fits = f.fits in
+    let before = c.requires.in_use in
+    let t = c.requires.operand_table in
+    let long = c.requires.program_len_bound in
+    omega (arith, t.kinds_long, c.well_formed)
+
+pub bounds-kinds-count : goal.bounds-kinds-count
+bounds-kinds-count c =
+    let a = c.args in
+    let program = a.program.now in
+    let content = slice (a.at + 3) a.next program in
+    let n = c.in-Upto.size in
+    let f = size_fits_lem c.register_size-r.result n a.at a.count a.total a.most content c.in-Upto.is c.register_size-r.ensures in
+    let room = f.room in
+    let fits = f.fits in
+    let before = c.requires.in_use in
+    let t = c.requires.operand_table in
+    let long = c.requires.program_len_bound in
+    omega (arith, t.kinds_long, c.well_formed)
+
+pub offset_bounds-sizes-own : goal.offset_bounds-sizes-own
+offset_bounds-sizes-own c =
+    let a = c.args in
+    let program = a.program.now in
+    let content = slice (a.at + 3) a.next program in
+    let n = c.in-Upto.size in
+    let f = size_fits_lem c.register_size-r.result n a.at a.count a.total a.most content c.in-Upto.is c.register_size-r.ensures in
+    let room = f.room in
+    let fits = f.fits in
+    let before = c.requires.in_use in
+    let t = c.requires.operand_table in
+    let long = c.requires.program_len_bound in
+    let own = c.size_row-own.result in
+    let is : own ≡ size_row a.at a.count = c.size_row-own.ensures in
+    let inside : own < length a.sizes.now = omega (arith, t.sizes_long, c.requires.at_bound.0, c.requires.at_bound.1) in
+    omega (arith, c.well_formed)
+
+pub bounds-sizes-own : goal.bounds-sizes-own
+bounds-sizes-own c =
+    let a = c.args in
+    let program = a.program.now in
+    let content = slice (a.at + 3) a.next program in
+    let n = c.in-Upto.size in
+    let f = size_fits_lem c.register_size-r.result n a.at a.count a.total a.most content c.in-Upto.is c.register_size-r.ensures in
+    let room = f.room in
+    let fits = f.fits in
+    let before = c.requires.in_use in
+    let t = c.requires.operand_table in
+    let long = c.requires.program_len_bound in
+    let own = c.size_row-own.result in
+    let is : own ≡ size_row a.at a.count = c.size_row-own.ensures in
+    let inside : own < length a.sizes.now = omega (arith, t.sizes_long, c.requires.at_bound.0, c.requires.at_bound.1) in
+    omega (arith, c.well_formed)
+
+pub returns : goal.returns
+returns c =
+    let a = c.args in
+    let program = a.program.now in
+    let content = slice (a.at + 3) a.next program in
+    let n = c.in-Upto.size in
+    let f = size_fits_lem c.register_size-r.result n a.at a.count a.total a.most content c.in-Upto.is c.register_size-r.ensures in
+    let room = f.room in
+    let fits = f.fits in
+    let before = c.requires.in_use in
+    let t = c.requires.operand_table in
+    let long = c.requires.program_len_bound in
+    let own = c.size_row-own.result in
+    let is : own ≡ size_row a.at a.count = c.size_row-own.ensures in
+    let inside : own < length a.sizes.now = omega (arith, t.sizes_long, c.requires.at_bound.0, c.requires.at_bound.1) in
+    let far = c.requires.most_le_furthest in
+    let kinds = a.kinds.now in
+    let sizes = a.sizes.now in
+    let bytes = length program in
+    let h : a.count < length kinds = omega (arith, t.kinds_long) in
+    let b = c.row_number.result in
+    let names = number_size a.kind own b c.row_number.ensures in
+    let d : (j : ℕ) → size_of_row (get_or kinds j 0) < own = (λ j. omega (arith, before.named j)) in
+    let two = size_two c.register_size-r.result n a.at a.count a.total a.most content c.in-Upto.is c.register_size-r.ensures in
+    let five : a.at + 5 ≤ a.next = omega (arith, length-slice (a.at + 3) a.next program c.requires.at_bound.1) in
+    let l = c.store.new.row in
+    let value = ap as_form c.store.ensures.row_after ∙ c.set_constant.ensures.f_after ∙ ap constant_form (range_back (range_yes (pos n) (omega arith))) in (
+      sym (ap checked_register c.in-Upto.is) ∙ c.register_size-r.ensures,
+      record {
+        room = room;
+        fits = fits;
+        apart = apart_both bytes a.count kinds sizes t h b own l c.store.ensures.short d inside;
+        used = λ rows k. in_use_set 0 rows a.count (a.count + 1) a.at a.next kinds a.count b before h (omega arith) (omega arith) k (omega arith);
+        row = λ formals. row_both bytes a.count kinds sizes t h b own l c.store.ensures.short d inside a.kind c.row_number.ensures formals ∙ (λ i. kind_in a.kind (value i) (formals (sym (ap size_of_row (get_or-set_same kinds a.count b 0 h) ∙ names) i)));
+      },
+    )

@@ -1,0 +1,77 @@
+-- `check_declaration::typed_row` meets its contract. Assumes nothing.
+use borrow.Author.Rules.{rules}
+use mathlib.Core.Path.{sym, ◌∙◌}
+use mathlib.Core.List.{[]}
+use Prim.Native.Nat.{◌/◌, ◌<◌}
+use native.Mathlib.Omega.{arith}
+use lib.ListN.{length}
+use Rattle.fields.proofs.Headers.{tagged_not, when_tagged}
+use Rattle.check_index.proofs.Answers.{ends_passes}
+use Rattle.check_operand.specs.Tables.{scope_with}
+use Rattle.check_call.specs.Calls.{formal_at}
+use Rattle.check_declaration.proofs.Tables.{in_use_later}
+use Rattle.check_declaration.proofs.FamilyTypes.{type_family, type_plain}
+use Rattle.check_declaration.proofs.Formals.{stays_plain, plain_after, formals_after}
+use borrow.Enum.Refused.{opened}
+use Rattle.check_declaration.proofs.typed_row.Goals as goal
+
+pub family_row-requires : goal.family_row-requires
+family_row-requires c =
+    let a = c.args in
+    let w = when_tagged a.program.now a.at a.to 18 c.in-Upto.next c.requires.at_le_to.1 (sym c.with_tag.ensures ∙ c.in-Upto.is) in
+    record {
+      at_bound = (w.low, let h = w.high in let k = c.requires.at_le_to.1 in omega arith);
+      program_len_bound = c.requires.program_len_bound;
+      in_use = c.requires.in_use;
+      operand_table = c.requires.operand_table;
+      family_table = c.requires.family_table;
+      formals_in = c.requires.formals_in;
+    }
+
+pub returns-in-Upto : goal.returns-in-Upto
+returns-in-Upto c =
+    let a = c.args in
+    let program = a.program.now in
+    let next = c.in-Upto.next in
+    let w = when_tagged program a.at a.to 18 next c.requires.at_le_to.1 (sym c.with_tag.ensures ∙ c.in-Upto.is) in
+    record {
+      sizes_after = λ fs ks. c.family_row.ensures.sizes_after fs ks a.m ∙ type_family (scope_with fs ks a.m []) program a.at a.to a.parent next w;
+      passes = ends_passes program a.at a.to 18 next c.family_row.result w c.family_row.ensures.ends_at;
+      in_use_after = c.family_row.ensures.in_use_after;
+      formals_after = c.family_row.ensures.formals_after;
+      stays = c.family_row.ensures.stays;
+    }
+
+pub plain_row-requires : goal.plain_row-requires
+plain_row-requires c =
+    let a = c.args in
+    let u = c.requires.in_use in
+    let t = c.requires.operand_table in
+    record {
+      to_in_bounds = c.requires.at_le_to.1;
+      m_le_most_variables = c.requires.m_le_most_variables;
+      program_len_bound = c.requires.program_len_bound.0;
+      row_in_bounds = omega (arith, u.few, t.kinds_long, c.requires.at_le_to.0, c.requires.at_le_to.1);
+      in_use = in_use_later a.row 0 a.registers a.at a.at a.kinds.now u (omega arith) (omega arith);
+      operand_table = t;
+    }
+
+pub returns : goal.returns
+returns c =
+    let a = c.args in
+    let program = a.program.now in
+    let kinds = a.kinds.now in
+    let families = a.families.now in
+    let u = c.requires.in_use in
+    let t = c.requires.operand_table in
+    let f = c.requires.formals_in in
+    let later = c.plain_row.new.kinds in
+    let sizes = c.plain_row.new.sizes in
+    let half : a.row < length kinds / 2 = omega (arith, u.few, t.kinds_long, c.requires.at_le_to.0, c.requires.at_le_to.1) in
+    record {
+      sizes_after = λ fs ks. c.plain_row.ensures.sizes_after fs ks (formal_at families later sizes) ∙ type_plain (scope_with fs ks a.m []) program a.at a.to a.parent c.requires.at_le_to.1 (sym c.with_tag.ensures ∙ tagged_not c.with_tag.result (opened c.in_default.in_default-own.keys2));
+      passes = c.plain_row.ensures.passes;
+      in_use_after = plain_after program a.at a.to a.row a.registers c.plain_row.result kinds later u c.plain_row.ensures.passes c.plain_row.ensures.in_use_after;
+      formals_after = formals_after program (length program) a.row a.at a.to c.plain_row.result families f c.plain_row.ensures.apart half c.plain_row.ensures.passes;
+      stays = stays_plain (length program) a.row a.at a.registers families f c.plain_row.ensures.apart half;
+    }

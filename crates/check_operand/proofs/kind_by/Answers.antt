@@ -1,0 +1,9 @@
+-- `check_operand::kind_by` meets its contract. Assumes nothing.
+use borrow.Author.Rules.{rules}
+use Rattle.check_operand.specs.Tables.{kind_of_row}
+use Rattle.check_operand.proofs.kind_by.Goals as goal
+
+pub returns : goal.returns
+unfolding kind_of_row
+returns c =
+    c.with_number.ensures

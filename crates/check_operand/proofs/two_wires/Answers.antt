@@ -1,0 +1,16 @@
+-- `check_operand::two_wires` meets its contract. Assumes nothing.
+use Rattle.check_operand.specs.Operands.{wanted_of}
+use Rattle.check_operand.proofs.two_wires.Goals as goal
+
+pub two_operands-requires : goal.two_operands-requires
+two_operands-requires c =
+    record {
+      next_in_bounds = c.requires.next_in_bounds;
+      answerable = (λ l. tt, λ o. tt);
+      tables_right = c.requires.tables_right;
+    }
+
+pub returns : goal.returns
+unfolding wanted_of
+returns c =
+    c.two_operands.ensures.result_value

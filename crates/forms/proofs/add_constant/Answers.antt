@@ -1,0 +1,23 @@
+-- `forms::add_constant` meets its contract: one number, at k = 1. Assumes nothing.
+use native.Mathlib.Omega.{arith}
+use mathlib.Core.Path.{refl, ap, ◌∙◌}
+use Rattle.language.specs.Form.{in_range}
+use Rattle.language.proofs.Integers.{range_back}
+use Rattle.forms.proofs.Lists.{kept_at}
+use Rattle.forms.proofs.Laws.{constant_added}
+use Rattle.forms.proofs.add_constant.Goals as goal
+
+pub add_number-requires : goal.add_number-requires
+unfolding in_range
+add_number-requires c =
+    let q = c.requires.z_value in
+    record {
+      i_lt_form_numbers = omega arith;
+      pos_value = kept_at c.args.f.now 0 (omega arith) c.requires.kept;
+      k_value = refl;
+      y_value = ap in_range {y = c.args.z} (range_back q) ∙ q;
+    }
+
+pub returns : goal.returns
+returns c =
+    constant_added c.args.f.now (range_back c.requires.z_value) c.requires.kept c.requires.z_value _ _ c.add_number.ensures.value c.add_number.ensures.f_after

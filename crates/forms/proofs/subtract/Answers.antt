@@ -1,0 +1,22 @@
+-- `subtract` meets its contract: the one loop at k = -1.
+-- Assumes nothing.
+use mathlib.Core.Path.{refl, ◌∙◌}
+use Rattle.language.specs.Form.{in_range}
+use Rattle.forms.proofs.Laws.{difference_as}
+use Rattle.forms.proofs.subtract.Goals as goal
+
+pub add_scaled-requires : goal.add_scaled-requires
+unfolding in_range
+add_scaled-requires c =
+    record {
+      kept = c.requires.kept;
+      k_value = refl;
+      kept_2 = c.requires.kept_2;
+    }
+
+pub returns : goal.returns
+returns c =
+    record {
+      f_after = c.add_scaled.ensures.f_after ∙ difference_as c.args.f.now c.args.g.now c.requires.kept c.requires.kept_2;
+      kept_3 = c.add_scaled.ensures.kept_3;
+    }

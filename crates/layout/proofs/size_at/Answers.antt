@@ -1,0 +1,14 @@
+-- `layout::size_at` meets its contract: two numbers of two bytes each. Assumes nothing.
+use borrow.Author.Rules.{rules}
+use Prim.Native.Nat.{◌+◌}
+use mathlib.Core.Path.{◌≡◌}
+use native.Mathlib.Omega.{arith}
+use Rattle.layout.proofs.size_at.Goals as goal
+
+pub returns : goal.returns
+returns c =
+    let at = c.args.at in
+    let e : at + 2 + 1 ≡ at + 3 = omega arith in
+    let low = c.two_bytes-low.ensures in
+    let high = rw e at c.two_bytes-high.ensures in
+    (omega (arith, low.0, high.0), omega (arith, low.1, high.1))

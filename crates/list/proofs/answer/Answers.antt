@@ -1,0 +1,26 @@
+-- `answer` meets its contract, for the whole program and for a family. Assumes nothing.
+use borrow.Author.Rules.{rules}
+use mathlib.Core.Path.{ap, subst, ◌∙◌}
+use Rattle.list_words.specs.Words.{outcome_of}
+use Rattle.list_words.specs.Jobs.{job_meant, JobHeld}
+use Rattle.list.proofs.answer.Goals as goal
+
+pub slice_bounds-metaqasm_instance-end : goal.slice_bounds-metaqasm_instance-end
+slice_bounds-metaqasm_instance-end c =
+    (subst (λ j. JobHeld j c.args.sizes.now) c.in-Family.is c.requires).1
+
+pub returns-in-Whole : goal.returns-in-Whole
+unfolding outcome_of job_meant
+returns-in-Whole c =
+    record {
+      output_value = ap (λ j. outcome_of (job_meant j c.args.sizes.now) c.args.program.now c.args.output.now) c.in-Whole.is ∙ c.metaqasm_run.ensures.output_value;
+      records_in_bounds = c.metaqasm_run.ensures.records_in_bounds;
+    }
+
+pub returns-in-Family : goal.returns-in-Family
+unfolding outcome_of job_meant
+returns-in-Family c =
+    record {
+      output_value = ap (λ j. outcome_of (job_meant j c.args.sizes.now) c.args.program.now c.args.output.now) c.in-Family.is ∙ c.metaqasm_instance.ensures.output_value;
+      records_in_bounds = c.metaqasm_instance.ensures.records_in_bounds;
+    }

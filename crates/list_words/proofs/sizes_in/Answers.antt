@@ -1,0 +1,79 @@
+-- `sizes_in` meets its contract. The loop's invariant: the words so far say so many sizes, which are in the first bytes. Assumes nothing.
+use Prim.Native.Nat.{◌-◌}
+use mathlib.Core.Path.{◌≡◌, refl, sym, ap, ◌∙◌}
+use native.Mathlib.Omega.{arith}
+use borrow.Author.Rules.{rules}
+use lib.ListN.{length, length-take}
+use Rattle.list_words.specs.Jobs.{said_by, sizes_meant}
+use Rattle.list_words.proofs.WordLaws.{Sizing, sizing_start, too_many_lem, sizing_done, no_number, sizing_next}
+use Rattle.list_words.proofs.sizes_in.Goals as goal
+
+pub loop-at-init : goal.loop-at-init
+loop-at-init c =
+    (sizing_start c.args.text.now c.args.from c.args.sizes.now (omega arith) (omega arith), refl)
+
+pub shape_of-sizes-then-many-eq-MOST_SIZES : goal.shape_of-sizes-then-many-eq-MOST_SIZES
+shape_of-sizes-then-many-eq-MOST_SIZES c =
+    c.loop-at.invariant.1
+
+pub returns-then-many-eq-MOST_SIZES : goal.returns-then-many-eq-MOST_SIZES
+unfolding sizes_meant
+returns-then-many-eq-MOST_SIZES c =
+    record {
+      sizes_after = too_many_lem c.args.text.now c.args.from c.loop-at.sizes c.loop-at.at c.loop-at.many c.loop-at.invariant.0 (omega arith) (omega arith);
+      sizes_held = tt;
+    }
+
+pub shape_of-sizes-in_default : goal.shape_of-sizes-in_default
+shape_of-sizes-in_default c =
+    c.loop-at.invariant.1
+
+pub returns-in_default : goal.returns-in_default
+unfolding sizes_meant said_by
+returns-in_default c =
+    (
+  no_number c.args.text.now c.args.from c.loop-at.sizes c.loop-at.at c.loop-at.many c.loop-at.invariant.0 c.word_at-word.result c.word_at-word.ensures c.if-many-eq-MOST_SIZES.false
+      (ap said_by (sym c.in_default.is) ∙ c.number_in.ensures),
+  tt,
+)
+
+pub overflow_mul-many : goal.overflow_mul-many
+overflow_mul-many c =
+    omega (arith, c.loop-at.invariant.0.few, c.loop-at.invariant.0.room, c.word_at-word.ensures.more, c.word_at-word.ensures.high)
+
+pub put_size-requires : goal.put_size-requires
+put_size-requires c =
+    omega (arith, c.loop-at.invariant.0.few, c.loop-at.invariant.0.room, c.word_at-word.ensures.more, c.word_at-word.ensures.high)
+
+pub overflow_add-many : goal.overflow_add-many
+overflow_add-many c =
+    omega (arith, c.loop-at.invariant.0.few, c.loop-at.invariant.0.room, c.word_at-word.ensures.more, c.word_at-word.ensures.high)
+
+pub loop-at-smaller : goal.loop-at-smaller
+loop-at-smaller c =
+    omega (arith, c.loop-at.invariant.0.few, c.loop-at.invariant.0.room, c.word_at-word.ensures.more, c.word_at-word.ensures.high)
+
+pub loop-at-preserved : goal.loop-at-preserved
+unfolding said_by
+loop-at-preserved c = (
+  sizing_next c.args.text.now c.args.from c.loop-at.sizes c.loop-at.at c.loop-at.many c.loop-at.invariant.0 c.word_at-word.result c.word_at-word.ensures c.if-many-eq-MOST_SIZES.false
+      c.in-Number.n c.put_size.new.sizes (ap said_by (sym c.in-Number.is) ∙ c.number_in.ensures) c.put_size.auto.1.0 c.put_size.ensures,
+  c.put_size.auto.1.0 ∙ c.loop-at.invariant.1,
+)
+
+pub overflow_mul-size : goal.overflow_mul-size
+overflow_mul-size c =
+    omega (arith, c.loop-at.invariant.0.few)
+
+pub shape_of-sizes : goal.shape_of-sizes
+shape_of-sizes c =
+    c.loop-at.invariant.1
+
+pub returns : goal.returns
+unfolding sizes_meant
+returns c =
+    let few = c.loop-at.invariant.0.few in
+    let room = c.loop-at.invariant.0.room in (
+      sizing_done c.args.text.now c.args.from c.loop-at.sizes c.loop-at.at c.loop-at.many c.loop-at.invariant.0 (omega arith),
+      (omega arith, simp length-take (omega arith)),
+    )

@@ -1,0 +1,16 @@
+-- `qasm_length::cregs_length` meets its contract. The loop's invariant: the total is the length of the lines of the first `k` bits. Assumes nothing.
+use Prim.Native.Nat.{◌*◌, ◌-◌, ◌≤◌}
+use mathlib.Core.Path.{◌≡◌, refl, ap}
+use native.Mathlib.Omega.{arith}
+use lib.ListN.{length}
+use Rattle.qasm_text.specs.Text.{creg_lines}
+use Rattle.qasm_length.proofs.Parts.{bits_more}
+use Rattle.qasm_length.proofs.cregs_length.Given as goal
+
+abbrev pub invariant-loop-k : goal.invariant-loop-k
+invariant-loop-k l =
+    (l.k ≤ l.bits) × (l.total ≡ length (creg_lines l.k)) × (l.total ≤ 16 * l.k)
+
+abbrev pub decreases-loop-k : goal.decreases-loop-k
+decreases-loop-k l =
+    l.bits - l.k

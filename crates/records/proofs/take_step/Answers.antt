@@ -1,0 +1,16 @@
+-- `records::take_step` meets its contract. Assumes nothing.
+use borrow.Author.Rules.{rules}
+use mathlib.Core.Path.{refl}
+use native.Mathlib.Omega.{arith}
+use Rattle.records.specs.Outcomes.{Stepped}
+use Rattle.records.proofs.take_step.Goals as goal
+
+pub returns-then-limit-steps : goal.returns-then-limit-steps
+unfolding Stepped
+returns-then-limit-steps c =
+    record { none = omega arith; number = refl; here = refl; same = refl }
+
+pub returns : goal.returns
+unfolding Stepped
+returns c =
+    record { left = omega arith; same = refl; more = refl }

@@ -1,0 +1,18 @@
+-- `showing::rows_kept` meets its contract. The invariant: the rows passed are right. Assumes nothing.
+use borrow.Author.Rules.{rules}
+use borrow.Author.Tests.{not-true, not-false}
+use native.Mathlib.Omega.{arith}
+use mathlib.Core.Path.{◌≡◌, sym, ◌∙◌, subst}
+use Prim.Native.Nat.{◌≤◌, ◌-◌}
+use lib.ListN.{length}
+use Rattle.language.proofs.Integers.{clash}
+use Rattle.forms.specs.Rows.{Rows}
+use Rattle.showing.proofs.Forms.{none, too_few, one_out, all_in, one_more_lem}
+use Rattle.showing.proofs.rows_kept.Given as goal
+
+abbrev pub invariant-loop-row : goal.invariant-loop-row
+invariant-loop-row l =
+    Rows l.rows l.row × (l.row ≤ l.n) × (l.n ≤ length l.rows)
+
+abbrev pub decreases-loop-row : goal.decreases-loop-row
+decreases-loop-row l = l.n - l.row

@@ -1,0 +1,17 @@
+-- `touched::clear` meets its contract. The loop's invariant: the first `i` bytes are 0, and the others are as they were. Assumes nothing.
+use Prim.Native.Nat.{◌-◌, ◌≤◌}
+use mathlib.Core.Path.{◌≡◌, refl, ap, ◌∙◌}
+use mathlib.Core.List.{◌++◌}
+use native.Mathlib.Omega.{arith}
+use lib.ListN.{length, drop, replicate, set}
+use Rattle.wire_map.specs.WireMap.{map_size}
+use Rattle.wire_map.proofs.Marking.{clear_next, clear_length, clear_whole}
+use Rattle.touched.proofs.clear.Given as goal
+
+abbrev pub invariant-loop-i : goal.invariant-loop-i
+invariant-loop-i l =
+    (l.i ≤ map_size) × (l.map ≡ replicate l.i 0 ++ drop l.i l.initial.map)
+
+abbrev pub decreases-loop-i : goal.decreases-loop-i
+decreases-loop-i l =
+    map_size - l.i
