@@ -139,19 +139,34 @@ class Turn:
 
     def body(self, text, place, given="c"):
         """A body with its paths turned. A `let` that names a place higher up goes, and its name stands for that place."""
-        roots = {given: 0}
+        roots = {given: (0, [])}
+        at = 0
         while True:
-            match = re.search(r"\blet (\w+) = (\w+)((?:\.before)*) in\s*", text)
-            if not match or match[2] not in roots:
+            match = re.compile(r"\blet (\w+) = (\w+)((?:\.before)*)((?:\.[\w-]+)*) in\s*").search(text, at)
+            if not match:
                 break
-            roots[match[1]] = roots[match[2]] + match[3].count(".before")
+            at = match.end()
+            rest = [it for it in match[4].split(".") if it]
+            if match[2] not in roots:
+                continue
+            befores, under = roots[match[2]]
+            if under and match[3]:
+                continue
+            whole = under + rest
+            cut = [it for it in whole if it != "1"]
+            if whole and not (cut and cut[-1] in ("requires", "ensures", "new")):
+                continue
+            roots[match[1]] = (befores + match[3].count(".before"), whole)
             text = text[: match.start()] + text[match.end() :]
+            at = match.start()
 
         def turned(found):
             root, befores, rest = found[1], found[2].count(".before"), [it for it in found[3].split(".") if it]
             if root not in roots:
                 return found[0]
-            now = self.path(place, roots[root] + befores, rest)
+            if root != given or not rest:
+                befores, rest = befores + roots[root][0], roots[root][1] + rest
+            now = self.path(place, befores, rest)
             if now is None:
                 self.lost.append(found[0])
                 return found[0]
@@ -178,7 +193,7 @@ def split_tuple(text):
     if start is None or rest[start] != "(":
         return None
     lets, inner = rest[:start], rest[start + 1 : -1]
-    if lets.strip() and not re.search(r"\bin\s*$", lets):
+    if lets.strip() and not re.search(r"\bin\s*$", lets) and not re.search(r"(?:\A|\bin\s)\s*rw (\S+|\([^\n]*\)) $", lets):
         return None
     parts, depth, last = [], 0, 0
     for i, it in enumerate(inner):
@@ -190,15 +205,25 @@ def split_tuple(text):
             parts.append(inner[last:i].strip())
             last = i + 1
     parts.append(inner[last:].strip())
-    return lets, parts
+    return lets, parts if parts[-1] else parts[:-1]
 
 
 def as_record(text, labels):
     """A tuple as a record of the clauses, where it has as many parts."""
+    text = text.strip()
     split = split_tuple(text)
+    rewritten = re.search(r"\A((?:.*\bin\s)?\s*)rw (\S+|\(.*?\)) \Z", split[0], re.S) if split else None
+    if not split and not re.search(r"(?:\A|\bin)\s*(?:search|omega|grind|simp|elim|rw|cc|absurd|λ)\b[^\n]*\Z", text):
+        match = re.match(r"\A(.*\bin\s+)?(.*)\Z", text, re.S)
+        parts = [".".join(["both"] + ["1"] * i + (["0"] if i < len(labels) - 1 else [])) for i in range(len(labels))]
+        fields = "".join(f"      {label} = {part};\n" for label, part in zip(labels, parts))
+        return f"{match[1] or ''}let both = {match[2]} in\n    record {{\n{fields}    }}"
     if not split:
         return text
     lets, parts = split
+    before = ""
+    if rewritten:
+        lets, before = rewritten[1], f"rw {rewritten[2]} "
     while len(parts) < len(labels):
         inner = split_tuple(parts[-1])
         if not inner or inner[0].strip():
@@ -208,6 +233,8 @@ def as_record(text, labels):
         parts = parts[:-1]
     if len(parts) != len(labels):
         return text
+    if before:
+        parts = [f"{before}({part})" for part in parts]
     fields = "".join(f"      {label} = {part};\n" for label, part in zip(labels, parts))
     return f"{lets}record {{\n{fields}    }}"
 
@@ -318,9 +345,13 @@ def answers_of(one, entry, head, declarations, stem, first):
             changed = [n for n, f in zip(names, flags) if f]
             due = [f"l.initial.{n}" if f else f"l.{n}" for n, f in zip(names, flags)] + [f"l.{n}" for n in changed]
             if len(params) == len(due):
-                for param, value in zip(params, due):
-                    if param != "_":
-                        body = re.sub(rf"(?<![\w.'₀]){re.escape(param)}(?![\w'₀-])", value, body)
+                values = {param: value for param, value in zip(params, due) if param != "_"}
+                bound = set(re.findall(r"λ \(?([^.]*?)(?: :[^.]*?)?\)?\.", body) + re.findall(r"\(((?:\w+ )+): ", body))
+                bound = {it for group in bound for it in group.split()} - {"λ"}
+                body = re.sub(r"to_z w(?:64|32|8) (\w+₀?)(?![\w₀])", lambda it: it[1] if it[1] in values else it[0], body)
+                body = re.sub(r"(?<![\w.'₀])[\w]+₀?(?![\w'₀-])", lambda it: values.get(it[0], it[0]) if it[0] not in bound else it[0], body)
+                if "l" in bound:
+                    body = re.sub(r"(?<![\w.'])l(?![\w'.])", "l'", body)
             else:
                 one.lost.append(f"{measure[1]}: {params} for {due}")
             label = f"{measure[2]}-{stem}{new}"

@@ -54,8 +54,8 @@ returns-in_default c =
           ∙ ap (λ (c : Checked (List Form)). c >>= λ rest. good (forms_of i.i i.forms ++ rest)) (form_none (scope_with fs ks a.s.variables ls) a.parent (a.m - (i.i + 1)) a.m program i.from a.to c.requires.to_in_bounds c.index-r.result l (c.index-r.ensures.f_after ∙ scope_forms fs ks a.s.variables a.s.loops a.lows.now a.highs.now x) i.forms (opened c.in_default.in_default-own.keys2)
           ∙ ap (λ (n : ℕ). call_forms (scope_with fs ks a.s.variables ls) a.parent n (map read_argument (fields_at program i.from a.to))) (sym e))
           ∙ sym (i.invariant.3 fs ks);
-      passes_count = (beyond_stops program a.at a.to a.m c.index-r.result (opened c.in_default.in_default-own.keys2), i.invariant.1);
-      rows_2 = ;
+      passes_count = beyond_stops program a.at a.to a.m c.index-r.result (opened c.in_default.in_default-own.keys2);
+      rows_2 = i.invariant.1;
     }
 
 pub must_show-t-requires : goal.must_show-t-requires
@@ -94,8 +94,8 @@ returns-in_default-t c =
           ∙ ap (λ (c : Checked (List Form)). c >>= λ rest. good (forms_of i.i i.forms ++ rest)) (show_none (scope_with fs ks a.s.variables ls) a.parent (a.m - (i.i + 1)) a.m program i.from a.to c.requires.to_in_bounds c.index-r.result l (c.index-r.ensures.f_after ∙ scope_forms fs ks a.s.variables a.s.loops a.lows.now a.highs.now x) next c.in-Upto.is u.0 c.must_show-t.result (c.must_show-t.ensures.result_value fs ks) new (opened c.in_default-t.in_default-t-own.keys2)
           ∙ ap (λ (n : ℕ). call_forms (scope_with fs ks a.s.variables ls) a.parent n (map read_argument (fields_at program i.from a.to))) (sym e))
           ∙ sym (i.invariant.3 fs ks);
-      passes_count = (beyond_stops program a.at a.to a.m c.must_show-t.result (opened c.in_default-t.in_default-t-own.keys2), rows_set i.forms 4 i.i l i.invariant.1 u.1);
-      rows_2 = ;
+      passes_count = beyond_stops program a.at a.to a.m c.must_show-t.result (opened c.in_default-t.in_default-t-own.keys2);
+      rows_2 = rows_set i.forms 4 i.i l i.invariant.1 u.1;
     }
 
 pub loop-i-preserved : goal.loop-i-preserved

@@ -23,11 +23,10 @@ passed-requires c =
     let a = c.args in
     let w = when_tagged a.program.now a.at a.to 51 c.in-Upto.next c.requires.to_in_bounds (sym c.with_tag.ensures ∙ c.in-Upto.is) in
     let t = c.requires.tables_right in
-    let f = c.requires.families_right in
     record {
       at_bound = (w.low, let h = w.high in let k = c.requires.to_in_bounds in omega arith);
-      family_rows = f.rows;
-      families_le_most_families = f.few;
+      family_rows = c.requires.families_right.rows;
+      families_le_most_families = c.requires.families_right.few;
       sizes_right = record { rows = t.size_rows; named = t.named };
       number_in_bounds = c.requires.number_in_bounds_2;
     }
@@ -77,9 +76,9 @@ returns c =
     let program = a.program.now in
     let gs = forms_of a.m a.forms.now in
     let o = due read_operand (bad_operand 4 a.parent) (fields_at program a.at a.to) in
-    let none = no_family_lem program a.at a.to a.parent c.requires.to_in_bounds (sym c.with_tag.ensures ∙ tagged_not c.with_tag.result (opened c.in_default.in_default-own.keys2)) in (
-      c.operand.ensures.result_value (known_in a.families.now a.kinds.now a.sizes.now)
+    let none = no_family_lem program a.at a.to a.parent c.requires.to_in_bounds (sym c.with_tag.ensures ∙ tagged_not c.with_tag.result (opened c.in_default.in_default-own.keys2)) in record {
+      result_value = c.operand.ensures.result_value (known_in a.families.now a.kinds.now a.sizes.now)
           ∙ ap (λ (d : Due). check_operand (scope_full a.s a.families.now a.kinds.now a.sizes.now a.lows.now a.highs.now) d o) (c.taken_by-wanted.ensures.size_after (known_in a.families.now a.kinds.now a.sizes.now) ∙ (λ z. taken gs (kind_in (c.kind_by-kind.ensures z) (as_form (widened (get_or a.sizes.now (c.size_by-own.ensures z) []))) (formal_at a.families.now a.kinds.now a.sizes.now (c.size_by-own.ensures z)))))
-          ∙ plain_operand (scope_full a.s a.families.now a.kinds.now a.sizes.now a.lows.now a.highs.now) a.before gs (kind_by (formal_at a.families.now a.kinds.now a.sizes.now) a.number a.sizes.now) o none,
-      c.operand.ensures.passes,
-    )
+          ∙ plain_operand (scope_full a.s a.families.now a.kinds.now a.sizes.now a.lows.now a.highs.now) a.before gs (kind_by (formal_at a.families.now a.kinds.now a.sizes.now) a.number a.sizes.now) o none;
+      passes = c.operand.ensures.passes;
+    }

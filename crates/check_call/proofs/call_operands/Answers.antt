@@ -49,15 +49,14 @@ pub call_operand-r-requires : goal.call_operand-r-requires
 call_operand-r-requires c =
     let a = c.args in
     let t = c.requires.tables_right in
-    let f = c.requires.families_right in
     record {
       to_in_bounds = c.requires.to_in_bounds;
       m_le_most_variables = c.requires.m_le_most_variables;
       rows = c.requires.rows;
       number_in_bounds = t.named (a.first + c.loop-j.j);
-      number_in_bounds_2 = f.rows.formals (a.first + c.loop-j.j);
+      number_in_bounds_2 = c.requires.families_right.rows.formals (a.first + c.loop-j.j);
       tables_right = t;
-      families_right = f;
+      families_right = c.requires.families_right;
     }
 
 pub returns-in_default : goal.returns-in_default
@@ -72,13 +71,13 @@ returns-in_default c =
     let k = kind_at (formal_at a.families.now a.kinds.now a.sizes.now) row a.kinds.now a.sizes.now in
     let e = row_drop (λ (x : ℕ). kind_at (formal_at a.families.now a.kinds.now a.sizes.now) x a.kinds.now a.sizes.now) a.count a.first i.j c.loop-j-test.true in
     let x = call_operand s a.before gs k (due read_operand (bad_operand 4 a.parent) (fields_at program i.from a.to)) in
-    let y = call_operands s a.parent a.before gs (drop (suc i.j) ks) (map read_argument (drop 1 (fields_at program i.from a.to))) in (
-      part_stops c.call_operand-r.result x y c.call_operand-r.ensures.result_value (opened c.in_default.in_default-own.keys2)
+    let y = call_operands s a.parent a.before gs (drop (suc i.j) ks) (map read_argument (drop 1 (fields_at program i.from a.to))) in record {
+      result_value = part_stops c.call_operand-r.result x y c.call_operand-r.ensures.result_value (opened c.in_default.in_default-own.keys2)
           ∙ sym (operand_first s a.parent a.before gs k (drop (suc i.j) ks) program i.from a.to c.requires.to_in_bounds)
           ∙ ap (λ (l : List Kind). call_operands s a.parent a.before gs l (map read_argument (fields_at program i.from a.to))) (sym e)
-          ∙ sym i.invariant.1,
-      ends_stops c.call_operand-r.result a.to (opened c.in_default.in_default-own.keys2),
-    )
+          ∙ sym i.invariant.1;
+      ends_at = ends_stops c.call_operand-r.result a.to (opened c.in_default.in_default-own.keys2);
+    }
 
 pub loop-j-preserved : goal.loop-j-preserved
 loop-j-preserved c =

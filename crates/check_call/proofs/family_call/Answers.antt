@@ -19,13 +19,12 @@ returns-then-s-n c =
 
 pub call_fits-requires : goal.call_fits-requires
 call_fits-requires c =
-    let f = c.requires.families_right in
     let h = c.if-s-n.false in
     record {
       next_in_bounds = c.requires.next_in_bounds;
-      row_in_bounds = omega (arith, f.few, f.rows.enough);
+      row_in_bounds = omega (arith, c.requires.families_right.few, c.requires.families_right.rows.enough);
       tables_right = c.requires.tables_right;
-      families_right = f;
+      families_right = c.requires.families_right;
     }
 
 pub returns : goal.returns

@@ -107,8 +107,8 @@ pub returns : goal.returns
 returns c =
     let a = c.args in
     let e = c.if-wanted-given-2.false in
-    let same = sym (λ z. same_kinds (plains_at (c.long-count.ensures.0 z) (c.long-f.ensures.0 z) a.kinds.now a.sizes.now) (kinds_at (formal_at a.families.now a.kinds.now a.sizes.now) ((c.long-count.ensures.0 ∙ e) z) (c.long-a.ensures.0 z) a.kinds.now a.sizes.now)) ∙ sym (c.same_kinds.ensures (formal_at a.families.now a.kinds.now a.sizes.now) a.sizes.now) in (
-      c.sizes_fit.ensures.result_value (formal_at a.families.now a.kinds.now a.sizes.now) ∙ (λ z. sizes_fit a.at (c.long.ensures.0 z) (plains_at (c.long-count.ensures.0 z) (c.long-f.ensures.0 z) a.kinds.now a.sizes.now) (kinds_at (formal_at a.families.now a.kinds.now a.sizes.now) ((c.long-count.ensures.0 ∙ e) z) (c.long-a.ensures.0 z) a.kinds.now a.sizes.now))
-          ∙ fits_sizes a.at (formal_at a.families.now a.kinds.now a.sizes.now a.formal) (signature_at a.families.now a.kinds.now a.sizes.now a.n) c.if-wanted-given.false (same ∙ not-false c.same_kinds.result c.if-not-same_kinds.false-raw),
-      c.sizes_fit.ensures.ends_at,
-    )
+    let same = sym (λ z. same_kinds (plains_at (c.long-count.ensures.0 z) (c.long-f.ensures.0 z) a.kinds.now a.sizes.now) (kinds_at (formal_at a.families.now a.kinds.now a.sizes.now) ((c.long-count.ensures.0 ∙ e) z) (c.long-a.ensures.0 z) a.kinds.now a.sizes.now)) ∙ sym (c.same_kinds.ensures (formal_at a.families.now a.kinds.now a.sizes.now) a.sizes.now) in record {
+      result_value = c.sizes_fit.ensures.result_value (formal_at a.families.now a.kinds.now a.sizes.now) ∙ (λ z. sizes_fit a.at (c.long.ensures.0 z) (plains_at (c.long-count.ensures.0 z) (c.long-f.ensures.0 z) a.kinds.now a.sizes.now) (kinds_at (formal_at a.families.now a.kinds.now a.sizes.now) ((c.long-count.ensures.0 ∙ e) z) (c.long-a.ensures.0 z) a.kinds.now a.sizes.now))
+          ∙ fits_sizes a.at (formal_at a.families.now a.kinds.now a.sizes.now a.formal) (signature_at a.families.now a.kinds.now a.sizes.now a.n) c.if-wanted-given.false (same ∙ not-false c.same_kinds.result c.if-not-same_kinds.false-raw);
+      ends_at = c.sizes_fit.ensures.ends_at;
+    }

@@ -60,12 +60,11 @@ overflow_add-row c =
 
 pub call_fits-requires : goal.call_fits-requires
 call_fits-requires c =
-    let f = c.requires.families_right in
     record {
       next_in_bounds = c.requires.next_in_bounds;
-      row_in_bounds = omega (arith, c.size_by-row.ensures, f.rows.formals (c.args.s.first + c.args.n));
+      row_in_bounds = omega (arith, c.size_by-row.ensures, c.requires.families_right.rows.formals (c.args.s.first + c.args.n));
       tables_right = c.requires.tables_right;
-      families_right = f;
+      families_right = c.requires.families_right;
     }
 
 pub returns : goal.returns

@@ -100,12 +100,12 @@ returns-in_default c =
     let l = c.if-before-named.false in
     let y = c.if-next-from-ne2.false in
     let size = as_form (widened (get_or a.sizes.now (size_of_row a.number) [])) in
-    let g = formal_at a.families.now a.kinds.now a.sizes.now (size_of_row a.number) in (
-      λ forms lows highs. not_due a.at forms c.kind_by.result size g (signature_at a.families.now a.kinds.now a.sizes.now (0 + n)) (opened c.in_default.in_default-own.keys2)
+    let g = formal_at a.families.now a.kinds.now a.sizes.now (size_of_row a.number) in record {
+      result_value = λ forms lows highs. not_due a.at forms c.kind_by.result size g (signature_at a.families.now a.kinds.now a.sizes.now (0 + n)) (opened c.in_default.in_default-own.keys2)
           ∙ ap (λ (k : Kind). family_fits a.at (taken forms (kind_in k size g)) (signature_at a.families.now a.kinds.now a.sizes.now (0 + n))) c.kind_by.ensures
-          ∙ late_good (scope_full a.s a.families.now a.kinds.now a.sizes.now lows highs) a.before forms (kind_by (formal_at a.families.now a.kinds.now a.sizes.now) a.number a.sizes.now) a.at (slice from a.next program) (get_or program from 0) (get_or program (from + 1) 0) (slice (from + 2) a.next program) e (signature_at a.families.now a.kinds.now a.sizes.now (0 + n)) (row_get (signature_at a.families.now a.kinds.now a.sizes.now) a.s.families 0 n (omega arith)) (omega arith) (slice_none (from + 2) a.next program (omega arith)),
-      tt,
-    )
+          ∙ late_good (scope_full a.s a.families.now a.kinds.now a.sizes.now lows highs) a.before forms (kind_by (formal_at a.families.now a.kinds.now a.sizes.now) a.number a.sizes.now) a.at (slice from a.next program) (get_or program from 0) (get_or program (from + 1) 0) (slice (from + 2) a.next program) e (signature_at a.families.now a.kinds.now a.sizes.now (0 + n)) (row_get (signature_at a.families.now a.kinds.now a.sizes.now) a.s.families 0 n (omega arith)) (omega arith) (slice_none (from + 2) a.next program (omega arith));
+      ends_at = tt;
+    }
 
 pub family_fits-requires : goal.family_fits-requires
 family_fits-requires c =
@@ -131,11 +131,11 @@ returns c =
     let l = c.if-before-named.false in
     let y = c.if-next-from-ne2.false in
     let size = as_form (widened (get_or a.sizes.now (size_of_row a.number) [])) in
-    let g = formal_at a.families.now a.kinds.now a.sizes.now (size_of_row a.number) in (
-      λ forms lows highs. c.family_fits.ensures.result_value
+    let g = formal_at a.families.now a.kinds.now a.sizes.now (size_of_row a.number) in record {
+      result_value = λ forms lows highs. c.family_fits.ensures.result_value
           ∙ (λ z. family_fits a.at (fitting (formal_at a.families.now a.kinds.now a.sizes.now (c.size_by-formal.ensures z))) (signature_at a.families.now a.kinds.now a.sizes.now ((v ∙ sym (zero-add n)) z)))
           ∙ family_due a.at forms size g (signature_at a.families.now a.kinds.now a.sizes.now (0 + n))
           ∙ ap (λ (k : Kind). family_fits a.at (taken forms (kind_in k size g)) (signature_at a.families.now a.kinds.now a.sizes.now (0 + n))) (sym c.in-Family.is ∙ c.kind_by.ensures)
-          ∙ late_good (scope_full a.s a.families.now a.kinds.now a.sizes.now lows highs) a.before forms (kind_by (formal_at a.families.now a.kinds.now a.sizes.now) a.number a.sizes.now) a.at (slice from a.next program) (get_or program from 0) (get_or program (from + 1) 0) (slice (from + 2) a.next program) e (signature_at a.families.now a.kinds.now a.sizes.now (0 + n)) (row_get (signature_at a.families.now a.kinds.now a.sizes.now) a.s.families 0 n (omega arith)) (omega arith) (slice_none (from + 2) a.next program (omega arith)),
-      c.family_fits.ensures.ends_at,
-    )
+          ∙ late_good (scope_full a.s a.families.now a.kinds.now a.sizes.now lows highs) a.before forms (kind_by (formal_at a.families.now a.kinds.now a.sizes.now) a.number a.sizes.now) a.at (slice from a.next program) (get_or program from 0) (get_or program (from + 1) 0) (slice (from + 2) a.next program) e (signature_at a.families.now a.kinds.now a.sizes.now (0 + n)) (row_get (signature_at a.families.now a.kinds.now a.sizes.now) a.s.families 0 n (omega arith)) (omega arith) (slice_none (from + 2) a.next program (omega arith));
+      ends_at = c.family_fits.ensures.ends_at;
+    }

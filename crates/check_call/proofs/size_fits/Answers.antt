@@ -66,9 +66,9 @@ returns c =
     let a = c.args in
     let sizes = a.sizes.now in
     let f = as_form (widened (get_or sizes (size_of_row a.formal) [])) in
-    let g = as_form (widened (get_or sizes (size_of_row a.actual) [])) in (
-      λ formals. c.at_least.ensures.result_value ∙ (λ z. must_show a.at (size_scope a.m) (difference_of (as_form (widened (get_or sizes (c.size_by-wanted.ensures z) []))) (as_form (widened (get_or sizes (c.size_by-given.ensures z) [])))))
+    let g = as_form (widened (get_or sizes (size_of_row a.actual) [])) in record {
+      result_value = λ formals. c.at_least.ensures.result_value ∙ (λ z. must_show a.at (size_scope a.m) (difference_of (as_form (widened (get_or sizes (c.size_by-wanted.ensures z) []))) (as_form (widened (get_or sizes (c.size_by-given.ensures z) [])))))
           ∙ both_sizes a.at a.m f g (formals (size_of_row a.actual))
-          ∙ (λ z. size_fits a.at a.m (plain_in ((sym c.in-Quantum.is ∙ c.kind_by.ensures) z) f) (plain_size (kind_in ((sym c.in-Quantum-kind_by.is ∙ c.kind_by-2.ensures) z) g (formals (size_of_row a.actual))))),
-      c.at_least.ensures.ends_at,
-    )
+          ∙ (λ z. size_fits a.at a.m (plain_in ((sym c.in-Quantum.is ∙ c.kind_by.ensures) z) f) (plain_size (kind_in ((sym c.in-Quantum-kind_by.is ∙ c.kind_by-2.ensures) z) g (formals (size_of_row a.actual)))));
+      ends_at = c.at_least.ensures.ends_at;
+    }

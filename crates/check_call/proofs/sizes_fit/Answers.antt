@@ -63,11 +63,10 @@ bounds-kinds-a c =
 
 pub size_fits-r-requires : goal.size_fits-r-requires
 size_fits-r-requires c =
-    let r = c.requires.sizes_right in
     record {
       m_le_most_variables = c.requires.m_le_most_variables;
-      short_rows = r.rows;
-      formal_in_bounds = (r.named (c.args.formal + c.loop-i.i), r.named (c.args.actual + c.loop-i.i));
+      short_rows = c.requires.sizes_right.rows;
+      formal_in_bounds = (c.requires.sizes_right.named (c.args.formal + c.loop-i.i), c.requires.sizes_right.named (c.args.actual + c.loop-i.i));
     }
 
 pub returns-in_default : goal.returns-in_default
@@ -76,12 +75,12 @@ returns-in_default c =
     let a = c.args in
     let ks = a.kinds.now in
     let sizes = a.sizes.now in
-    let i = c.loop-i in (
-      λ formals. part_stops c.size_fits-r.result (size_fits a.at a.m (plain_by (get_or ks (a.formal + i.i) 0) sizes) (plain_size (kind_at formals (a.actual + i.i) ks sizes))) (sizes_fit a.at a.m (drop (suc i.i) (plains_at a.count a.formal ks sizes)) (drop (suc i.i) (kinds_at formals a.count a.actual ks sizes))) (c.size_fits-r.ensures.result_value formals) (opened c.in_default.in_default-own.keys2)
+    let i = c.loop-i in record {
+      result_value = λ formals. part_stops c.size_fits-r.result (size_fits a.at a.m (plain_by (get_or ks (a.formal + i.i) 0) sizes) (plain_size (kind_at formals (a.actual + i.i) ks sizes))) (sizes_fit a.at a.m (drop (suc i.i) (plains_at a.count a.formal ks sizes)) (drop (suc i.i) (kinds_at formals a.count a.actual ks sizes))) (c.size_fits-r.ensures.result_value formals) (opened c.in_default.in_default-own.keys2)
           ∙ sym (i.invariant.1 formals
-          ∙ (λ z. sizes_fit a.at a.m (row_drop (λ (j : ℕ). plain_by (get_or ks j 0) sizes) a.count a.formal i.i c.loop-i-test.true z) (row_drop (λ (j : ℕ). kind_at formals j ks sizes) a.count a.actual i.i c.loop-i-test.true z))),
-      ends_stops c.size_fits-r.result a.next (opened c.in_default.in_default-own.keys2),
-    )
+          ∙ (λ z. sizes_fit a.at a.m (row_drop (λ (j : ℕ). plain_by (get_or ks j 0) sizes) a.count a.formal i.i c.loop-i-test.true z) (row_drop (λ (j : ℕ). kind_at formals j ks sizes) a.count a.actual i.i c.loop-i-test.true z)));
+      ends_at = ends_stops c.size_fits-r.result a.next (opened c.in_default.in_default-own.keys2);
+    }
 
 pub loop-i-preserved : goal.loop-i-preserved
 unfolding sizes_fit
@@ -104,8 +103,8 @@ returns c =
     let a = c.args in
     let ks = a.kinds.now in
     let sizes = a.sizes.now in
-    let i = c.loop-i in (
-      λ formals. sym (i.invariant.1 formals
-          ∙ (λ z. sizes_fit a.at a.m (drop_end (λ (j : ℕ). plain_by (get_or ks j 0) sizes) a.count a.formal i.i c.loop-i-test.false z) (drop_end (λ (j : ℕ). kind_at formals j ks sizes) a.count a.actual i.i c.loop-i-test.false z))),
-      refl,
-    )
+    let i = c.loop-i in record {
+      result_value = λ formals. sym (i.invariant.1 formals
+          ∙ (λ z. sizes_fit a.at a.m (drop_end (λ (j : ℕ). plain_by (get_or ks j 0) sizes) a.count a.formal i.i c.loop-i-test.false z) (drop_end (λ (j : ℕ). kind_at formals j ks sizes) a.count a.actual i.i c.loop-i-test.false z)));
+      ends_at = refl;
+    }

@@ -34,7 +34,6 @@ plain_rows-r-requires c =
     let kinds = a.kinds.now in
     let used = c.requires.in_use in
     let t = c.requires.operand_table in
-    let f = c.requires.formals_in in
     let half : a.row < length kinds / 2 = omega (arith, used.few, t.kinds_long, c.requires.at_bound.0, c.requires.at_bound.1) in
     let m = c.in-Both.m in
     let count = c.in-Both.count in
@@ -43,7 +42,6 @@ plain_rows-r-requires c =
     let one = w.1 in
     let most = w.2 in
     let five = w.3 in
-    let starts = c.plain_from-first.ensures in
     record {
       to_in_bounds = c.requires.at_bound.1;
       m_le_most_variables = few;
@@ -70,7 +68,6 @@ returns-in_default c =
     let kinds = a.kinds.now in
     let used = c.requires.in_use in
     let t = c.requires.operand_table in
-    let f = c.requires.formals_in in
     let half : a.row < length kinds / 2 = omega (arith, used.few, t.kinds_long, c.requires.at_bound.0, c.requires.at_bound.1) in
     let m = c.in-Both.m in
     let count = c.in-Both.count in
@@ -80,16 +77,14 @@ returns-in_default c =
     let most = w.2 in
     let five = w.3 in
     let first = c.plain_from-first.result in
-    let starts = c.plain_from-first.ensures in
     let k₁ = c.plain_rows-r.new.kinds in
     let s₁ = c.plain_rows-r.new.sizes in
-    let apart = c.plain_rows-r.ensures.apart in
     record {
       sizes_after = λ fs ks n. plain_refused (scope_with fs ks n []) program a.at a.next c.two_counts.result c.two_counts.ensures.result_value m count c.in-Both.is (formal_at families k₁ s₁) c.plain_rows-r.result first k₁ s₁ (c.plain_rows-r.ensures.sizes_after [] [] (formal_at families k₁ s₁)) (opened c.in_default.in_default-own.keys2) (formal_at families k₁ s₁) a.row k₁ s₁;
       ends_at = ends_stops c.plain_rows-r.result a.next (opened c.in_default.in_default-own.keys2);
       in_use_after = after_stops (a.row + 1) a.registers c.plain_rows-r.result k₁ (opened c.in_default.in_default-own.keys2);
       formals_after = formals_refused c.plain_rows-r.result families k₁ (opened c.in_default.in_default-own.keys2);
-      stays = stays_upper bytes a.row first count a.at a.registers families f apart (omega arith) half;
+      stays = stays_upper bytes a.row first count a.at a.registers families c.requires.formals_in c.plain_rows-r.ensures.apart (omega arith) half;
     }
 
 pub shape_of-kinds-then-end-next : goal.shape_of-kinds-then-end-next
@@ -110,7 +105,6 @@ returns-then-end-next c =
     let kinds = a.kinds.now in
     let used = c.requires.in_use in
     let t = c.requires.operand_table in
-    let f = c.requires.formals_in in
     let half : a.row < length kinds / 2 = omega (arith, used.few, t.kinds_long, c.requires.at_bound.0, c.requires.at_bound.1) in
     let m = c.in-Both.m in
     let count = c.in-Both.count in
@@ -120,10 +114,8 @@ returns-then-end-next c =
     let most = w.2 in
     let five = w.3 in
     let first = c.plain_from-first.result in
-    let starts = c.plain_from-first.ensures in
     let k₁ = c.plain_rows-r.new.kinds in
     let s₁ = c.plain_rows-r.new.sizes in
-    let apart = c.plain_rows-r.ensures.apart in
     let end = c.in-Upto.end in
     let beyond = count_upto program (a.at + 5) a.next count c.plain_rows-r.result end c.in-Upto.is c.plain_rows-r.ensures.passes_count in
     let within = within_upto (a.at + 5) a.next count c.plain_rows-r.result end c.in-Upto.is c.plain_rows-r.ensures.types_within in
@@ -136,7 +128,7 @@ returns-then-end-next c =
       ends_at = tt;
       in_use_after = tt;
       formals_after = tt;
-      stays = stays_upper bytes a.row first count a.at a.registers families f apart (omega arith) half;
+      stays = stays_upper bytes a.row first count a.at a.registers families c.requires.formals_in c.plain_rows-r.ensures.apart (omega arith) half;
     }
 
 pub size_row-own-requires : goal.size_row-own-requires
@@ -165,7 +157,6 @@ offset_bounds-kinds-row c =
     let kinds = a.kinds.now in
     let used = c.requires.in_use in
     let t = c.requires.operand_table in
-    let f = c.requires.formals_in in
     let half : a.row < length kinds / 2 = omega (arith, used.few, t.kinds_long, c.requires.at_bound.0, c.requires.at_bound.1) in
     let m = c.in-Both.m in
     let count = c.in-Both.count in
@@ -175,11 +166,9 @@ offset_bounds-kinds-row c =
     let most = w.2 in
     let five = w.3 in
     let first = c.plain_from-first.result in
-    let starts = c.plain_from-first.ensures in
     let k₁ = c.plain_rows-r.new.kinds in
     let s₁ = c.plain_rows-r.new.sizes in
-    let apart = c.plain_rows-r.ensures.apart in
-    omega (arith, c.well_formed, apart.kinds_same)
+    omega (arith, c.well_formed, c.plain_rows-r.ensures.apart.kinds_same)
 
 pub bounds-kinds-row : goal.bounds-kinds-row
 bounds-kinds-row c =
@@ -190,7 +179,6 @@ bounds-kinds-row c =
     let kinds = a.kinds.now in
     let used = c.requires.in_use in
     let t = c.requires.operand_table in
-    let f = c.requires.formals_in in
     let half : a.row < length kinds / 2 = omega (arith, used.few, t.kinds_long, c.requires.at_bound.0, c.requires.at_bound.1) in
     let m = c.in-Both.m in
     let count = c.in-Both.count in
@@ -200,11 +188,9 @@ bounds-kinds-row c =
     let most = w.2 in
     let five = w.3 in
     let first = c.plain_from-first.result in
-    let starts = c.plain_from-first.ensures in
     let k₁ = c.plain_rows-r.new.kinds in
     let s₁ = c.plain_rows-r.new.sizes in
-    let apart = c.plain_rows-r.ensures.apart in
-    omega (arith, c.well_formed, apart.kinds_same)
+    omega (arith, c.well_formed, c.plain_rows-r.ensures.apart.kinds_same)
 
 pub overflow_cast-entry : goal.overflow_cast-entry
 overflow_cast-entry c =
@@ -215,7 +201,6 @@ overflow_cast-entry c =
     let kinds = a.kinds.now in
     let used = c.requires.in_use in
     let t = c.requires.operand_table in
-    let f = c.requires.formals_in in
     let half : a.row < length kinds / 2 = omega (arith, used.few, t.kinds_long, c.requires.at_bound.0, c.requires.at_bound.1) in
     let m = c.in-Both.m in
     let count = c.in-Both.count in
@@ -225,10 +210,8 @@ overflow_cast-entry c =
     let most = w.2 in
     let five = w.3 in
     let first = c.plain_from-first.result in
-    let starts = c.plain_from-first.ensures in
     let k₁ = c.plain_rows-r.new.kinds in
     let s₁ = c.plain_rows-r.new.sizes in
-    let apart = c.plain_rows-r.ensures.apart in
     omega (arith, c.requires.program_len_bound.1, t.kinds_long, c.requires.at_bound.0, c.requires.at_bound.1, c.well_formed)
 
 pub overflow_cast-entry-in-Both : goal.overflow_cast-entry-in-Both
@@ -240,7 +223,6 @@ overflow_cast-entry-in-Both c =
     let kinds = a.kinds.now in
     let used = c.requires.in_use in
     let t = c.requires.operand_table in
-    let f = c.requires.formals_in in
     let half : a.row < length kinds / 2 = omega (arith, used.few, t.kinds_long, c.requires.at_bound.0, c.requires.at_bound.1) in
     let m = c.in-Both.m in
     let count = c.in-Both.count in
@@ -250,10 +232,8 @@ overflow_cast-entry-in-Both c =
     let most = w.2 in
     let five = w.3 in
     let first = c.plain_from-first.result in
-    let starts = c.plain_from-first.ensures in
     let k₁ = c.plain_rows-r.new.kinds in
     let s₁ = c.plain_rows-r.new.sizes in
-    let apart = c.plain_rows-r.ensures.apart in
     omega (arith, c.requires.program_len_bound.1, t.kinds_long, c.requires.at_bound.0, c.requires.at_bound.1, c.well_formed)
 
 pub overflow_cast-entry-in-Both-2 : goal.overflow_cast-entry-in-Both-2
@@ -265,7 +245,6 @@ overflow_cast-entry-in-Both-2 c =
     let kinds = a.kinds.now in
     let used = c.requires.in_use in
     let t = c.requires.operand_table in
-    let f = c.requires.formals_in in
     let half : a.row < length kinds / 2 = omega (arith, used.few, t.kinds_long, c.requires.at_bound.0, c.requires.at_bound.1) in
     let m = c.in-Both.m in
     let count = c.in-Both.count in
@@ -275,10 +254,8 @@ overflow_cast-entry-in-Both-2 c =
     let most = w.2 in
     let five = w.3 in
     let first = c.plain_from-first.result in
-    let starts = c.plain_from-first.ensures in
     let k₁ = c.plain_rows-r.new.kinds in
     let s₁ = c.plain_rows-r.new.sizes in
-    let apart = c.plain_rows-r.ensures.apart in
     omega (arith, c.requires.program_len_bound.1, t.kinds_long, c.requires.at_bound.0, c.requires.at_bound.1, c.well_formed)
 
 pub overflow_add-formal : goal.overflow_add-formal
@@ -290,7 +267,6 @@ overflow_add-formal c =
     let kinds = a.kinds.now in
     let used = c.requires.in_use in
     let t = c.requires.operand_table in
-    let f = c.requires.formals_in in
     let half : a.row < length kinds / 2 = omega (arith, used.few, t.kinds_long, c.requires.at_bound.0, c.requires.at_bound.1) in
     let m = c.in-Both.m in
     let count = c.in-Both.count in
@@ -300,10 +276,8 @@ overflow_add-formal c =
     let most = w.2 in
     let five = w.3 in
     let first = c.plain_from-first.result in
-    let starts = c.plain_from-first.ensures in
     let k₁ = c.plain_rows-r.new.kinds in
     let s₁ = c.plain_rows-r.new.sizes in
-    let apart = c.plain_rows-r.ensures.apart in
     let end = c.in-Upto.end in
     let beyond = count_upto program (a.at + 5) a.next count c.plain_rows-r.result end c.in-Upto.is c.plain_rows-r.ensures.passes_count in
     let within = within_upto (a.at + 5) a.next count c.plain_rows-r.result end c.in-Upto.is c.plain_rows-r.ensures.types_within in
@@ -312,12 +286,10 @@ overflow_add-formal c =
     let later = in_use_upto 0 a.registers end c.plain_rows-r.result k₁ c.in-Upto.is c.plain_rows-r.ensures.in_use_after in
     let plains = plain_upto c.plain_rows-r.result end count first k₁ c.in-Upto.is c.plain_rows-r.ensures.plain_after in
     let own = c.size_row-own.result in
-    let is = c.size_row-own.ensures in
     let b = c.row_number.result in
-    let u = c.row_number.ensures in
-    let names = number_size Family own b u in
+    let names = number_size Family own b c.row_number.ensures in
     let inside : 4096 + own < length families = omega (arith, c.requires.family_table, t.sizes_long, used.few_registers, c.requires.at_bound.0, c.requires.at_bound.1) in
-    let wide : a.row < length k₁ = omega (arith, apart.kinds_same) in
+    let wide : a.row < length k₁ = omega (arith, c.plain_rows-r.ensures.apart.kinds_same) in
     let room : first + count ≤ length kinds = omega (arith, t.kinds_long, c.requires.at_bound.0, c.requires.at_bound.1) in
     let far : a.at + 3 * count + 5 ≤ a.next = omega arith in
     omega (arith, c.well_formed)
@@ -331,7 +303,6 @@ offset_bounds-families-formal c =
     let kinds = a.kinds.now in
     let used = c.requires.in_use in
     let t = c.requires.operand_table in
-    let f = c.requires.formals_in in
     let half : a.row < length kinds / 2 = omega (arith, used.few, t.kinds_long, c.requires.at_bound.0, c.requires.at_bound.1) in
     let m = c.in-Both.m in
     let count = c.in-Both.count in
@@ -341,10 +312,8 @@ offset_bounds-families-formal c =
     let most = w.2 in
     let five = w.3 in
     let first = c.plain_from-first.result in
-    let starts = c.plain_from-first.ensures in
     let k₁ = c.plain_rows-r.new.kinds in
     let s₁ = c.plain_rows-r.new.sizes in
-    let apart = c.plain_rows-r.ensures.apart in
     let end = c.in-Upto.end in
     let beyond = count_upto program (a.at + 5) a.next count c.plain_rows-r.result end c.in-Upto.is c.plain_rows-r.ensures.passes_count in
     let within = within_upto (a.at + 5) a.next count c.plain_rows-r.result end c.in-Upto.is c.plain_rows-r.ensures.types_within in
@@ -353,12 +322,10 @@ offset_bounds-families-formal c =
     let later = in_use_upto 0 a.registers end c.plain_rows-r.result k₁ c.in-Upto.is c.plain_rows-r.ensures.in_use_after in
     let plains = plain_upto c.plain_rows-r.result end count first k₁ c.in-Upto.is c.plain_rows-r.ensures.plain_after in
     let own = c.size_row-own.result in
-    let is = c.size_row-own.ensures in
     let b = c.row_number.result in
-    let u = c.row_number.ensures in
-    let names = number_size Family own b u in
+    let names = number_size Family own b c.row_number.ensures in
     let inside : 4096 + own < length families = omega (arith, c.requires.family_table, t.sizes_long, used.few_registers, c.requires.at_bound.0, c.requires.at_bound.1) in
-    let wide : a.row < length k₁ = omega (arith, apart.kinds_same) in
+    let wide : a.row < length k₁ = omega (arith, c.plain_rows-r.ensures.apart.kinds_same) in
     let room : first + count ≤ length kinds = omega (arith, t.kinds_long, c.requires.at_bound.0, c.requires.at_bound.1) in
     let far : a.at + 3 * count + 5 ≤ a.next = omega arith in
     omega (arith, c.well_formed)
@@ -372,7 +339,6 @@ bounds-families-formal c =
     let kinds = a.kinds.now in
     let used = c.requires.in_use in
     let t = c.requires.operand_table in
-    let f = c.requires.formals_in in
     let half : a.row < length kinds / 2 = omega (arith, used.few, t.kinds_long, c.requires.at_bound.0, c.requires.at_bound.1) in
     let m = c.in-Both.m in
     let count = c.in-Both.count in
@@ -382,10 +348,8 @@ bounds-families-formal c =
     let most = w.2 in
     let five = w.3 in
     let first = c.plain_from-first.result in
-    let starts = c.plain_from-first.ensures in
     let k₁ = c.plain_rows-r.new.kinds in
     let s₁ = c.plain_rows-r.new.sizes in
-    let apart = c.plain_rows-r.ensures.apart in
     let end = c.in-Upto.end in
     let beyond = count_upto program (a.at + 5) a.next count c.plain_rows-r.result end c.in-Upto.is c.plain_rows-r.ensures.passes_count in
     let within = within_upto (a.at + 5) a.next count c.plain_rows-r.result end c.in-Upto.is c.plain_rows-r.ensures.types_within in
@@ -394,12 +358,10 @@ bounds-families-formal c =
     let later = in_use_upto 0 a.registers end c.plain_rows-r.result k₁ c.in-Upto.is c.plain_rows-r.ensures.in_use_after in
     let plains = plain_upto c.plain_rows-r.result end count first k₁ c.in-Upto.is c.plain_rows-r.ensures.plain_after in
     let own = c.size_row-own.result in
-    let is = c.size_row-own.ensures in
     let b = c.row_number.result in
-    let u = c.row_number.ensures in
-    let names = number_size Family own b u in
+    let names = number_size Family own b c.row_number.ensures in
     let inside : 4096 + own < length families = omega (arith, c.requires.family_table, t.sizes_long, used.few_registers, c.requires.at_bound.0, c.requires.at_bound.1) in
-    let wide : a.row < length k₁ = omega (arith, apart.kinds_same) in
+    let wide : a.row < length k₁ = omega (arith, c.plain_rows-r.ensures.apart.kinds_same) in
     let room : first + count ≤ length kinds = omega (arith, t.kinds_long, c.requires.at_bound.0, c.requires.at_bound.1) in
     let far : a.at + 3 * count + 5 ≤ a.next = omega arith in
     omega (arith, c.well_formed)
@@ -414,7 +376,6 @@ returns-in-Bad c =
     let kinds = a.kinds.now in
     let used = c.requires.in_use in
     let t = c.requires.operand_table in
-    let f = c.requires.formals_in in
     let half : a.row < length kinds / 2 = omega (arith, used.few, t.kinds_long, c.requires.at_bound.0, c.requires.at_bound.1) in
     record {
       sizes_after = λ fs ks n. counts_bad (scope_with fs ks n []) program a.at a.next c.two_counts.result c.two_counts.ensures.result_value c.in-Bad.k c.in-Bad.q c.in-Bad.is;
@@ -433,7 +394,6 @@ shape_of-families c =
     let kinds = a.kinds.now in
     let used = c.requires.in_use in
     let t = c.requires.operand_table in
-    let f = c.requires.formals_in in
     let half : a.row < length kinds / 2 = omega (arith, used.few, t.kinds_long, c.requires.at_bound.0, c.requires.at_bound.1) in
     let m = c.in-Both.m in
     let count = c.in-Both.count in
@@ -443,10 +403,8 @@ shape_of-families c =
     let most = w.2 in
     let five = w.3 in
     let first = c.plain_from-first.result in
-    let starts = c.plain_from-first.ensures in
     let k₁ = c.plain_rows-r.new.kinds in
     let s₁ = c.plain_rows-r.new.sizes in
-    let apart = c.plain_rows-r.ensures.apart in
     let end = c.in-Upto.end in
     let beyond = count_upto program (a.at + 5) a.next count c.plain_rows-r.result end c.in-Upto.is c.plain_rows-r.ensures.passes_count in
     let within = within_upto (a.at + 5) a.next count c.plain_rows-r.result end c.in-Upto.is c.plain_rows-r.ensures.types_within in
@@ -455,15 +413,13 @@ shape_of-families c =
     let later = in_use_upto 0 a.registers end c.plain_rows-r.result k₁ c.in-Upto.is c.plain_rows-r.ensures.in_use_after in
     let plains = plain_upto c.plain_rows-r.result end count first k₁ c.in-Upto.is c.plain_rows-r.ensures.plain_after in
     let own = c.size_row-own.result in
-    let is = c.size_row-own.ensures in
     let b = c.row_number.result in
-    let u = c.row_number.ensures in
-    let names = number_size Family own b u in
+    let names = number_size Family own b c.row_number.ensures in
     let inside : 4096 + own < length families = omega (arith, c.requires.family_table, t.sizes_long, used.few_registers, c.requires.at_bound.0, c.requires.at_bound.1) in
-    let wide : a.row < length k₁ = omega (arith, apart.kinds_same) in
+    let wide : a.row < length k₁ = omega (arith, c.plain_rows-r.ensures.apart.kinds_same) in
     let room : first + count ≤ length kinds = omega (arith, t.kinds_long, c.requires.at_bound.0, c.requires.at_bound.1) in
     let far : a.at + 3 * count + 5 ≤ a.next = omega arith in
-    (stays_family bytes a.row first count a.at a.next a.registers families f apart starts half m own b is u inside).families_same
+    (stays_family bytes a.row first count a.at a.next a.registers families c.requires.formals_in c.plain_rows-r.ensures.apart c.plain_from-first.ensures half m own b c.size_row-own.ensures c.row_number.ensures inside).families_same
 
 pub shape_of-kinds : goal.shape_of-kinds
 shape_of-kinds c =
@@ -474,7 +430,6 @@ shape_of-kinds c =
     let kinds = a.kinds.now in
     let used = c.requires.in_use in
     let t = c.requires.operand_table in
-    let f = c.requires.formals_in in
     let half : a.row < length kinds / 2 = omega (arith, used.few, t.kinds_long, c.requires.at_bound.0, c.requires.at_bound.1) in
     let m = c.in-Both.m in
     let count = c.in-Both.count in
@@ -484,10 +439,8 @@ shape_of-kinds c =
     let most = w.2 in
     let five = w.3 in
     let first = c.plain_from-first.result in
-    let starts = c.plain_from-first.ensures in
     let k₁ = c.plain_rows-r.new.kinds in
     let s₁ = c.plain_rows-r.new.sizes in
-    let apart = c.plain_rows-r.ensures.apart in
     let end = c.in-Upto.end in
     let beyond = count_upto program (a.at + 5) a.next count c.plain_rows-r.result end c.in-Upto.is c.plain_rows-r.ensures.passes_count in
     let within = within_upto (a.at + 5) a.next count c.plain_rows-r.result end c.in-Upto.is c.plain_rows-r.ensures.types_within in
@@ -496,15 +449,13 @@ shape_of-kinds c =
     let later = in_use_upto 0 a.registers end c.plain_rows-r.result k₁ c.in-Upto.is c.plain_rows-r.ensures.in_use_after in
     let plains = plain_upto c.plain_rows-r.result end count first k₁ c.in-Upto.is c.plain_rows-r.ensures.plain_after in
     let own = c.size_row-own.result in
-    let is = c.size_row-own.ensures in
     let b = c.row_number.result in
-    let u = c.row_number.ensures in
-    let names = number_size Family own b u in
+    let names = number_size Family own b c.row_number.ensures in
     let inside : 4096 + own < length families = omega (arith, c.requires.family_table, t.sizes_long, used.few_registers, c.requires.at_bound.0, c.requires.at_bound.1) in
-    let wide : a.row < length k₁ = omega (arith, apart.kinds_same) in
+    let wide : a.row < length k₁ = omega (arith, c.plain_rows-r.ensures.apart.kinds_same) in
     let room : first + count ≤ length kinds = omega (arith, t.kinds_long, c.requires.at_bound.0, c.requires.at_bound.1) in
     let far : a.at + 3 * count + 5 ≤ a.next = omega arith in
-    (stays_family bytes a.row first count a.at a.next a.registers families f apart starts half m own b is u inside).kinds_same
+    (stays_family bytes a.row first count a.at a.next a.registers families c.requires.formals_in c.plain_rows-r.ensures.apart c.plain_from-first.ensures half m own b c.size_row-own.ensures c.row_number.ensures inside).kinds_same
 
 pub shape_of-sizes : goal.shape_of-sizes
 shape_of-sizes c =
@@ -520,7 +471,6 @@ returns-else-end-next c =
     let kinds = a.kinds.now in
     let used = c.requires.in_use in
     let t = c.requires.operand_table in
-    let f = c.requires.formals_in in
     let half : a.row < length kinds / 2 = omega (arith, used.few, t.kinds_long, c.requires.at_bound.0, c.requires.at_bound.1) in
     let m = c.in-Both.m in
     let count = c.in-Both.count in
@@ -530,10 +480,8 @@ returns-else-end-next c =
     let most = w.2 in
     let five = w.3 in
     let first = c.plain_from-first.result in
-    let starts = c.plain_from-first.ensures in
     let k₁ = c.plain_rows-r.new.kinds in
     let s₁ = c.plain_rows-r.new.sizes in
-    let apart = c.plain_rows-r.ensures.apart in
     let end = c.in-Upto.end in
     let beyond = count_upto program (a.at + 5) a.next count c.plain_rows-r.result end c.in-Upto.is c.plain_rows-r.ensures.passes_count in
     let within = within_upto (a.at + 5) a.next count c.plain_rows-r.result end c.in-Upto.is c.plain_rows-r.ensures.types_within in
@@ -542,16 +490,17 @@ returns-else-end-next c =
     let later = in_use_upto 0 a.registers end c.plain_rows-r.result k₁ c.in-Upto.is c.plain_rows-r.ensures.in_use_after in
     let plains = plain_upto c.plain_rows-r.result end count first k₁ c.in-Upto.is c.plain_rows-r.ensures.plain_after in
     let own = c.size_row-own.result in
-    let is = c.size_row-own.ensures in
     let b = c.row_number.result in
-    let u = c.row_number.ensures in
-    let names = number_size Family own b u in
+    let names = number_size Family own b c.row_number.ensures in
     let inside : 4096 + own < length families = omega (arith, c.requires.family_table, t.sizes_long, used.few_registers, c.requires.at_bound.0, c.requires.at_bound.1) in
-    let wide : a.row < length k₁ = omega (arith, apart.kinds_same) in
+    let wide : a.row < length k₁ = omega (arith, c.plain_rows-r.ensures.apart.kinds_same) in
     let room : first + count ≤ length kinds = omega (arith, t.kinds_long, c.requires.at_bound.0, c.requires.at_bound.1) in
     let far : a.at + 3 * count + 5 ≤ a.next = omega arith in
-    let g = formal_at (set families (4096 + own) (m ∷ count ∷ first ∷ [])) (set k₁ a.row b) s₁ in (
-      λ fs ks n. ap good (row_kind bytes a.row k₁ s₁ apart.table wide b g ∙ (λ i. kind_in (number_kind Family own b u i) (as_form (widened (get_or s₁ (size_of_row b) []))) (g (names i))) ∙ ap formal (family_takes bytes a.row first count a.at a.next a.registers families f apart starts half m own b is u inside (formal_at families k₁ s₁)))
-          ∙ plain_all (scope_with fs ks n []) program a.at a.next c.two_counts.result c.two_counts.ensures.result_value m count c.in-Both.is (formal_at families k₁ s₁) c.plain_rows-r.result first k₁ s₁ (c.plain_rows-r.ensures.sizes_after [] [] (formal_at families k₁ s₁)) end c.in-Upto.is beyond c.if-end-next.false,
-      (refl, (in_use_set 0 (a.row + 1) a.registers a.registers end a.next k₁ a.row b later wide (omega arith) (omega arith) (omega (arith, used.few)) used.few_registers, (formals_family bytes a.row first count a.at a.next a.registers families f apart starts half m own b is u inside few room far plains, stays_family bytes a.row first count a.at a.next a.registers families f apart starts half m own b is u inside))),
-    )
+    let g = formal_at (set families (4096 + own) (m ∷ count ∷ first ∷ [])) (set k₁ a.row b) s₁ in record {
+      sizes_after = λ fs ks n. ap good (row_kind bytes a.row k₁ s₁ c.plain_rows-r.ensures.apart.table wide b g ∙ (λ i. kind_in (number_kind Family own b c.row_number.ensures i) (as_form (widened (get_or s₁ (size_of_row b) []))) (g (names i))) ∙ ap formal (family_takes bytes a.row first count a.at a.next a.registers families c.requires.formals_in c.plain_rows-r.ensures.apart c.plain_from-first.ensures half m own b c.size_row-own.ensures c.row_number.ensures inside (formal_at families k₁ s₁)))
+          ∙ plain_all (scope_with fs ks n []) program a.at a.next c.two_counts.result c.two_counts.ensures.result_value m count c.in-Both.is (formal_at families k₁ s₁) c.plain_rows-r.result first k₁ s₁ (c.plain_rows-r.ensures.sizes_after [] [] (formal_at families k₁ s₁)) end c.in-Upto.is beyond c.if-end-next.false;
+      ends_at = refl;
+      in_use_after = in_use_set 0 (a.row + 1) a.registers a.registers end a.next k₁ a.row b later wide (omega arith) (omega arith) (omega (arith, used.few)) used.few_registers;
+      formals_after = formals_family bytes a.row first count a.at a.next a.registers families c.requires.formals_in c.plain_rows-r.ensures.apart c.plain_from-first.ensures half m own b c.size_row-own.ensures c.row_number.ensures inside few room far plains;
+      stays = stays_family bytes a.row first count a.at a.next a.registers families c.requires.formals_in c.plain_rows-r.ensures.apart c.plain_from-first.ensures half m own b c.size_row-own.ensures c.row_number.ensures inside;
+    }

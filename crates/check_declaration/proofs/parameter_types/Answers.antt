@@ -70,14 +70,16 @@ returns-in_default c =
     let e : a.count - i.j ≡ suc (a.count - (i.j + 1)) = (let h = c.loop-j-test.true in omega arith) in
     let before = formal_at i.families i.kinds i.sizes in
     let sofar : List Kind → Checked (List Kind) = λ rest. good (kinds_at before i.j a.first i.kinds i.sizes ++ rest) in
-    let step = c.typed_row-r.ensures.stays in
-    let along = i.invariant.2.low in (
-      λ fs ks. rows_stop g c.typed_row-r.result a.count a.first kinds sizes sofar (opened c.in_default.in_default-own.keys2)
+    let along = i.invariant.2.low in record {
+      sizes_after = λ fs ks. rows_stop g c.typed_row-r.result a.count a.first kinds sizes sofar (opened c.in_default.in_default-own.keys2)
           ∙ ap (λ (c : Checked (List Kind)). c >>= sofar) (types_stop (type_level (scope_with fs ks a.m []) a.parent) (a.count - (i.j + 1)) program i.from a.to g c.typed_row-r.result (a.first + i.j) kinds sizes (c.typed_row-r.ensures.sizes_after fs ks) a.count a.first (opened c.in_default.in_default-own.keys2)
           ∙ ap (λ (n : ℕ). kinds_of (scope_with fs ks a.m []) (types_of a.parent n (fields_at program i.from a.to))) (sym e))
-          ∙ sym (i.invariant.6 fs ks),
-      (beyond_stops program a.at a.to a.count c.typed_row-r.result (opened c.in_default.in_default-own.keys2), (in_use_stops (a.first + a.count) a.registers a.to c.typed_row-r.result kinds (opened c.in_default.in_default-own.keys2), (formals_stop a.to c.typed_row-r.result families kinds (opened c.in_default.in_default-own.keys2), stays_more (length program) a.first a.at i.from a.registers i.j along i.invariant.1 step))),
-    )
+          ∙ sym (i.invariant.6 fs ks);
+      passes_count = beyond_stops program a.at a.to a.count c.typed_row-r.result (opened c.in_default.in_default-own.keys2);
+      in_use_before = in_use_stops (a.first + a.count) a.registers a.to c.typed_row-r.result kinds (opened c.in_default.in_default-own.keys2);
+      formals_before = formals_stop a.to c.typed_row-r.result families kinds (opened c.in_default.in_default-own.keys2);
+      stays = stays_more (length program) a.first a.at i.from a.registers i.j along i.invariant.1 c.typed_row-r.ensures.stays;
+    }
 
 pub loop-j-preserved : goal.loop-j-preserved
 loop-j-preserved c =
@@ -91,14 +93,13 @@ loop-j-preserved c =
     let e : a.count - i.j ≡ suc (a.count - (i.j + 1)) = (let h = c.loop-j-test.true in omega arith) in
     let before = formal_at i.families i.kinds i.sizes in
     let sofar : List Kind → Checked (List Kind) = λ rest. good (kinds_at before i.j a.first i.kinds i.sizes ++ rest) in
-    let step = c.typed_row-r.ensures.stays in
     let along = i.invariant.2.low in
     let next = c.in-Upto.next in
     let v = passes_upto program i.from a.to c.typed_row-r.result next c.in-Upto.is c.typed_row-r.ensures.passes in
     let used = in_use_upto (a.first + i.j + 1) a.registers next c.typed_row-r.result kinds c.in-Upto.is c.typed_row-r.ensures.in_use_after in
     let h = c.loop-j-test.true in (
       omega arith,
-      stays_more (length program) a.first a.at i.from a.registers i.j along i.invariant.1 step,
+      stays_more (length program) a.first a.at i.from a.registers i.j along i.invariant.1 c.typed_row-r.ensures.stays,
       beyond_more program a.at a.to i.j i.from next i.invariant.2 v,
       in_use_later (a.first + i.j + 1) (a.first + (i.j + 1)) a.registers next next kinds used (omega arith) (omega (arith, used.few)),
       v.high,
@@ -106,7 +107,7 @@ loop-j-preserved c =
       (λ fs ks. i.invariant.6 fs ks
           ∙ ap (λ (n : ℕ). kinds_of (scope_with fs ks a.m []) (types_of a.parent n (fields_at program i.from a.to)) >>= sofar) e
           ∙ ap (λ (c : Checked (List Kind)). c >>= sofar) (types_go (type_level (scope_with fs ks a.m []) a.parent) (a.count - (i.j + 1)) program i.from a.to g c.typed_row-r.result (a.first + i.j) kinds sizes (c.typed_row-r.ensures.sizes_after fs ks) next c.in-Upto.is v)
-          ∙ more_kinds (kinds_of (scope_with fs ks a.m []) (types_of a.parent (a.count - (i.j + 1)) (fields_at program next a.to))) a.first i.j before g i.kinds i.sizes kinds sizes (kinds_stay (length program) (a.first + i.j) (a.first + i.j) i.from a.registers i.j a.first i.invariant.3 step (omega arith))),
+          ∙ more_kinds (kinds_of (scope_with fs ks a.m []) (types_of a.parent (a.count - (i.j + 1)) (fields_at program next a.to))) a.first i.j before g i.kinds i.sizes kinds sizes (kinds_stay (length program) (a.first + i.j) (a.first + i.j) i.from a.registers i.j a.first i.invariant.3 c.typed_row-r.ensures.stays (omega arith))),
     )
 
 pub shape_of-families : goal.shape_of-families

@@ -24,7 +24,6 @@ offset_bounds-kinds-row c =
     let bytes = length program in
     let l = c.plain_type.new.f in
     let before = c.requires.in_use in
-    let t = c.requires.operand_table in
     let kinds = a.kinds.now in
     let sizes = a.sizes.now in
     let next = c.in-Single.next in
@@ -39,7 +38,6 @@ bounds-kinds-row c =
     let bytes = length program in
     let l = c.plain_type.new.f in
     let before = c.requires.in_use in
-    let t = c.requires.operand_table in
     let kinds = a.kinds.now in
     let sizes = a.sizes.now in
     let next = c.in-Single.next in
@@ -54,7 +52,6 @@ store-requires c =
     let bytes = length program in
     let l = c.plain_type.new.f in
     let before = c.requires.in_use in
-    let t = c.requires.operand_table in
     let kinds = a.kinds.now in
     let sizes = a.sizes.now in
     let next = c.in-Many.next in
@@ -73,7 +70,6 @@ size_row-own-requires c =
     let bytes = length program in
     let l = c.plain_type.new.f in
     let before = c.requires.in_use in
-    let t = c.requires.operand_table in
     let kinds = a.kinds.now in
     let sizes = a.sizes.now in
     let next = c.in-Many.next in
@@ -91,7 +87,6 @@ row_number-requires-in-Many c =
     let bytes = length program in
     let l = c.plain_type.new.f in
     let before = c.requires.in_use in
-    let t = c.requires.operand_table in
     let kinds = a.kinds.now in
     let sizes = a.sizes.now in
     let next = c.in-Many.next in
@@ -106,7 +101,6 @@ offset_bounds-kinds-row-in-Many c =
     let bytes = length program in
     let l = c.plain_type.new.f in
     let before = c.requires.in_use in
-    let t = c.requires.operand_table in
     let kinds = a.kinds.now in
     let sizes = a.sizes.now in
     let next = c.in-Many.next in
@@ -121,7 +115,6 @@ bounds-kinds-row-in-Many c =
     let bytes = length program in
     let l = c.plain_type.new.f in
     let before = c.requires.in_use in
-    let t = c.requires.operand_table in
     let kinds = a.kinds.now in
     let sizes = a.sizes.now in
     let next = c.in-Many.next in
@@ -136,7 +129,6 @@ offset_bounds-sizes-own c =
     let bytes = length program in
     let l = c.plain_type.new.f in
     let before = c.requires.in_use in
-    let t = c.requires.operand_table in
     let kinds = a.kinds.now in
     let sizes = a.sizes.now in
     let next = c.in-Many.next in
@@ -144,7 +136,7 @@ offset_bounds-sizes-own c =
     let h : a.row < length kinds = c.requires.row_in_bounds in
     let own = c.size_row-own.result in
     let is : own ≡ size_row a.at a.registers = c.size_row-own.ensures in
-    let f : own < length sizes = omega (arith, u.0.low, u.0.high, c.requires.to_in_bounds, t.sizes_long, before.few_registers) in
+    let f : own < length sizes = omega (arith, u.0.low, u.0.high, c.requires.to_in_bounds, c.requires.operand_table.sizes_long, before.few_registers) in
     omega (arith, c.well_formed)
 
 pub bounds-sizes-own : goal.bounds-sizes-own
@@ -154,7 +146,6 @@ bounds-sizes-own c =
     let bytes = length program in
     let l = c.plain_type.new.f in
     let before = c.requires.in_use in
-    let t = c.requires.operand_table in
     let kinds = a.kinds.now in
     let sizes = a.sizes.now in
     let next = c.in-Many.next in
@@ -162,7 +153,7 @@ bounds-sizes-own c =
     let h : a.row < length kinds = c.requires.row_in_bounds in
     let own = c.size_row-own.result in
     let is : own ≡ size_row a.at a.registers = c.size_row-own.ensures in
-    let f : own < length sizes = omega (arith, u.0.low, u.0.high, c.requires.to_in_bounds, t.sizes_long, before.few_registers) in
+    let f : own < length sizes = omega (arith, u.0.low, u.0.high, c.requires.to_in_bounds, c.requires.operand_table.sizes_long, before.few_registers) in
     omega (arith, c.well_formed)
 
 pub returns-in-Single : goal.returns-in-Single
@@ -172,20 +163,19 @@ returns-in-Single c =
     let bytes = length program in
     let l = c.plain_type.new.f in
     let before = c.requires.in_use in
-    let t = c.requires.operand_table in
     let kinds = a.kinds.now in
     let sizes = a.sizes.now in
     let next = c.in-Single.next in
     let u = past_single program a.at a.to c.plain_type.result l next c.plain_type.ensures.type_passes c.in-Single.is in
     let h : a.row < length kinds = c.requires.row_in_bounds in
     let b = c.row_number.result in
-    let none = number_size Qubit 0 b c.row_number.ensures in (
-      λ fs ks formals. typed_single c.plain_type.result next l bytes a.row kinds sizes t h b c.row_number.ensures c.in-Single.is formals ∙ c.plain_type.ensures.f_after fs ks,
-      (
-        u,
-        (in_use_set 0 0 a.registers a.registers a.at next kinds a.row b before h (omega arith) (omega (arith, u.low)) (omega (arith, u.low, before.few)) before.few_registers, (set_plain kinds a.row b Qubit 0 h c.row_number.ensures tt, apart_kind bytes a.row kinds sizes t h b)),
-      ),
-    )
+    let none = number_size Qubit 0 b c.row_number.ensures in record {
+      sizes_after = λ fs ks formals. typed_single c.plain_type.result next l bytes a.row kinds sizes c.requires.operand_table h b c.row_number.ensures c.in-Single.is formals ∙ c.plain_type.ensures.f_after fs ks;
+      passes = u;
+      in_use_after = in_use_set 0 0 a.registers a.registers a.at next kinds a.row b before h (omega arith) (omega (arith, u.low)) (omega (arith, u.low, before.few)) before.few_registers;
+      plain_after = set_plain kinds a.row b Qubit 0 h c.row_number.ensures tt;
+      apart = apart_kind bytes a.row kinds sizes c.requires.operand_table h b;
+    }
 
 pub returns-in-Many : goal.returns-in-Many
 returns-in-Many c =
@@ -194,7 +184,6 @@ returns-in-Many c =
     let bytes = length program in
     let l = c.plain_type.new.f in
     let before = c.requires.in_use in
-    let t = c.requires.operand_table in
     let kinds = a.kinds.now in
     let sizes = a.sizes.now in
     let next = c.in-Many.next in
@@ -202,17 +191,17 @@ returns-in-Many c =
     let h : a.row < length kinds = c.requires.row_in_bounds in
     let own = c.size_row-own.result in
     let is : own ≡ size_row a.at a.registers = c.size_row-own.ensures in
-    let f : own < length sizes = omega (arith, u.0.low, u.0.high, c.requires.to_in_bounds, t.sizes_long, before.few_registers) in
+    let f : own < length sizes = omega (arith, u.0.low, u.0.high, c.requires.to_in_bounds, c.requires.operand_table.sizes_long, before.few_registers) in
     let b = c.row_number-in-Many.result in
     let names = number_size Quantum own b c.row_number-in-Many.ensures in
     let d : (j : ℕ) → size_of_row (get_or kinds j 0) < own = (λ j. omega (arith, before.named j)) in
-    let short = c.store.new.row in (
-      λ fs ks formals. typed_many c.plain_type.result next l bytes a.row kinds sizes t h b own c.row_number-in-Many.ensures short d f c.in-Many.is c.store.ensures.short c.store.ensures.row_after formals ∙ c.plain_type.ensures.f_after fs ks,
-      (
-        u.0,
-        (in_use_set 0 0 a.registers a.registers a.at next kinds a.row b before h (omega (arith, u.2)) (omega (arith, u.2)) (omega (arith, u.2, before.few)) before.few_registers, (set_plain kinds a.row b Quantum own h c.row_number-in-Many.ensures tt, apart_both bytes a.row kinds sizes t h b own short c.store.ensures.short d f)),
-      ),
-    )
+    let short = c.store.new.row in record {
+      sizes_after = λ fs ks formals. typed_many c.plain_type.result next l bytes a.row kinds sizes c.requires.operand_table h b own c.row_number-in-Many.ensures short d f c.in-Many.is c.store.ensures.short c.store.ensures.row_after formals ∙ c.plain_type.ensures.f_after fs ks;
+      passes = u.0;
+      in_use_after = in_use_set 0 0 a.registers a.registers a.at next kinds a.row b before h (omega (arith, u.2)) (omega (arith, u.2)) (omega (arith, u.2, before.few)) before.few_registers;
+      plain_after = set_plain kinds a.row b Quantum own h c.row_number-in-Many.ensures tt;
+      apart = apart_both bytes a.row kinds sizes c.requires.operand_table h b own short c.store.ensures.short d f;
+    }
 
 pub returns-in-Bad : goal.returns-in-Bad
 returns-in-Bad c =
@@ -221,9 +210,11 @@ returns-in-Bad c =
     let bytes = length program in
     let l = c.plain_type.new.f in
     let before = c.requires.in_use in
-    let t = c.requires.operand_table in
     let kinds = a.kinds.now in
-    let sizes = a.sizes.now in (
-      λ fs ks formals. typed_bad c.plain_type.result c.in-Bad.n c.in-Bad.q l a.row kinds sizes c.in-Bad.is formals ∙ c.plain_type.ensures.f_after fs ks,
-      (tt, (tt, (tt, apart_none bytes a.row 1 kinds sizes t))),
-    )
+    let sizes = a.sizes.now in record {
+      sizes_after = λ fs ks formals. typed_bad c.plain_type.result c.in-Bad.n c.in-Bad.q l a.row kinds sizes c.in-Bad.is formals ∙ c.plain_type.ensures.f_after fs ks;
+      passes = tt;
+      in_use_after = tt;
+      plain_after = tt;
+      apart = apart_none bytes a.row 1 kinds sizes c.requires.operand_table;
+    }

@@ -37,7 +37,6 @@ overflow_cast-size c =
     let room = f.room in
     let fits = f.fits in
     let before = c.requires.in_use in
-    let t = c.requires.operand_table in
     let long = c.requires.program_len_bound in
     search rules
 
@@ -51,7 +50,6 @@ set_constant-requires c =
     let room = f.room in
     let fits = f.fits in
     let before = c.requires.in_use in
-    let t = c.requires.operand_table in
     let long = c.requires.program_len_bound in
     let far = c.requires.most_le_furthest in
     let fine = range_yes (pos n) (omega arith) in
@@ -75,7 +73,6 @@ size_row-own-requires c =
     let room = f.room in
     let fits = f.fits in
     let before = c.requires.in_use in
-    let t = c.requires.operand_table in
     let long = c.requires.program_len_bound in
     record {
       at_le_longest_program = omega (arith, c.requires.at_bound.0, c.requires.at_bound.1);
@@ -92,7 +89,6 @@ row_number-requires c =
     let room = f.room in
     let fits = f.fits in
     let before = c.requires.in_use in
-    let t = c.requires.operand_table in
     let long = c.requires.program_len_bound in
     omega (arith, c.size_row-own.ensures, c.requires.at_bound.0, c.requires.at_bound.1)
 
@@ -106,9 +102,8 @@ offset_bounds-kinds-count c =
     let room = f.room in
     let fits = f.fits in
     let before = c.requires.in_use in
-    let t = c.requires.operand_table in
     let long = c.requires.program_len_bound in
-    omega (arith, t.kinds_long, c.well_formed)
+    omega (arith, c.requires.operand_table.kinds_long, c.well_formed)
 
 pub bounds-kinds-count : goal.bounds-kinds-count
 bounds-kinds-count c =
@@ -120,9 +115,8 @@ bounds-kinds-count c =
     let room = f.room in
     let fits = f.fits in
     let before = c.requires.in_use in
-    let t = c.requires.operand_table in
     let long = c.requires.program_len_bound in
-    omega (arith, t.kinds_long, c.well_formed)
+    omega (arith, c.requires.operand_table.kinds_long, c.well_formed)
 
 pub offset_bounds-sizes-own : goal.offset_bounds-sizes-own
 offset_bounds-sizes-own c =
@@ -134,11 +128,10 @@ offset_bounds-sizes-own c =
     let room = f.room in
     let fits = f.fits in
     let before = c.requires.in_use in
-    let t = c.requires.operand_table in
     let long = c.requires.program_len_bound in
     let own = c.size_row-own.result in
     let is : own ≡ size_row a.at a.count = c.size_row-own.ensures in
-    let inside : own < length a.sizes.now = omega (arith, t.sizes_long, c.requires.at_bound.0, c.requires.at_bound.1) in
+    let inside : own < length a.sizes.now = omega (arith, c.requires.operand_table.sizes_long, c.requires.at_bound.0, c.requires.at_bound.1) in
     omega (arith, c.well_formed)
 
 pub bounds-sizes-own : goal.bounds-sizes-own
@@ -151,11 +144,10 @@ bounds-sizes-own c =
     let room = f.room in
     let fits = f.fits in
     let before = c.requires.in_use in
-    let t = c.requires.operand_table in
     let long = c.requires.program_len_bound in
     let own = c.size_row-own.result in
     let is : own ≡ size_row a.at a.count = c.size_row-own.ensures in
-    let inside : own < length a.sizes.now = omega (arith, t.sizes_long, c.requires.at_bound.0, c.requires.at_bound.1) in
+    let inside : own < length a.sizes.now = omega (arith, c.requires.operand_table.sizes_long, c.requires.at_bound.0, c.requires.at_bound.1) in
     omega (arith, c.well_formed)
 
 pub returns : goal.returns
@@ -168,29 +160,28 @@ returns c =
     let room = f.room in
     let fits = f.fits in
     let before = c.requires.in_use in
-    let t = c.requires.operand_table in
     let long = c.requires.program_len_bound in
     let own = c.size_row-own.result in
     let is : own ≡ size_row a.at a.count = c.size_row-own.ensures in
-    let inside : own < length a.sizes.now = omega (arith, t.sizes_long, c.requires.at_bound.0, c.requires.at_bound.1) in
+    let inside : own < length a.sizes.now = omega (arith, c.requires.operand_table.sizes_long, c.requires.at_bound.0, c.requires.at_bound.1) in
     let far = c.requires.most_le_furthest in
     let kinds = a.kinds.now in
     let sizes = a.sizes.now in
     let bytes = length program in
-    let h : a.count < length kinds = omega (arith, t.kinds_long) in
+    let h : a.count < length kinds = omega (arith, c.requires.operand_table.kinds_long) in
     let b = c.row_number.result in
     let names = number_size a.kind own b c.row_number.ensures in
     let d : (j : ℕ) → size_of_row (get_or kinds j 0) < own = (λ j. omega (arith, before.named j)) in
     let two = size_two c.register_size-r.result n a.at a.count a.total a.most content c.in-Upto.is c.register_size-r.ensures in
     let five : a.at + 5 ≤ a.next = omega (arith, length-slice (a.at + 3) a.next program c.requires.at_bound.1) in
     let l = c.store.new.row in
-    let value = ap as_form c.store.ensures.row_after ∙ c.set_constant.ensures.f_after ∙ ap constant_form (range_back (range_yes (pos n) (omega arith))) in (
-      sym (ap checked_register c.in-Upto.is) ∙ c.register_size-r.ensures,
-      record {
+    let value = ap as_form c.store.ensures.row_after ∙ c.set_constant.ensures.f_after ∙ ap constant_form (range_back (range_yes (pos n) (omega arith))) in record {
+      result_value = sym (ap checked_register c.in-Upto.is) ∙ c.register_size-r.ensures;
+      register_set = record {
         room = room;
         fits = fits;
-        apart = apart_both bytes a.count kinds sizes t h b own l c.store.ensures.short d inside;
+        apart = apart_both bytes a.count kinds sizes c.requires.operand_table h b own l c.store.ensures.short d inside;
         used = λ rows k. in_use_set 0 rows a.count (a.count + 1) a.at a.next kinds a.count b before h (omega arith) (omega arith) k (omega arith);
-        row = λ formals. row_both bytes a.count kinds sizes t h b own l c.store.ensures.short d inside a.kind c.row_number.ensures formals ∙ (λ i. kind_in a.kind (value i) (formals (sym (ap size_of_row (get_or-set_same kinds a.count b 0 h) ∙ names) i)));
-      },
-    )
+        row = λ formals. row_both bytes a.count kinds sizes c.requires.operand_table h b own l c.store.ensures.short d inside a.kind c.row_number.ensures formals ∙ (λ i. kind_in a.kind (value i) (formals (sym (ap size_of_row (get_or-set_same kinds a.count b 0 h) ∙ names) i)));
+      };
+    }

@@ -25,17 +25,15 @@ returns-then-next-from-ne2 c =
 
 pub set_constant-requires : goal.set_constant-requires
 set_constant-requires c =
-    let h = c.two_bytes-n.ensures.1 in
-    rw (small c.two_bytes-n.result h) (small_range c.two_bytes-n.result h)
+    rw (small c.two_bytes-n.result c.two_bytes-n.ensures.1) (small_range c.two_bytes-n.result c.two_bytes-n.ensures.1)
 
 pub returns : goal.returns
 unfolding checked_form
 returns c =
     let a = c.args in
     let l = a.program.now in
-    let h = c.two_bytes-n.ensures.1 in
     let e = two_bytes_lem (a.at + 3) a.next l (omega arith) c.requires.1 in
     record {
-      by_index = λ n. ap good (c.set_constant.ensures.f_after ∙ ap constant_form (small c.two_bytes-n.result h ∙ ap pos c.two_bytes-n.ensures.0)) ∙ literal_good a.at n (get_or l (a.at + 3) 0) (get_or l (a.at + 3 + 1) 0) (slice (a.at + 3) a.next l) e;
+      by_index = λ n. ap good (c.set_constant.ensures.f_after ∙ ap constant_form (small c.two_bytes-n.result c.two_bytes-n.ensures.1 ∙ ap pos c.two_bytes-n.ensures.0)) ∙ literal_good a.at n (get_or l (a.at + 3) 0) (get_or l (a.at + 3 + 1) 0) (slice (a.at + 3) a.next l) e;
       form_ends_at = (refl, c.set_constant.ensures.kept);
     }

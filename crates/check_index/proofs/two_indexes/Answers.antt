@@ -41,7 +41,7 @@ returns c =
     let v = form_passes_upto program from a.to c.index-r.result l mid c.in-Upto.is c.index-r.ensures.form_passes in
     let k = c.index-t.new.f in
     let end = c.in-Upto-t.end in
-    let w = form_passes_upto program mid a.to c.index-t.result k end c.in-Upto-t.is c.index-t.ensures.form_passes in (
-      high_good (scope_of a.variables) program a.parent from a.to c.index-r.result l c.index-r.ensures.f_after mid c.in-Upto.is v.0 c.index-t.result k c.index-t.ensures.f_after end c.in-Upto-t.is,
-      (beyond_more program from a.to 1 mid end (beyond_more program from a.to 0 from mid (beyond_none program from a.to) v.0) w.0, v.1, w.1, w.0.high),
-    )
+    let w = form_passes_upto program mid a.to c.index-t.result k end c.in-Upto-t.is c.index-t.ensures.form_passes in record {
+      high_after = high_good (scope_of a.variables) program a.parent from a.to c.index-r.result l c.index-r.ensures.f_after mid c.in-Upto.is v.0 c.index-t.result k c.index-t.ensures.f_after end c.in-Upto-t.is;
+      bounds_pass = (beyond_more program from a.to 1 mid end (beyond_more program from a.to 0 from mid (beyond_none program from a.to) v.0) w.0, v.1, w.1, w.0.high);
+    }

@@ -14,7 +14,7 @@ large_enough-v-requires c =
     record {
       kept = λ e. c.load-2.ensures.kept;
       kept_2 = c.load.ensures.kept;
-      loops_bound = let q = c.requires.m_le_most_variables in omega arith;
+      loops_bound = omega arith;
       rows = no_rows _;
       rows_2 = no_rows _;
     }

@@ -167,16 +167,15 @@ within-v-requires c =
     let i = due (read_index 16) (bad_index 4 a.at) (fields_at program (a.at + 4) a.next) in
     let end = c.in-Upto.end in
     let u = form_passes_upto program (a.at + 4) a.next c.index-r.result l end c.in-Upto.is c.index-r.ensures.form_passes in
-    let t = c.requires.tables_right in
-    let f = t.few in
-    let g = t.nested in
-    let b = t.kind_rows in
+    let f = c.requires.tables_right.few in
+    let g = c.requires.tables_right.nested in
+    let b = c.requires.tables_right.kind_rows in
     record {
       kept = u.1;
-      short = t.size_rows.each c.size_by-own.result (omega (arith, c.size_by-own.ensures, t.named (a.s.first + c.wide-n.result)));
+      short = c.requires.tables_right.size_rows.each c.size_by-own.result (omega (arith, c.size_by-own.ensures, c.requires.tables_right.named (a.s.first + c.wide-n.result)));
       loops_bound = omega arith;
-      rows = fewer t.low_rows g;
-      rows_2 = fewer t.high_rows g;
+      rows = fewer c.requires.tables_right.low_rows g;
+      rows_2 = fewer c.requires.tables_right.high_rows g;
     }
 
 pub returns : goal.returns
@@ -203,11 +202,8 @@ returns c =
           ∙ ap (λ (j : ℕ). check_within a.at (scope_at fs a.s a.kinds.now a.sizes.now a.lows.now a.highs.now) (as_form (widened (get_or a.sizes.now j []))) (as_form l)) (c.size_by-own.ensures ∙ ap (λ (j : ℕ). size_of_row (get_or a.kinds.now (a.s.first + j) 0)) v)
           ∙ kind_goes (element_size a.at (d fs z) (k fs)) (λ m. check_within a.at (scope_at fs a.s a.kinds.now a.sizes.now a.lows.now a.highs.now) m (as_form l)) size c.element_kind-fits.result (c.element_kind-fits.ensures.f_value size z fs (fs.formals (size_of_row (get_or a.kinds.now row 0))) ∙ ap (λ (k : Kind). element_size a.at (d fs z) (kind_in k size (fs.formals (size_of_row (get_or a.kinds.now row 0))))) (c.kind_by-kind.ensures ∙ ap (λ (j : ℕ). kind_of_row (get_or a.kinds.now (a.s.first + j) 0)) v)) (opened c.in-Upto-fits.in-Upto-fits-own.keys1)
           ∙ good fs z;
-      ends_at = (
-        c.answered.ensures.ends_at,
-        λ fs. leaves_form (scope_at fs a.s a.kinds.now a.sizes.now a.lows.now a.highs.now) (read_element a.at (slice from a.next program)) c.answered.result l
-            (element_form (scope_at fs a.s a.kinds.now a.sizes.now a.lows.now a.highs.now) a.at n a.next program (slice from a.next program) l e
-            (form_is c.index-r.result l end _ (c.index-r.ensures.f_after ∙ scope_forms (tabulated fs.declared a.s.families 0) (ks fs) a.s.variables a.s.loops a.lows.now a.highs.now i) c.in-Upto.is) u.1),
-      );
-      leaves = ;
+      ends_at = c.answered.ensures.ends_at;
+      leaves = λ fs. leaves_form (scope_at fs a.s a.kinds.now a.sizes.now a.lows.now a.highs.now) (read_element a.at (slice from a.next program)) c.answered.result l
+          (element_form (scope_at fs a.s a.kinds.now a.sizes.now a.lows.now a.highs.now) a.at n a.next program (slice from a.next program) l e
+          (form_is c.index-r.result l end _ (c.index-r.ensures.f_after ∙ scope_forms (tabulated fs.declared a.s.families 0) (ks fs) a.s.variables a.s.loops a.lows.now a.highs.now i) c.in-Upto.is) u.1);
     }

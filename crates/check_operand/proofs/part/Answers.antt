@@ -112,20 +112,19 @@ bounds-sizes-own c =
 pub slice_fits-requires : goal.slice_fits-requires
 slice_fits-requires c =
     let a = c.args in
-    let t = c.requires.tables_right in
-    let f = t.few in
-    let g = t.nested in
+    let f = c.requires.tables_right.few in
+    let g = c.requires.tables_right.nested in
     let l = c.two_indexes-r.new.low in
     let h = c.two_indexes-r.new.high in
     let u = bounds_upto a.program.now (a.at + 4) a.next c.two_indexes-r.result l h c.in-Upto.end c.in-Upto.is c.two_indexes-r.ensures.bounds_pass in
     record {
       size_right = c.requires.size_right;
-      short = t.size_rows.each c.size_by-own.result (omega (arith, c.size_by-own.ensures, t.named (a.s.first + c.wide-n.result)));
+      short = c.requires.tables_right.size_rows.each c.size_by-own.result (omega (arith, c.size_by-own.ensures, c.requires.tables_right.named (a.s.first + c.wide-n.result)));
       kept = u.1;
       kept_2 = u.2;
       loops_bound = omega arith;
-      rows = fewer t.low_rows g;
-      rows_2 = fewer t.high_rows g;
+      rows = fewer c.requires.tables_right.low_rows g;
+      rows_2 = fewer c.requires.tables_right.high_rows g;
     }
 
 pub returns : goal.returns
@@ -144,10 +143,10 @@ returns c =
     let h = c.two_indexes-r.new.high in
     let inside = fields_at program (a.at + 4) a.next in
     let end = c.in-Upto.end in
-    let u = bounds_upto program (a.at + 4) a.next c.two_indexes-r.result l h end c.in-Upto.is c.two_indexes-r.ensures.bounds_pass in (
-      λ fs. c.slice_fits.ensures.result_value (tabulated fs.declared a.s.families 0) (ks fs) fs (fs.formals c.size_by-own.result)
+    let u = bounds_upto program (a.at + 4) a.next c.two_indexes-r.result l h end c.in-Upto.is c.two_indexes-r.ensures.bounds_pass in record {
+      result_value = λ fs. c.slice_fits.ensures.result_value (tabulated fs.declared a.s.families 0) (ks fs) fs (fs.formals c.size_by-own.result)
           ∙ (λ i. slice_fits a.at (scope_at fs a.s a.kinds.now a.sizes.now a.lows.now a.highs.now) (d fs) (kind_in (c.kind_by-kind.ensures i) (as_form (widened (get_or a.sizes.now (c.size_by-own.ensures i) []))) (fs.formals (c.size_by-own.ensures i))) (as_form l) (as_form h))
           ∙ ap (λ (i : ℕ). slice_fits a.at (scope_at fs a.s a.kinds.now a.sizes.now a.lows.now a.highs.now) (d fs) (kind_at fs.formals (a.s.first + i) a.kinds.now a.sizes.now) (as_form l) (as_form h)) v
-          ∙ slice_good (scope_at fs a.s a.kinds.now a.sizes.now a.lows.now a.highs.now) (d fs) a.at (slice from a.next program) n program a.next e (k fs) (kinds_get fs.formals a.s.count a.s.first n a.kinds.now a.sizes.now (let q = c.if-s-n.false in omega arith)) c.two_indexes-r.result l h (c.two_indexes-r.ensures.high_after ∙ bounds_same (tabulated fs.declared a.s.families 0) (ks fs) a.s.variables a.s.loops a.lows.now a.highs.now a.at inside) end c.in-Upto.is u.0 c.if-end-next.false,
-      c.slice_fits.ensures.ends_at,
-    )
+          ∙ slice_good (scope_at fs a.s a.kinds.now a.sizes.now a.lows.now a.highs.now) (d fs) a.at (slice from a.next program) n program a.next e (k fs) (kinds_get fs.formals a.s.count a.s.first n a.kinds.now a.sizes.now (let q = c.if-s-n.false in omega arith)) c.two_indexes-r.result l h (c.two_indexes-r.ensures.high_after ∙ bounds_same (tabulated fs.declared a.s.families 0) (ks fs) a.s.variables a.s.loops a.lows.now a.highs.now a.at inside) end c.in-Upto.is u.0 c.if-end-next.false;
+      ends_at = c.slice_fits.ensures.ends_at;
+    }

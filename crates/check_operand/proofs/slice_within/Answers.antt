@@ -26,12 +26,10 @@ returns-in_default-w c =
 
 pub show-requires : goal.show-requires
 show-requires c =
-    let p = c.requires.1.1.1 in
-    let low = p.1.0 in
-    let high = p.1.1 in
+    let low = c.requires.rows in
     record {
       kept = c.slice_size.ensures.kept_3 c.if-slice_size.true;
-      loops_bound = p.0;
+      loops_bound = c.requires.loops_bound;
       rows = search rules;
       rows_2 = search rules;
     }

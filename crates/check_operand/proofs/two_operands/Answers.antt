@@ -149,7 +149,11 @@ same_wire-requires c =
     let g : (fs : Known) → FormOf (s fs) (operand_due a.at 0 (fields_at program mid a.next)) _ = λ fs. leaves_upto (s fs) _ c.operand-t.result _ end c.in-Upto-t.is (c.operand-t.ensures.leaves fs) in
     let p : (fs : Known) → x fs ≡ fine = λ fs. fine_upto c.operand-r.result mid (x fs) (c.operand-r.ensures.result_value fs) c.in-Upto.is in
     let q : (fs : Known) → check_operand (s fs) wire (operand_due a.at 0 (fields_at program mid a.next)) ≡ fine = λ fs. ap (λ (c : Due). check_operand (s fs) c (operand_due a.at 0 (fields_at program mid a.next))) (sym (is fs)) ∙ fine_upto c.operand-t.result end (z fs) (c.operand-t.ensures.result_value fs) c.in-Upto-t.is in
-    can_compare (s nothing_known) program a.at from a.next mid c.requires.next_in_bounds v _ _ (f nothing_known) (g nothing_known) (p nothing_known) (q nothing_known)
+    let both = can_compare (s nothing_known) program a.at from a.next mid c.requires.next_in_bounds v _ _ (f nothing_known) (g nothing_known) (p nothing_known) (q nothing_known) in
+    record {
+      comparable = both.0;
+      comparable_2 = both.1;
+    }
 
 pub returns-then-same_wire : goal.returns-then-same_wire
 unfolding wanted_of check_two checked_part ◌>>◌ require

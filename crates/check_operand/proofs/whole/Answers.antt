@@ -71,32 +71,28 @@ returns-then-next-from-ne1 c =
 
 pub bounds-kinds-row : goal.bounds-kinds-row
 bounds-kinds-row c =
-    let r = c.requires.tables_right in
-    let b = r.kind_rows in
+    let b = c.requires.tables_right.kind_rows in
     let q = c.if-s-n.false in
     omega (arith, c.well_formed)
 
 pub offset_bounds-sizes-own : goal.offset_bounds-sizes-own
 offset_bounds-sizes-own c =
-    let r = c.requires.tables_right in
-    omega (arith, c.well_formed, c.size_by-own.ensures, r.named (c.args.s.first + c.wide-n.result))
+    omega (arith, c.well_formed, c.size_by-own.ensures, c.requires.tables_right.named (c.args.s.first + c.wide-n.result))
 
 pub bounds-sizes-own : goal.bounds-sizes-own
 bounds-sizes-own c =
-    let r = c.requires.tables_right in
-    omega (arith, c.well_formed, c.size_by-own.ensures, r.named (c.args.s.first + c.wide-n.result))
+    omega (arith, c.well_formed, c.size_by-own.ensures, c.requires.tables_right.named (c.args.s.first + c.wide-n.result))
 
 pub whole_fits-requires : goal.whole_fits-requires
 whole_fits-requires c =
-    let r = c.requires.tables_right in
-    let f = r.few in
-    let g = r.nested in
+    let f = c.requires.tables_right.few in
+    let g = c.requires.tables_right.nested in
     record {
       size_right = c.requires.size_right;
-      short = r.size_rows.each c.size_by-own.result (omega (arith, c.size_by-own.ensures, r.named (c.args.s.first + c.wide-n.result)));
+      short = c.requires.tables_right.size_rows.each c.size_by-own.result (omega (arith, c.size_by-own.ensures, c.requires.tables_right.named (c.args.s.first + c.wide-n.result)));
       loops_bound = omega arith;
-      rows = fewer r.low_rows g;
-      rows_2 = fewer r.high_rows g;
+      rows = fewer c.requires.tables_right.low_rows g;
+      rows_2 = fewer c.requires.tables_right.high_rows g;
     }
 
 pub returns : goal.returns
@@ -112,10 +108,10 @@ returns c =
     let v : c.wide-n.result ≡ n = c.wide-n.ensures.0 in
     let h = length-slice (from + 1) a.next program c.requires.at_bound.1 in
     let k : Known → Kind = λ fs. kind_at fs.formals (a.s.first + n) a.kinds.now a.sizes.now in
-    let y = c.if-next-from-ne1.false in (
-      λ fs. c.whole_fits.ensures.result_value (tabulated fs.declared a.s.families 0) (kinds_at fs.formals a.s.count a.s.first a.kinds.now a.sizes.now) fs (fs.formals c.size_by-own.result)
+    let y = c.if-next-from-ne1.false in record {
+      result_value = λ fs. c.whole_fits.ensures.result_value (tabulated fs.declared a.s.families 0) (kinds_at fs.formals a.s.count a.s.first a.kinds.now a.sizes.now) fs (fs.formals c.size_by-own.result)
           ∙ (λ i. whole_fits a.at (scope_at fs a.s a.kinds.now a.sizes.now a.lows.now a.highs.now) (d fs) (kind_in (c.kind_by-kind.ensures i) (as_form (widened (get_or a.sizes.now (c.size_by-own.ensures i) []))) (fs.formals (c.size_by-own.ensures i))))
           ∙ ap (λ (i : ℕ). whole_fits a.at (scope_at fs a.s a.kinds.now a.sizes.now a.lows.now a.highs.now) (d fs) (kind_at fs.formals (a.s.first + i) a.kinds.now a.sizes.now)) v
-          ∙ whole_good (scope_at fs a.s a.kinds.now a.sizes.now a.lows.now a.highs.now) (d fs) a.at (slice from a.next program) n more e (k fs) (kinds_get fs.formals a.s.count a.s.first n a.kinds.now a.sizes.now (let q = c.if-s-n.false in omega arith)) (slice_none (from + 1) a.next program (omega arith)),
-      c.whole_fits.ensures.ends_at,
-    )
+          ∙ whole_good (scope_at fs a.s a.kinds.now a.sizes.now a.lows.now a.highs.now) (d fs) a.at (slice from a.next program) n more e (k fs) (kinds_get fs.formals a.s.count a.s.first n a.kinds.now a.sizes.now (let q = c.if-s-n.false in omega arith)) (slice_none (from + 1) a.next program (omega arith));
+      ends_at = c.whole_fits.ensures.ends_at;
+    }

@@ -42,13 +42,12 @@ must_show-requires c =
     let a = c.args in
     let program = a.program.now in
     let l = c.index-r.new.f in
-    let q = c.requires.loops_right in
     let v = form_passes_upto program a.from a.next c.index-r.result l c.in-Upto.mid c.in-Upto.is c.index-r.ensures.form_passes in
     record {
       kept = v.1;
-      loops_bound = (let x = q.few in let y = q.nested in omega arith);
-      rows = fewer q.low_rows q.nested;
-      rows_2 = fewer q.high_rows q.nested;
+      loops_bound = (let x = c.requires.loops_right.few in let y = c.requires.loops_right.nested in omega arith);
+      rows = fewer c.requires.loops_right.low_rows c.requires.loops_right.nested;
+      rows_2 = fewer c.requires.loops_right.high_rows c.requires.loops_right.nested;
     }
 
 pub returns : goal.returns
@@ -59,7 +58,7 @@ returns c =
     let ls = loops_of a.s.loops a.lows.now a.highs.now in
     let i = due outer_index (bad_index 4 a.at) (fields_at program a.from a.next) in
     let mid = c.in-Upto.mid in
-    let v = form_passes_upto program a.from a.next c.index-r.result l mid c.in-Upto.is c.index-r.ensures.form_passes in (
-      (λ fs ks. c.must_show.ensures.result_value fs ks ∙ natural_shows (scope_with fs ks a.s.variables ls) program a.from a.next a.at c.index-r.result l mid (c.index-r.ensures.f_after ∙ scope_forms fs ks a.s.variables a.s.loops a.lows.now a.highs.now i) c.in-Upto.is v.0 c.requires.next_in_bounds),
-      passes_ends program a.from a.next mid c.must_show.result v.0 c.must_show.ensures.ends_at,
-    )
+    let v = form_passes_upto program a.from a.next c.index-r.result l mid c.in-Upto.is c.index-r.ensures.form_passes in record {
+      result_value = (λ fs ks. c.must_show.ensures.result_value fs ks ∙ natural_shows (scope_with fs ks a.s.variables ls) program a.from a.next a.at c.index-r.result l mid (c.index-r.ensures.f_after ∙ scope_forms fs ks a.s.variables a.s.loops a.lows.now a.highs.now i) c.in-Upto.is v.0 c.requires.next_in_bounds);
+      passes = passes_ends program a.from a.next mid c.must_show.result v.0 c.must_show.ensures.ends_at;
+    }

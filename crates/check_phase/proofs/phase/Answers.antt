@@ -16,10 +16,9 @@ use Rattle.check_phase.proofs.phase.Goals as goal
 
 pub natural-r-requires : goal.natural-r-requires
 natural-r-requires c =
-    let q = c.requires.tables_right in
     record {
       next_in_bounds = c.requires.next_in_bounds;
-      loops_right = record { few = q.few; nested = q.nested; low_rows = q.low_rows; high_rows = q.high_rows };
+      loops_right = record { few = c.requires.tables_right.few; nested = c.requires.tables_right.nested; low_rows = c.requires.tables_right.low_rows; high_rows = c.requires.tables_right.high_rows };
     }
 
 pub returns-in_default : goal.returns-in_default

@@ -24,14 +24,13 @@ register-requires c =
 pub overflow_add-registers : goal.overflow_add-registers
 overflow_add-registers c =
     let a = c.args in
-    let h = c.requires.declared_right in
     let bytes = length a.program.now in
     let content = slice (a.at + 3) a.next a.program.now in
     let kinds = c.register.new.kinds in
     let sizes = c.register.new.sizes in
     let n = c.in-Upto.size in
     let u = c.in-Upto.is in
-    let w = register_row a.t a.families.now a.kinds.now a.sizes.now bytes a.next a.at content c.register.result n u h Classical a.t.registers a.t.bits most_bits kinds sizes c.register.ensures.register_set in
+    let w = register_row a.t a.families.now a.kinds.now a.sizes.now bytes a.next a.at content c.register.result n u c.requires.declared_right Classical a.t.registers a.t.bits most_bits kinds sizes c.register.ensures.register_set in
     let room = w.room in
     let fits = w.fits in
     omega arith
@@ -39,14 +38,13 @@ overflow_add-registers c =
 pub overflow_add-bits : goal.overflow_add-bits
 overflow_add-bits c =
     let a = c.args in
-    let h = c.requires.declared_right in
     let bytes = length a.program.now in
     let content = slice (a.at + 3) a.next a.program.now in
     let kinds = c.register.new.kinds in
     let sizes = c.register.new.sizes in
     let n = c.in-Upto.size in
     let u = c.in-Upto.is in
-    let w = register_row a.t a.families.now a.kinds.now a.sizes.now bytes a.next a.at content c.register.result n u h Classical a.t.registers a.t.bits most_bits kinds sizes c.register.ensures.register_set in
+    let w = register_row a.t a.families.now a.kinds.now a.sizes.now bytes a.next a.at content c.register.result n u c.requires.declared_right Classical a.t.registers a.t.bits most_bits kinds sizes c.register.ensures.register_set in
     let room = w.room in
     let fits = w.fits in
     omega arith
@@ -54,7 +52,6 @@ overflow_add-bits c =
 pub returns-in-Refused : goal.returns-in-Refused
 returns-in-Refused c =
     let a = c.args in
-    let h = c.requires.declared_right in
     let bytes = length a.program.now in
     let content = slice (a.at + 3) a.next a.program.now in
     let kinds = c.register.new.kinds in
@@ -67,14 +64,13 @@ returns-in-Refused c =
 pub shape_of-kinds-in-Upto : goal.shape_of-kinds-in-Upto
 shape_of-kinds-in-Upto c =
     let a = c.args in
-    let h = c.requires.declared_right in
     let bytes = length a.program.now in
     let content = slice (a.at + 3) a.next a.program.now in
     let kinds = c.register.new.kinds in
     let sizes = c.register.new.sizes in
     let n = c.in-Upto.size in
     let u = c.in-Upto.is in
-    let w = register_row a.t a.families.now a.kinds.now a.sizes.now bytes a.next a.at content c.register.result n u h Classical a.t.registers a.t.bits most_bits kinds sizes c.register.ensures.register_set in
+    let w = register_row a.t a.families.now a.kinds.now a.sizes.now bytes a.next a.at content c.register.result n u c.requires.declared_right Classical a.t.registers a.t.bits most_bits kinds sizes c.register.ensures.register_set in
     let room = w.room in
     let fits = w.fits in
     w.apart.kinds_same
@@ -82,14 +78,13 @@ shape_of-kinds-in-Upto c =
 pub shape_of-sizes-in-Upto : goal.shape_of-sizes-in-Upto
 shape_of-sizes-in-Upto c =
     let a = c.args in
-    let h = c.requires.declared_right in
     let bytes = length a.program.now in
     let content = slice (a.at + 3) a.next a.program.now in
     let kinds = c.register.new.kinds in
     let sizes = c.register.new.sizes in
     let n = c.in-Upto.size in
     let u = c.in-Upto.is in
-    let w = register_row a.t a.families.now a.kinds.now a.sizes.now bytes a.next a.at content c.register.result n u h Classical a.t.registers a.t.bits most_bits kinds sizes c.register.ensures.register_set in
+    let w = register_row a.t a.families.now a.kinds.now a.sizes.now bytes a.next a.at content c.register.result n u c.requires.declared_right Classical a.t.registers a.t.bits most_bits kinds sizes c.register.ensures.register_set in
     let room = w.room in
     let fits = w.fits in
     w.apart.sizes_same
@@ -97,17 +92,16 @@ shape_of-sizes-in-Upto c =
 pub returns-in-Upto : goal.returns-in-Upto
 returns-in-Upto c =
     let a = c.args in
-    let h = c.requires.declared_right in
     let bytes = length a.program.now in
     let content = slice (a.at + 3) a.next a.program.now in
     let kinds = c.register.new.kinds in
     let sizes = c.register.new.sizes in
     let n = c.in-Upto.size in
     let u = c.in-Upto.is in
-    let w = register_row a.t a.families.now a.kinds.now a.sizes.now bytes a.next a.at content c.register.result n u h Classical a.t.registers a.t.bits most_bits kinds sizes c.register.ensures.register_set in
+    let w = register_row a.t a.families.now a.kinds.now a.sizes.now bytes a.next a.at content c.register.result n u c.requires.declared_right Classical a.t.registers a.t.bits most_bits kinds sizes c.register.ensures.register_set in
     let room = w.room in
     let fits = w.fits in
     record {
-      sizes_after = creg_goes a.t a.families.now a.kinds.now a.sizes.now bytes a.next a.at content c.register.result n u h w c.register.ensures.result_value;
-      step_right = holds_register bytes a.at a.next a.t a.families.now n Classical a.t.bits most_bits h w a.t.qubits (a.t.bits + n) (omega (arith, c.requires.at_bound.0)) h.qubits_fit fits;
+      sizes_after = creg_goes a.t a.families.now a.kinds.now a.sizes.now bytes a.next a.at content c.register.result n u c.requires.declared_right w c.register.ensures.result_value;
+      step_right = holds_register bytes a.at a.next a.t a.families.now n Classical a.t.bits most_bits c.requires.declared_right w a.t.qubits (a.t.bits + n) (omega (arith, c.requires.at_bound.0)) c.requires.declared_right.qubits_fit fits;
     }

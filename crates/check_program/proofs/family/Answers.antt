@@ -27,7 +27,6 @@ family_body-requires c =
     let a = c.args in
     let program = a.program.now in
     let bytes = length program in
-    let h = c.requires.declared_right in
     let x = a.families.now in
     let room = c.if-n-ge-MOST_FAMILIES.false in
     let e = c.two_counts.ensures.result_value in
@@ -40,7 +39,7 @@ family_body-requires c =
       m_le_most_variables = w.0;
       parameters_le_most_parameters = w.2;
       families_lt_most_families = room;
-      declared_right = h;
+      declared_right = c.requires.declared_right;
     }
 
 pub overflow_cast-entry : goal.overflow_cast-entry
@@ -48,7 +47,6 @@ overflow_cast-entry c =
     let a = c.args in
     let program = a.program.now in
     let bytes = length program in
-    let h = c.requires.declared_right in
     let x = a.families.now in
     let room = c.if-n-ge-MOST_FAMILIES.false in
     let e = c.two_counts.ensures.result_value in
@@ -58,14 +56,13 @@ overflow_cast-entry c =
     let w = both_right a.at a.next c.two_counts.result m p u c.two_counts.ensures.both_right in
     let few = w.0 in
     let most = w.2 in
-    omega (arith, c.requires.at_bound.0, c.requires.at_bound.1, h.short, h.used.few, c.well_formed)
+    omega (arith, c.requires.at_bound.0, c.requires.at_bound.1, c.requires.declared_right.short, c.requires.declared_right.used.few, c.well_formed)
 
 pub overflow_cast-entry-in-Upto : goal.overflow_cast-entry-in-Upto
 overflow_cast-entry-in-Upto c =
     let a = c.args in
     let program = a.program.now in
     let bytes = length program in
-    let h = c.requires.declared_right in
     let x = a.families.now in
     let room = c.if-n-ge-MOST_FAMILIES.false in
     let e = c.two_counts.ensures.result_value in
@@ -75,14 +72,13 @@ overflow_cast-entry-in-Upto c =
     let w = both_right a.at a.next c.two_counts.result m p u c.two_counts.ensures.both_right in
     let few = w.0 in
     let most = w.2 in
-    omega (arith, c.requires.at_bound.0, c.requires.at_bound.1, h.short, h.used.few, c.well_formed)
+    omega (arith, c.requires.at_bound.0, c.requires.at_bound.1, c.requires.declared_right.short, c.requires.declared_right.used.few, c.well_formed)
 
 pub overflow_cast-entry-in-Upto-2 : goal.overflow_cast-entry-in-Upto-2
 overflow_cast-entry-in-Upto-2 c =
     let a = c.args in
     let program = a.program.now in
     let bytes = length program in
-    let h = c.requires.declared_right in
     let x = a.families.now in
     let room = c.if-n-ge-MOST_FAMILIES.false in
     let e = c.two_counts.ensures.result_value in
@@ -92,14 +88,13 @@ overflow_cast-entry-in-Upto-2 c =
     let w = both_right a.at a.next c.two_counts.result m p u c.two_counts.ensures.both_right in
     let few = w.0 in
     let most = w.2 in
-    omega (arith, c.requires.at_bound.0, c.requires.at_bound.1, h.short, h.used.few, c.well_formed)
+    omega (arith, c.requires.at_bound.0, c.requires.at_bound.1, c.requires.declared_right.short, c.requires.declared_right.used.few, c.well_formed)
 
 pub offset_bounds-families-n : goal.offset_bounds-families-n
 offset_bounds-families-n c =
     let a = c.args in
     let program = a.program.now in
     let bytes = length program in
-    let h = c.requires.declared_right in
     let x = a.families.now in
     let room = c.if-n-ge-MOST_FAMILIES.false in
     let e = c.two_counts.ensures.result_value in
@@ -112,15 +107,13 @@ offset_bounds-families-n c =
     let sizes = c.family_body.new.sizes in
     let g = formal_at families kinds sizes in
     let b = c.family_body.ensures.sizes_after in
-    let stays = c.family_body.ensures.stays in
-    omega (arith, h.long, stays.families_same, c.well_formed)
+    omega (arith, c.requires.declared_right.long, c.family_body.ensures.stays.families_same, c.well_formed)
 
 pub bounds-families-n : goal.bounds-families-n
 bounds-families-n c =
     let a = c.args in
     let program = a.program.now in
     let bytes = length program in
-    let h = c.requires.declared_right in
     let x = a.families.now in
     let room = c.if-n-ge-MOST_FAMILIES.false in
     let e = c.two_counts.ensures.result_value in
@@ -133,15 +126,13 @@ bounds-families-n c =
     let sizes = c.family_body.new.sizes in
     let g = formal_at families kinds sizes in
     let b = c.family_body.ensures.sizes_after in
-    let stays = c.family_body.ensures.stays in
-    omega (arith, h.long, stays.families_same, c.well_formed)
+    omega (arith, c.requires.declared_right.long, c.family_body.ensures.stays.families_same, c.well_formed)
 
 pub overflow_add-rows : goal.overflow_add-rows
 overflow_add-rows c =
     let a = c.args in
     let program = a.program.now in
     let bytes = length program in
-    let h = c.requires.declared_right in
     let x = a.families.now in
     let room = c.if-n-ge-MOST_FAMILIES.false in
     let e = c.two_counts.ensures.result_value in
@@ -150,7 +141,7 @@ overflow_add-rows c =
     let u = c.in-Both.is in
     let w = both_right a.at a.next c.two_counts.result m p u c.two_counts.ensures.both_right in
     let most = w.2 in
-    omega (arith, c.requires.at_bound.0, c.requires.at_bound.1, h.short, h.used.few, c.well_formed)
+    omega (arith, c.requires.at_bound.0, c.requires.at_bound.1, c.requires.declared_right.short, c.requires.declared_right.used.few, c.well_formed)
 
 pub returns-in-Bad : goal.returns-in-Bad
 returns-in-Bad c =
@@ -167,7 +158,6 @@ shape_of-families-in-Refused c =
     let a = c.args in
     let program = a.program.now in
     let bytes = length program in
-    let h = c.requires.declared_right in
     let x = a.families.now in
     let room = c.if-n-ge-MOST_FAMILIES.false in
     let e = c.two_counts.ensures.result_value in
@@ -180,15 +170,13 @@ shape_of-families-in-Refused c =
     let sizes = c.family_body.new.sizes in
     let g = formal_at families kinds sizes in
     let b = c.family_body.ensures.sizes_after in
-    let stays = c.family_body.ensures.stays in
-    stays.families_same
+    c.family_body.ensures.stays.families_same
 
 pub shape_of-kinds-in-Refused : goal.shape_of-kinds-in-Refused
 shape_of-kinds-in-Refused c =
     let a = c.args in
     let program = a.program.now in
     let bytes = length program in
-    let h = c.requires.declared_right in
     let x = a.families.now in
     let room = c.if-n-ge-MOST_FAMILIES.false in
     let e = c.two_counts.ensures.result_value in
@@ -201,15 +189,13 @@ shape_of-kinds-in-Refused c =
     let sizes = c.family_body.new.sizes in
     let g = formal_at families kinds sizes in
     let b = c.family_body.ensures.sizes_after in
-    let stays = c.family_body.ensures.stays in
-    stays.kinds_same
+    c.family_body.ensures.stays.kinds_same
 
 pub shape_of-sizes-in-Refused : goal.shape_of-sizes-in-Refused
 shape_of-sizes-in-Refused c =
     let a = c.args in
     let program = a.program.now in
     let bytes = length program in
-    let h = c.requires.declared_right in
     let x = a.families.now in
     let room = c.if-n-ge-MOST_FAMILIES.false in
     let e = c.two_counts.ensures.result_value in
@@ -222,15 +208,13 @@ shape_of-sizes-in-Refused c =
     let sizes = c.family_body.new.sizes in
     let g = formal_at families kinds sizes in
     let b = c.family_body.ensures.sizes_after in
-    let stays = c.family_body.ensures.stays in
-    stays.sizes_same
+    c.family_body.ensures.stays.sizes_same
 
 pub returns-in-Refused : goal.returns-in-Refused
 returns-in-Refused c =
     let a = c.args in
     let program = a.program.now in
     let bytes = length program in
-    let h = c.requires.declared_right in
     let x = a.families.now in
     let room = c.if-n-ge-MOST_FAMILIES.false in
     let e = c.two_counts.ensures.result_value in
@@ -243,7 +227,6 @@ returns-in-Refused c =
     let sizes = c.family_body.new.sizes in
     let g = formal_at families kinds sizes in
     let b = c.family_body.ensures.sizes_after in
-    let stays = c.family_body.ensures.stays in
     record {
       sizes_after = family_stops a.t x a.kinds.now a.sizes.now program a.at a.next room c.two_counts.result e m p u g c.family_body.result kinds sizes b c.in-Refused.k c.in-Refused.q families kinds sizes c.in-Refused.is;
       step_right = tt;
@@ -254,7 +237,6 @@ shape_of-families-in-Upto c =
     let a = c.args in
     let program = a.program.now in
     let bytes = length program in
-    let h = c.requires.declared_right in
     let x = a.families.now in
     let room = c.if-n-ge-MOST_FAMILIES.false in
     let e = c.two_counts.ensures.result_value in
@@ -267,15 +249,13 @@ shape_of-families-in-Upto c =
     let sizes = c.family_body.new.sizes in
     let g = formal_at families kinds sizes in
     let b = c.family_body.ensures.sizes_after in
-    let stays = c.family_body.ensures.stays in
-    length-set families a.t.families (m ∷ p ∷ a.t.rows ∷ []) ∙ stays.families_same
+    length-set families a.t.families (m ∷ p ∷ a.t.rows ∷ []) ∙ c.family_body.ensures.stays.families_same
 
 pub shape_of-kinds-in-Upto : goal.shape_of-kinds-in-Upto
 shape_of-kinds-in-Upto c =
     let a = c.args in
     let program = a.program.now in
     let bytes = length program in
-    let h = c.requires.declared_right in
     let x = a.families.now in
     let room = c.if-n-ge-MOST_FAMILIES.false in
     let e = c.two_counts.ensures.result_value in
@@ -288,15 +268,13 @@ shape_of-kinds-in-Upto c =
     let sizes = c.family_body.new.sizes in
     let g = formal_at families kinds sizes in
     let b = c.family_body.ensures.sizes_after in
-    let stays = c.family_body.ensures.stays in
-    stays.kinds_same
+    c.family_body.ensures.stays.kinds_same
 
 pub shape_of-sizes-in-Upto : goal.shape_of-sizes-in-Upto
 shape_of-sizes-in-Upto c =
     let a = c.args in
     let program = a.program.now in
     let bytes = length program in
-    let h = c.requires.declared_right in
     let x = a.families.now in
     let room = c.if-n-ge-MOST_FAMILIES.false in
     let e = c.two_counts.ensures.result_value in
@@ -309,8 +287,7 @@ shape_of-sizes-in-Upto c =
     let sizes = c.family_body.new.sizes in
     let g = formal_at families kinds sizes in
     let b = c.family_body.ensures.sizes_after in
-    let stays = c.family_body.ensures.stays in
-    stays.sizes_same
+    c.family_body.ensures.stays.sizes_same
 
 pub returns-in-Upto : goal.returns-in-Upto
 unfolding checked_step
@@ -318,7 +295,6 @@ returns-in-Upto c =
     let a = c.args in
     let program = a.program.now in
     let bytes = length program in
-    let h = c.requires.declared_right in
     let x = a.families.now in
     let room = c.if-n-ge-MOST_FAMILIES.false in
     let e = c.two_counts.ensures.result_value in
@@ -331,8 +307,7 @@ returns-in-Upto c =
     let sizes = c.family_body.new.sizes in
     let g = formal_at families kinds sizes in
     let b = c.family_body.ensures.sizes_after in
-    let stays = c.family_body.ensures.stays in
     record {
-      sizes_after = ap good (with_family_lem bytes a.at (a.at + 5) a.next a.t m p h (omega arith) stays room w.0) ∙ family_goes a.t x a.kinds.now a.sizes.now program a.at a.next room c.two_counts.result e m p u g c.family_body.result kinds sizes b (opened c.in-Upto.in-Upto-own.keys2);
-      step_right = holds_family bytes a.at (a.at + 5) a.next a.t m p h (omega arith) stays room w.0 (in_use_goes (a.t.rows + p) a.t.registers a.next c.family_body.result kinds (opened c.in-Upto.in-Upto-own.keys2) c.family_body.ensures.in_use_before) (formals_goes a.next c.family_body.result families kinds (opened c.in-Upto.in-Upto-own.keys2) c.family_body.ensures.formals_before) c.requires.at_bound.1;
+      sizes_after = ap good (with_family_lem bytes a.at (a.at + 5) a.next a.t m p c.requires.declared_right (omega arith) c.family_body.ensures.stays room w.0) ∙ family_goes a.t x a.kinds.now a.sizes.now program a.at a.next room c.two_counts.result e m p u g c.family_body.result kinds sizes b (opened c.in-Upto.in-Upto-own.keys2);
+      step_right = holds_family bytes a.at (a.at + 5) a.next a.t m p c.requires.declared_right (omega arith) c.family_body.ensures.stays room w.0 (in_use_goes (a.t.rows + p) a.t.registers a.next c.family_body.result kinds (opened c.in-Upto.in-Upto-own.keys2) c.family_body.ensures.in_use_before) (formals_goes a.next c.family_body.result families kinds (opened c.in-Upto.in-Upto-own.keys2) c.family_body.ensures.formals_before) c.requires.at_bound.1;
     }

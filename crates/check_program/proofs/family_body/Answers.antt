@@ -19,7 +19,6 @@ pub parameter_types-r-requires : goal.parameter_types-r-requires
 parameter_types-r-requires c =
     let a = c.args in
     let program = a.program.now in
-    let h = c.requires.declared_right in
     let few = c.requires.m_le_most_variables in
     let bytes = length program in
     let long = c.requires.at_bound.1 in
@@ -27,11 +26,11 @@ parameter_types-r-requires c =
     record {
       to_in_bounds = long;
       m_le_most_variables = few;
-      at_le_to = (c.requires.at_bound.0, h.short, h.wide);
-      in_use = in_use_later a.t.rows a.t.rows a.t.registers a.at (a.at + 5) a.kinds.now h.used (omega arith) (omega (arith, h.used.few));
-      operand_table = h.table;
-      family_table = h.long;
-      formals_in = formals_later a.at (a.at + 5) a.families.now a.kinds.now (omega arith) h.taken;
+      at_le_to = (c.requires.at_bound.0, c.requires.declared_right.short, c.requires.declared_right.wide);
+      in_use = in_use_later a.t.rows a.t.rows a.t.registers a.at (a.at + 5) a.kinds.now c.requires.declared_right.used (omega arith) (omega (arith, c.requires.declared_right.used.few));
+      operand_table = c.requires.declared_right.table;
+      family_table = c.requires.declared_right.long;
+      formals_in = formals_later a.at (a.at + 5) a.families.now a.kinds.now (omega arith) c.requires.declared_right.taken;
     }
 
 pub returns-in_default : goal.returns-in_default
@@ -39,7 +38,6 @@ unfolding family_scope_by
 returns-in_default c =
     let a = c.args in
     let program = a.program.now in
-    let h = c.requires.declared_right in
     let few = c.requires.m_le_most_variables in
     let bytes = length program in
     let long = c.requires.at_bound.1 in
@@ -47,20 +45,18 @@ returns-in_default c =
     let families = c.parameter_types-r.new.families in
     let kinds = c.parameter_types-r.new.kinds in
     let sizes = c.parameter_types-r.new.sizes in
-    let stays = c.parameter_types-r.ensures.stays in
     let d = declared_in a.t a.families.now a.kinds.now a.sizes.now in
     record {
-      sizes_after = body_stops bytes a.t a.at a.m a.parameters program (a.at + 5) a.next h (omega arith) stays c.parameter_types-r.result (c.parameter_types-r.ensures.sizes_after d.families []) (opened c.in_default.in_default-own.keys2);
+      sizes_after = body_stops bytes a.t a.at a.m a.parameters program (a.at + 5) a.next c.requires.declared_right (omega arith) c.parameter_types-r.ensures.stays c.parameter_types-r.result (c.parameter_types-r.ensures.sizes_after d.families []) (opened c.in_default.in_default-own.keys2);
       in_use_before = in_use_stops (a.t.rows + a.parameters) a.t.registers a.next c.parameter_types-r.result kinds (opened c.in_default.in_default-own.keys2);
       formals_before = formals_stop a.next c.parameter_types-r.result families kinds (opened c.in_default.in_default-own.keys2);
-      stays = stays;
+      stays = c.parameter_types-r.ensures.stays;
     }
 
 pub list-requires : goal.list-requires
 list-requires c =
     let a = c.args in
     let program = a.program.now in
-    let h = c.requires.declared_right in
     let few = c.requires.m_le_most_variables in
     let bytes = length program in
     let long = c.requires.at_bound.1 in
@@ -68,14 +64,13 @@ list-requires c =
     let families = c.parameter_types-r.new.families in
     let kinds = c.parameter_types-r.new.kinds in
     let sizes = c.parameter_types-r.new.sizes in
-    let stays = c.parameter_types-r.ensures.stays in
     let mid = c.in-Upto.mid in
     let used = before_upto (a.t.rows + a.parameters) a.t.registers a.next mid c.parameter_types-r.result kinds c.in-Upto.is c.parameter_types-r.ensures.in_use_before in
     let taken = formals_upto a.next mid c.parameter_types-r.result families kinds c.in-Upto.is c.parameter_types-r.ensures.formals_before in
     record {
       to_in_bounds = long;
-      tables_right = scope_right bytes (a.t.rows + a.parameters) a.t.registers a.next (family_rows a.t a.m a.parameters) kinds sizes none none stays.table used long eight_rows eight_rows few (omega arith) (omega arith);
-      families_right = scope_declares bytes (a.t.rows + a.parameters) a.next a.t.registers (family_rows a.t a.m a.parameters) families kinds sizes stays.table used long (omega (arith, h.long, stays.families_same, stays.sizes_same)) h.families_fit (λ k p. rw (stays.declared k p, stays.kinds_same) (h.rows_right k p)) taken;
+      tables_right = scope_right bytes (a.t.rows + a.parameters) a.t.registers a.next (family_rows a.t a.m a.parameters) kinds sizes none none c.parameter_types-r.ensures.stays.table used long eight_rows eight_rows few (omega arith) (omega arith);
+      families_right = scope_declares bytes (a.t.rows + a.parameters) a.next a.t.registers (family_rows a.t a.m a.parameters) families kinds sizes c.parameter_types-r.ensures.stays.table used long (omega (arith, c.requires.declared_right.long, c.parameter_types-r.ensures.stays.families_same, c.parameter_types-r.ensures.stays.sizes_same)) c.requires.declared_right.families_fit (λ k p. rw (c.parameter_types-r.ensures.stays.declared k p, c.parameter_types-r.ensures.stays.kinds_same) (c.requires.declared_right.rows_right k p)) taken;
     }
 
 pub returns : goal.returns
@@ -83,7 +78,6 @@ unfolding family_scope_by
 returns c =
     let a = c.args in
     let program = a.program.now in
-    let h = c.requires.declared_right in
     let few = c.requires.m_le_most_variables in
     let bytes = length program in
     let long = c.requires.at_bound.1 in
@@ -91,15 +85,14 @@ returns c =
     let families = c.parameter_types-r.new.families in
     let kinds = c.parameter_types-r.new.kinds in
     let sizes = c.parameter_types-r.new.sizes in
-    let stays = c.parameter_types-r.ensures.stays in
     let d = declared_in a.t a.families.now a.kinds.now a.sizes.now in
     let mid = c.in-Upto.mid in
     let used = before_upto (a.t.rows + a.parameters) a.t.registers a.next mid c.parameter_types-r.result kinds c.in-Upto.is c.parameter_types-r.ensures.in_use_before in
     let taken = formals_upto a.next mid c.parameter_types-r.result families kinds c.in-Upto.is c.parameter_types-r.ensures.formals_before in
     let b = count_upto program (a.at + 5) a.next a.parameters c.parameter_types-r.result mid c.in-Upto.is c.parameter_types-r.ensures.passes_count in
     record {
-      sizes_after = body_goes bytes a.t a.at a.m a.parameters program (a.at + 5) a.next h (omega arith) stays c.parameter_types-r.result (c.parameter_types-r.ensures.sizes_after d.families []) mid c.in-Upto.is b c.list.result none none c.list.ensures;
+      sizes_after = body_goes bytes a.t a.at a.m a.parameters program (a.at + 5) a.next c.requires.declared_right (omega arith) c.parameter_types-r.ensures.stays c.parameter_types-r.result (c.parameter_types-r.ensures.sizes_after d.families []) mid c.in-Upto.is b c.list.result none none c.list.ensures;
       in_use_before = before_kept (a.t.rows + a.parameters) a.t.registers a.next c.list.result kinds used;
       formals_before = formals_kept a.next c.list.result families kinds taken;
-      stays = stays;
+      stays = c.parameter_types-r.ensures.stays;
     }

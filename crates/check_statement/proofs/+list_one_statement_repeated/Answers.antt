@@ -281,14 +281,13 @@ repeated-list-requires t c =
     let mid = c.in-Upto.from in
     let v = bounds_upto program (a.at + 3) a.next c.two_indexes-r.result l h mid c.in-Upto.is c.two_indexes-r.ensures.bounds_pass in
     let r = c.requires.families_right.0 in
-    let d = c.requires.families_right.1 in
     let z = c.if-n-ge-MOST_LOOPS.false in (
       omega (arith, c.requires.at_bound),
       (
         c.requires.tables_right.1,
         (
           record { few = r.few; nested = omega arith; kind_rows = r.kind_rows; size_rows = r.size_rows; named = r.named; low_rows = rows_set a.lows.now 8 n l r.low_rows v.1; high_rows = rows_set a.highs.now 8 n h r.high_rows v.2 },
-          record { few = d.few; rows = d.rows },
+          record { few = c.requires.families_right.1.few; rows = c.requires.families_right.1.rows },
         ),
       ),
     )

@@ -41,12 +41,11 @@ returns-then-value-gt1 c =
 
 pub operand-r-requires : goal.operand-r-requires
 operand-r-requires c =
-    let q = c.requires in
     record {
-      to_in_bounds = q.0.1;
+      to_in_bounds = c.requires.at_bound.1;
       size_right = tt;
       answerable = tt;
-      tables_right = q.1.0;
+      tables_right = c.requires.tables_right;
     }
 
 pub returns-in_default : goal.returns-in_default

@@ -10,14 +10,17 @@ use Rattle.forms.proofs.add_constant.Goals as goal
 pub add_number-requires : goal.add_number-requires
 unfolding in_range
 add_number-requires c =
-    let q = c.requires.z_value in
     record {
       i_lt_form_numbers = omega arith;
       pos_value = kept_at c.args.f.now 0 (omega arith) c.requires.kept;
       k_value = refl;
-      y_value = ap in_range {y = c.args.z} (range_back q) ∙ q;
+      y_value = ap in_range {y = c.args.z} (range_back c.requires.z_value) ∙ c.requires.z_value;
     }
 
 pub returns : goal.returns
 returns c =
-    constant_added c.args.f.now (range_back c.requires.z_value) c.requires.kept c.requires.z_value _ _ c.add_number.ensures.value c.add_number.ensures.f_after
+    let both = constant_added c.args.f.now (range_back c.requires.z_value) c.requires.kept c.requires.z_value _ _ c.add_number.ensures.value c.add_number.ensures.f_after in
+    record {
+      f_after = both.0;
+      kept_2 = both.1;
+    }

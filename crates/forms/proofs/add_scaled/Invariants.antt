@@ -17,7 +17,7 @@ use Rattle.forms.proofs.Laws.{Scaling, scaling_begun, scaling_again, scaling_sto
 use Rattle.forms.proofs.add_scaled.Given as goal
 
 abbrev pub invariant-loop-i : goal.invariant-loop-i
-invariant-loop-i l = Scaling (to_z w64 l.k) l.initial.f l.g l.initial.f l.f l.i
+invariant-loop-i l = Scaling (l.k) l.initial.f l.g l.initial.f l.f l.i
 
 abbrev pub decreases-loop-i : goal.decreases-loop-i
 decreases-loop-i l = 13 - l.i

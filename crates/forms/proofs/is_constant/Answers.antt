@@ -20,23 +20,20 @@ pub returns-then-x-ne0 : goal.returns-then-x-ne0
 returns-then-x-ne0 c =
     let f = c.args.f.now in
     let i = c.loop-i.i in
-    let k = c.requires in
-    let l = k.long in
-    sym (sym (constant_flat _ k) ∙ c.loop-i.invariant.1 ∙ rest_bad zeros f i (omega arith) (zero_no (λ e. c.if-x-ne0.true (ap (of_z w64) e))))
+    let l = c.requires.long in
+    sym (sym (constant_flat _ c.requires) ∙ c.loop-i.invariant.1 ∙ rest_bad zeros f i (omega arith) (zero_no (λ e. c.if-x-ne0.true (ap (of_z w64) e))))
 
 pub loop-i-preserved : goal.loop-i-preserved
 loop-i-preserved c =
     let f = c.args.f.now in
     let i = c.loop-i.i in
-    let k = c.requires in
-    let l = k.long in
-    let x = each_at ranges f i (omega arith) k.inside in
+    let l = c.requires.long in
+    let x = each_at ranges f i (omega arith) c.requires.inside in
     (omega arith, c.loop-i.invariant.1 ∙ rw add-one (rest_good zeros f i (omega arith) (zero_yes (bits_zero (range_fits _ x) c.if-x-ne0.false))))
 
 pub returns : goal.returns
 returns c =
     let f = c.args.f.now in
     let i = c.loop-i.i in
-    let k = c.requires in
-    let l = k.long in
-    sym (sym (constant_flat _ k) ∙ c.loop-i.invariant.1 ∙ rest_none zeros f i (omega arith))
+    let l = c.requires.long in
+    sym (sym (constant_flat _ c.requires) ∙ c.loop-i.invariant.1 ∙ rest_none zeros f i (omega arith))

@@ -17,7 +17,7 @@ use Rattle.forms.proofs.left.Given as goal
 
 abbrev pub invariant-loop-n : goal.invariant-loop-n
 invariant-loop-n l =
-    (l.n ≤ l.loops) × ((l h : List (List ℤ)) → remaining l.variables (loops_of l.loops l h) (as_form l.f) ≡ remaining l.variables (loops_of l.n l h) (as_form l.f))
+    (l.n ≤ l.loops) × ((l' h : List (List ℤ)) → remaining l.variables (loops_of l.loops l' h) (as_form l.f) ≡ remaining l.variables (loops_of l.n l' h) (as_form l.f))
 
 abbrev pub decreases-loop-n : goal.decreases-loop-n
 decreases-loop-n l =

@@ -33,5 +33,7 @@ overflow_cast-f-5 c =
 pub returns : goal.returns
 returns c =
     let l = c.args.row.now in
-    let s = c.requires in
-    rw (narrow_back (short_range l 0 (omega arith) s), narrow_back (short_range l 1 (omega arith) s), narrow_back (short_range l 2 (omega arith) s), narrow_back (short_range l 3 (omega arith) s), narrow_back (short_range l 4 (omega arith) s), range_back (short_range l 0 (omega arith) s), range_back (short_range l 1 (omega arith) s), range_back (short_range l 2 (omega arith) s), range_back (short_range l 3 (omega arith) s), range_back (short_range l 4 (omega arith) s)) (load_wide l s, load_kept l s)
+    record {
+      f_after = rw (narrow_back (short_range l 0 (omega arith) c.requires), narrow_back (short_range l 1 (omega arith) c.requires), narrow_back (short_range l 2 (omega arith) c.requires), narrow_back (short_range l 3 (omega arith) c.requires), narrow_back (short_range l 4 (omega arith) c.requires), range_back (short_range l 0 (omega arith) c.requires), range_back (short_range l 1 (omega arith) c.requires), range_back (short_range l 2 (omega arith) c.requires), range_back (short_range l 3 (omega arith) c.requires), range_back (short_range l 4 (omega arith) c.requires)) (load_wide l c.requires);
+      kept = rw (narrow_back (short_range l 0 (omega arith) c.requires), narrow_back (short_range l 1 (omega arith) c.requires), narrow_back (short_range l 2 (omega arith) c.requires), narrow_back (short_range l 3 (omega arith) c.requires), narrow_back (short_range l 4 (omega arith) c.requires), range_back (short_range l 0 (omega arith) c.requires), range_back (short_range l 1 (omega arith) c.requires), range_back (short_range l 2 (omega arith) c.requires), range_back (short_range l 3 (omega arith) c.requires), range_back (short_range l 4 (omega arith) c.requires)) (load_kept l c.requires);
+    }

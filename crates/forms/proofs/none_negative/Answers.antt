@@ -19,19 +19,17 @@ pub returns-then-x-lt0 : goal.returns-then-x-lt0
 returns-then-x-lt0 c =
     let f = c.args.f.now in
     let i = c.loop-i.i in
-    let k = c.requires in
-    let l = k.long in
-    let x = each_at ranges f i (omega arith) k.inside in
+    let l = c.requires.long in
+    let x = each_at ranges f i (omega arith) c.requires.inside in
     let t = rw (range_back x) at c.if-x-lt0.true in
-    ap showing_by (sym (c.loop-i.invariant.1 ∙ rest_bad signs f i (omega arith) (omega integers))) ∙ plain_flat _ k
+    ap showing_by (sym (c.loop-i.invariant.1 ∙ rest_bad signs f i (omega arith) (omega integers))) ∙ plain_flat _ c.requires
 
 pub loop-i-preserved : goal.loop-i-preserved
 loop-i-preserved c =
     let f = c.args.f.now in
     let i = c.loop-i.i in
-    let k = c.requires in
-    let l = k.long in
-    let x = each_at ranges f i (omega arith) k.inside in
+    let l = c.requires.long in
+    let x = each_at ranges f i (omega arith) c.requires.inside in
     let t = rw (range_back x) at c.if-x-lt0.false in
     (omega arith, c.loop-i.invariant.1 ∙ rw add-one (rest_good signs f i (omega arith) (omega integers)))
 
@@ -39,6 +37,5 @@ pub returns : goal.returns
 returns c =
     let f = c.args.f.now in
     let i = c.loop-i.i in
-    let k = c.requires in
-    let l = k.long in
-    ap showing_by (sym (c.loop-i.invariant.1 ∙ rest_none signs f i (omega arith))) ∙ plain_flat _ k
+    let l = c.requires.long in
+    ap showing_by (sym (c.loop-i.invariant.1 ∙ rest_none signs f i (omega arith))) ∙ plain_flat _ c.requires

@@ -25,7 +25,7 @@ pub returns : goal.returns
 returns c =
     let x = range_back c.requires.x_value in
     let k = range_back c.requires.k_value in
-    let y = range_back c.requires.y_value in (
-      c.put_sum.ensures.value ∙ (λ j. in_range (k j *ℤ y j) && in_range (x j +ℤ k j *ℤ y j)),
-      λ e. c.put_sum.ensures.f_after e ∙ (λ j. set c.args.g.now c.args.i (x j +ℤ k j *ℤ y j)),
-    )
+    let y = range_back c.requires.y_value in record {
+      value = c.put_sum.ensures.value ∙ (λ j. in_range (k j *ℤ y j) && in_range (x j +ℤ k j *ℤ y j));
+      g_after = λ e. c.put_sum.ensures.f_after e ∙ (λ j. set c.args.g.now c.args.i (x j +ℤ k j *ℤ y j));
+    }

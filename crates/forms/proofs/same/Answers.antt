@@ -22,10 +22,9 @@ returns-then-x-g c =
     let g = c.args.g.now in
     let i = c.loop-i.i in
     let a = c.requires.kept in
-    let b = c.requires.kept_2 in
     let l = a.long in
-    let m = b.long in
-    sym (sym (same_flat f g a b) ∙ c.loop-i.invariant.1 ∙ pair_bad f g i (omega arith) (omega arith) (number_other (λ e. c.if-x-g.true (ap (of_z w64) e))))
+    let m = c.requires.kept_2.long in
+    sym (sym (same_flat f g a c.requires.kept_2) ∙ c.loop-i.invariant.1 ∙ pair_bad f g i (omega arith) (omega arith) (number_other (λ e. c.if-x-g.true (ap (of_z w64) e))))
 
 pub loop-i-preserved : goal.loop-i-preserved
 loop-i-preserved c =
@@ -33,11 +32,10 @@ loop-i-preserved c =
     let g = c.args.g.now in
     let i = c.loop-i.i in
     let a = c.requires.kept in
-    let b = c.requires.kept_2 in
     let l = a.long in
-    let m = b.long in
+    let m = c.requires.kept_2.long in
     let x = each_at ranges f i (omega arith) a.inside in
-    let y = each_at ranges g i (omega arith) b.inside in
+    let y = each_at ranges g i (omega arith) c.requires.kept_2.inside in
     (omega arith, c.loop-i.invariant.1 ∙ rw add-one (pair_good f g i (omega arith) (omega arith) (number_same (bits_eq (range_fits _ x) (range_fits _ y) c.if-x-g.false))))
 
 pub returns : goal.returns
@@ -46,7 +44,6 @@ returns c =
     let g = c.args.g.now in
     let i = c.loop-i.i in
     let a = c.requires.kept in
-    let b = c.requires.kept_2 in
     let l = a.long in
-    let m = b.long in
-    sym (sym (same_flat f g a b) ∙ c.loop-i.invariant.1 ∙ pair_none f g i (omega arith) (omega arith))
+    let m = c.requires.kept_2.long in
+    sym (sym (same_flat f g a c.requires.kept_2) ∙ c.loop-i.invariant.1 ∙ pair_none f g i (omega arith) (omega arith))

@@ -117,4 +117,8 @@ loop-f-preserved c =
 pub returns-else-substitute : goal.returns-else-substitute
 unfolding shown_of showing_of
 returns-else-substitute c =
-    told _ _ _ _ (replaced-out c.before c.if-substitute.false)
+    let both = told _ _ _ _ (replaced-out c.before c.if-substitute.false) in
+    record {
+      verdict_value = both.0;
+      through_value = both.1;
+    }

@@ -14,4 +14,7 @@ pub returns : goal.returns
 unfolding as_form
 returns c =
     let a = c.args in
-    rw (to_z-of_z w64 a.z c.ranges.z) (refl, set_kept (replicate 13 (pos 0)) 0 a.z c.requires zeros_kept)
+    record {
+      f_after = rw (to_z-of_z w64 a.z c.ranges.z) (refl);
+      kept = rw (to_z-of_z w64 a.z c.ranges.z) (set_kept (replicate 13 (pos 0)) 0 a.z c.requires zeros_kept);
+    }

@@ -11,11 +11,11 @@ use Rattle.forms.proofs.show.Goals as goal
 
 pub try_loops-t-requires : goal.try_loops-t-requires
 try_loops-t-requires c =
-    let p = c.requires in record {
-      kept = p.0;
-      loops_bound = p.1.0;
-      rows = p.1.1.0;
-      rows_2 = p.1.1.1;
+    record {
+      kept = c.requires.kept;
+      loops_bound = c.requires.loops_bound;
+      rows = c.requires.rows;
+      rows_2 = c.requires.rows_2;
       inner_le_loops = omega arith;
     }
 

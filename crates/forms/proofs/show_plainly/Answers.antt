@@ -82,4 +82,8 @@ returns c =
     let f = as_form c.args.f.now in
     let n = c.args.loops in
     let out = ap (λ (t : Bool). built_of t c.replace_into.new.g) (sym c.if-replace_into.false) ∙ c.replace_into.ensures.g_after in
-    told _ _ _ _ (scan_out c.args.variables n n l u f f (omega arith) (none_after n _) c.left-next.result (omega (arith, c.if-next-eq0.false)) c.left-next.ensures.upper_bound (c.left-next.ensures.f_value l u) out)
+    let both = told _ _ _ _ (scan_out c.args.variables n n l u f f (omega arith) (none_after n _) c.left-next.result (omega (arith, c.if-next-eq0.false)) c.left-next.ensures.upper_bound (c.left-next.ensures.f_value l u) out) in
+    record {
+      verdict_value = both.0;
+      through_value = both.1;
+    }

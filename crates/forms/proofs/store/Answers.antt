@@ -34,4 +34,7 @@ pub returns : goal.returns
 returns c =
     let l = c.args.f.now in
     let k = c.requires.kept in
-    rw (range_back (kept_at l 0 (omega arith) k), range_back (kept_at l 1 (omega arith) k), range_back (kept_at l 2 (omega arith) k), range_back (kept_at l 3 (omega arith) k), range_back (kept_at l 4 (omega arith) k), narrow_back (kept_at l 0 (omega arith) k), narrow_back (kept_at l 1 (omega arith) k), narrow_back (kept_at l 2 (omega arith) k), narrow_back (kept_at l 3 (omega arith) k), narrow_back (kept_at l 4 (omega arith) k)) (store_wide l k c.requires.f_value, store_short l k)
+    record {
+      row_after = rw (range_back (kept_at l 0 (omega arith) k), range_back (kept_at l 1 (omega arith) k), range_back (kept_at l 2 (omega arith) k), range_back (kept_at l 3 (omega arith) k), range_back (kept_at l 4 (omega arith) k), narrow_back (kept_at l 0 (omega arith) k), narrow_back (kept_at l 1 (omega arith) k), narrow_back (kept_at l 2 (omega arith) k), narrow_back (kept_at l 3 (omega arith) k), narrow_back (kept_at l 4 (omega arith) k)) (store_wide l k c.requires.f_value);
+      short = rw (range_back (kept_at l 0 (omega arith) k), range_back (kept_at l 1 (omega arith) k), range_back (kept_at l 2 (omega arith) k), range_back (kept_at l 3 (omega arith) k), range_back (kept_at l 4 (omega arith) k), narrow_back (kept_at l 0 (omega arith) k), narrow_back (kept_at l 1 (omega arith) k), narrow_back (kept_at l 2 (omega arith) k), narrow_back (kept_at l 3 (omega arith) k), narrow_back (kept_at l 4 (omega arith) k)) (store_short l k);
+    }

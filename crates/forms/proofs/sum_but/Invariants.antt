@@ -17,7 +17,7 @@ use Rattle.forms.proofs.Laws.{Scaling, scaling_begun, scaling_again, scaling_sto
 use Rattle.forms.proofs.sum_but.Given as goal
 
 abbrev pub invariant-loop-i : goal.invariant-loop-i
-invariant-loop-i l = Scaling (to_z w64 l.k) (set l.f l.at (pos 0)) l.h l.initial.g l.g l.i
+invariant-loop-i l = Scaling (l.k) (set l.f l.at (pos 0)) l.h l.initial.g l.g l.i
 
 abbrev pub decreases-loop-i : goal.decreases-loop-i
 decreases-loop-i l = 13 - l.i

@@ -27,9 +27,15 @@ less_range-requires c =
 
 pub show_plainly-s-requires : goal.show_plainly-s-requires
 show_plainly-s-requires c =
-    (c.less_range.ensures.kept_2 c.if-less_range.true, (c.requires.loops_bound, (c.requires.rows, c.requires.rows_2)))
+    let both = (c.less_range.ensures.kept_2 c.if-less_range.true, (c.requires.loops_bound, (c.requires.rows, c.requires.rows_2)))
 
--- e − (high − low) is built
+-- e − (high − low) is built in
+    record {
+      kept = both.0;
+      loops_bound = both.1.0;
+      rows = both.1.1.0;
+      rows_2 = both.1.1.1;
+    }
 
 pub returns-in-Shown : goal.returns-in-Shown
 unfolding is_shown shown_of

@@ -9,6 +9,5 @@ pub returns : goal.returns
 returns c =
     let at = c.args.at in
     let e : at + 2 + 1 ≡ at + 3 = omega arith in
-    let low = c.two_bytes-low.ensures in
     let high = rw e at c.two_bytes-high.ensures in
-    (omega (arith, low.0, high.0), omega (arith, low.1, high.1))
+    (omega (arith, c.two_bytes-low.ensures.0, high.0), omega (arith, c.two_bytes-low.ensures.1, high.1))

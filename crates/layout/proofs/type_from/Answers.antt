@@ -21,7 +21,10 @@ pub register_from-requires : goal.register_from-requires
 register_from-requires c =
     let a = c.args in
     let r = index_ranged (slice a.from a.to a.bytes.now) 0 (take a.many a.values.now) _ (rw c.in-Is.is at c.index_at.ensures) in
-    rw (range_back r) (r, c.requires.many_le_most_values.1)
+    record {
+      z_value = rw (range_back r) (r);
+      next_le_most_wires = rw (range_back r) (c.requires.many_le_most_values.1);
+    }
 
 pub returns-in-Is : goal.returns-in-Is
 returns-in-Is c =

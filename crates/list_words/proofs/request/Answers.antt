@@ -36,28 +36,28 @@ slice_bounds-number_in-end c =
 pub returns-in_default : goal.returns-in_default
 unfolding meant job_meant family_at said_by
 returns-in_default c =
-    (
-  family_asked c.args.text.now c.word_at-first.result c.word_at-first.ensures (not_same c.same.ensures.1 c.if-same.false) none _
-      (ap said_by (sym c.in_default.is) ∙ c.number_in.ensures) refl,
-  tt,
-)
+    record {
+      sizes_after = family_asked c.args.text.now c.word_at-first.result c.word_at-first.ensures (not_same c.same.ensures.1 c.if-same.false) none _
+          (ap said_by (sym c.in_default.is) ∙ c.number_in.ensures) refl;
+      held = tt;
+    }
 
 pub returns-in_default-sizes_in : goal.returns-in_default-sizes_in
 unfolding meant job_meant family_at said_by sizes_meant
 returns-in_default-sizes_in c =
-    (
-  family_asked c.args.text.now c.word_at-first.result c.word_at-first.ensures (not_same c.same.ensures.1 c.if-same.false) (some c.in-Number.family) none
-      (ap said_by (sym c.in-Number.is) ∙ c.number_in.ensures)
-      (ap (λ r. sizes_meant r c.sizes_in.new.sizes) (sym c.in_default-sizes_in.is) ∙ c.sizes_in.ensures.sizes_after),
-  tt,
-)
+    record {
+      sizes_after = family_asked c.args.text.now c.word_at-first.result c.word_at-first.ensures (not_same c.same.ensures.1 c.if-same.false) (some c.in-Number.family) none
+          (ap said_by (sym c.in-Number.is) ∙ c.number_in.ensures)
+          (ap (λ r. sizes_meant r c.sizes_in.new.sizes) (sym c.in_default-sizes_in.is) ∙ c.sizes_in.ensures.sizes_after);
+      held = tt;
+    }
 
 pub returns : goal.returns
 unfolding meant job_meant family_at said_by sizes_meant
 returns c =
-    (
-  family_asked c.args.text.now c.word_at-first.result c.word_at-first.ensures (not_same c.same.ensures.1 c.if-same.false) (some c.in-Number.family) (some (take c.in-Bytes.size c.sizes_in.new.sizes))
-      (ap said_by (sym c.in-Number.is) ∙ c.number_in.ensures)
-      (ap (λ r. sizes_meant r c.sizes_in.new.sizes) (sym c.in-Bytes.is) ∙ c.sizes_in.ensures.sizes_after),
-  subst (λ r. SizesHeld r c.sizes_in.new.sizes) c.in-Bytes.is c.sizes_in.ensures.sizes_held,
-)
+    record {
+      sizes_after = family_asked c.args.text.now c.word_at-first.result c.word_at-first.ensures (not_same c.same.ensures.1 c.if-same.false) (some c.in-Number.family) (some (take c.in-Bytes.size c.sizes_in.new.sizes))
+          (ap said_by (sym c.in-Number.is) ∙ c.number_in.ensures)
+          (ap (λ r. sizes_meant r c.sizes_in.new.sizes) (sym c.in-Bytes.is) ∙ c.sizes_in.ensures.sizes_after);
+      held = subst (λ r. SizesHeld r c.sizes_in.new.sizes) c.in-Bytes.is c.sizes_in.ensures.sizes_held;
+    }

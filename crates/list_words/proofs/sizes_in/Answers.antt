@@ -31,11 +31,11 @@ shape_of-sizes-in_default c =
 pub returns-in_default : goal.returns-in_default
 unfolding sizes_meant said_by
 returns-in_default c =
-    (
-  no_number c.args.text.now c.args.from c.loop-at.sizes c.loop-at.at c.loop-at.many c.loop-at.invariant.0 c.word_at-word.result c.word_at-word.ensures c.if-many-eq-MOST_SIZES.false
-      (ap said_by (sym c.in_default.is) ∙ c.number_in.ensures),
-  tt,
-)
+    record {
+      sizes_after = no_number c.args.text.now c.args.from c.loop-at.sizes c.loop-at.at c.loop-at.many c.loop-at.invariant.0 c.word_at-word.result c.word_at-word.ensures c.if-many-eq-MOST_SIZES.false
+          (ap said_by (sym c.in_default.is) ∙ c.number_in.ensures);
+      sizes_held = tt;
+    }
 
 pub overflow_mul-many : goal.overflow_mul-many
 overflow_mul-many c =
@@ -73,7 +73,7 @@ pub returns : goal.returns
 unfolding sizes_meant
 returns c =
     let few = c.loop-at.invariant.0.few in
-    let room = c.loop-at.invariant.0.room in (
-      sizing_done c.args.text.now c.args.from c.loop-at.sizes c.loop-at.at c.loop-at.many c.loop-at.invariant.0 (omega arith),
-      (omega arith, simp length-take (omega arith)),
-    )
+    let room = c.loop-at.invariant.0.room in record {
+      sizes_after = sizing_done c.args.text.now c.args.from c.loop-at.sizes c.loop-at.at c.loop-at.many c.loop-at.invariant.0 (omega arith);
+      sizes_held = (omega arith, simp length-take (omega arith));
+    }

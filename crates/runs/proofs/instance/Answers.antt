@@ -15,16 +15,14 @@ returns-then-n-family c =
     let a = c.args in
     let l = a.program.now in
     let room = length a.out.now in
-    let p = c.requires in
-    concluded_early a.out.now 20 ∙ sym (instance_none a.limit room l p.declares p.accepted a.family a.sizes.now a.out.now (no_family_lem a.limit room l p.declares p.accepted _ c.families-n.result a.family c.families-n.ensures.listed c.families-n.ensures.table_len_unchanged c.if-n-family.true))
+    concluded_early a.out.now 20 ∙ sym (instance_none a.limit room l c.requires.declares c.requires.accepted a.family a.sizes.now a.out.now (no_family_lem a.limit room l c.requires.declares c.requires.accepted _ c.families-n.result a.family c.families-n.ensures.listed c.families-n.ensures.table_len_unchanged c.if-n-family.true))
 
 pub sized-requires : goal.sized-requires
 sized-requires c =
     let a = c.args in
     let l = a.program.now in
-    let p = c.requires in
     let table = c.families-n.new.table in
-    let T = tabled l table c.families-n.result p.declares p.accepted p.short c.families-n.ensures.listed in
+    let T = tabled l table c.families-n.result c.requires.declares c.requires.accepted c.requires.short c.families-n.ensures.listed in
     record {
       entry = rw (c.narrow.ensures, c.long-at.ensures.0) (T.each a.family (omega (arith, c.if-n-family.false)));
       tabled = rw c.narrow.ensures (tabled_fewer l table c.families-n.result a.family (omega (arith, c.if-n-family.false)) T);
@@ -34,9 +32,8 @@ pub returns : goal.returns
 returns c =
     let a = c.args in
     let l = a.program.now in
-    let p = c.requires in
     let table = c.families-n.new.table in
-    let T = tabled l table c.families-n.result p.declares p.accepted p.short c.families-n.ensures.listed in
+    let T = tabled l table c.families-n.result c.requires.declares c.requires.accepted c.requires.short c.families-n.ensures.listed in
     let room = length a.out.now in
     let e = T.each a.family (omega (arith, c.if-n-family.false)) in
     rw (c.narrow.ensures, c.long-at.ensures.0) at c.sized.ensures ∙ ap (λ o. instance_of o a.sizes.now a.out.now) (sym (family_is a.limit room l a.family (get_or table a.family 0) e))

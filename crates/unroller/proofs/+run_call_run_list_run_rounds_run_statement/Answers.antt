@@ -45,12 +45,11 @@ run_call-returns-in_default t c =
     let l = a.bytes.now in
     let ready = c.requires.from_value in
     let en = c.requires.enterable.1.0 in
-    let is = c.requires.enterable.1.1 in
     let g = a.program.now in
     let vs = take a.mode.variables a.vars.now in
     let room = length a.out.now in
     let none = calls_none a.tag a.from (slice a.from a.to l) (operands_of a.scope a.regs.now) c.called_family.result c.called_family.ensures c.in_default.is in
-    (λ s q. does_as _ _ _ _ _ (one_run a.mode room a.place a.tag (slice a.from a.to l) g (frame_in a.mode vs a.scope a.regs.now)) (call_nothing a.mode room a.base a.from a.to a.place a.tag l g vs a.scope a.regs.now ready en.deep is en.named none) (step_taken a.mode.limit room a.out.now s a.st a.place _ _ _ q.step.left q.step.same q.step.more (does_stuck a.out.now a.st _)))
+    (λ s q. does_as _ _ _ _ _ (one_run a.mode room a.place a.tag (slice a.from a.to l) g (frame_in a.mode vs a.scope a.regs.now)) (call_nothing a.mode room a.base a.from a.to a.place a.tag l g vs a.scope a.regs.now ready en.deep c.requires.enterable.1.1 en.named none) (step_taken a.mode.limit room a.out.now s a.st a.place _ _ _ q.step.left q.step.same q.step.more (does_stuck a.out.now a.st _)))
 
 pub run_call-returns-then-mode-number : goal.run_call-returns-then-mode-number
 run_call-returns-then-mode-number t c =
@@ -58,7 +57,6 @@ run_call-returns-then-mode-number t c =
     let l = a.bytes.now in
     let ready = c.requires.from_value in
     let en = c.requires.enterable.1.0 in
-    let is = c.requires.enterable.1.1 in
     let g = a.program.now in
     let vs = take a.mode.variables a.vars.now in
     let room = length a.out.now in
@@ -66,7 +64,7 @@ run_call-returns-then-mode-number t c =
     let k = c.in-Family.number in
     let first = c.in-Family.first in
     let named : CallsFamily a.tag a.from (slice a.from a.to l) (operands_of a.scope a.regs.now) k first = calls_family _ _ _ _ c.called_family.result c.called_family.ensures k first c.in-Family.is in
-    (λ s q. does_as _ _ _ _ _ (one_run a.mode room a.place a.tag (slice a.from a.to l) g (frame_in a.mode vs a.scope a.regs.now)) (call_none a.mode room a.base a.from a.to a.place a.tag l g vs a.scope a.regs.now ready en.deep is k first named c.if-mode-number.true) (step_taken a.mode.limit room a.out.now s a.st a.place _ _ _ q.step.left q.step.same q.step.more (does_stuck a.out.now a.st _)))
+    (λ s q. does_as _ _ _ _ _ (one_run a.mode room a.place a.tag (slice a.from a.to l) g (frame_in a.mode vs a.scope a.regs.now)) (call_none a.mode room a.base a.from a.to a.place a.tag l g vs a.scope a.regs.now ready en.deep c.requires.enterable.1.1 k first named c.if-mode-number.true) (step_taken a.mode.limit room a.out.now s a.st a.place _ _ _ q.step.left q.step.same q.step.more (does_stuck a.out.now a.st _)))
 
 pub run_call-listed-at-requires : goal.run_call-listed-at-requires
 run_call-listed-at-requires t c =
@@ -95,7 +93,6 @@ run_call-body_of-body-requires t c =
     let l = a.bytes.now in
     let ready = c.requires.from_value in
     let en = c.requires.enterable.1.0 in
-    let is = c.requires.enterable.1.1 in
     let g = a.program.now in
     let vs = take a.mode.variables a.vars.now in
     let room = length a.out.now in
@@ -109,7 +106,7 @@ run_call-body_of-body-requires t c =
     let ar : Arguments (slice first a.to l) g at vs (operands_of a.scope a.regs.now) _ _ c.arguments.result = rw c.wide-many.ensures.0 at c.arguments.ensures in
     let n = c.in-All.count in
     let start = c.in-All.start in
-    let bf = call_begins a.mode room a.base a.from a.to a.place a.tag l g vs a.scope a.regs.now ready en.deep is k first named at below e _ _ c.arguments.result ar n start c.in-All.is in
+    let bf = call_begins a.mode room a.base a.from a.to a.place a.tag l g vs a.scope a.regs.now ready en.deep c.requires.enterable.1.1 k first named at below e _ _ c.arguments.result ar n start c.in-All.is in
     record {
       family_head = head_of e;
       body_from = bf;
@@ -140,7 +137,6 @@ run_call-run_list-requires t c =
     let l = a.bytes.now in
     let ready = c.requires.from_value in
     let en = c.requires.enterable.1.0 in
-    let is = c.requires.enterable.1.1 in
     let g = a.program.now in
     let vs = take a.mode.variables a.vars.now in
     let room = length a.out.now in
@@ -154,7 +150,7 @@ run_call-run_list-requires t c =
     let ar : Arguments (slice first a.to l) g at vs (operands_of a.scope a.regs.now) _ _ c.arguments.result = rw c.wide-many.ensures.0 at c.arguments.ensures in
     let n = c.in-All.count in
     let start = c.in-All.start in
-    let bf = call_begins a.mode room a.base a.from a.to a.place a.tag l g vs a.scope a.regs.now ready en.deep is k first named at below e _ _ c.arguments.result ar n start c.in-All.is in
+    let bf = call_begins a.mode room a.base a.from a.to a.place a.tag l g vs a.scope a.regs.now ready en.deep c.requires.enterable.1.1 k first named at below e _ _ c.arguments.result ar n start c.in-All.is in
     let part_is : c.body_of-body.result.now ≡ slice start (past_of g at) g = c.body_of-body.ensures in
     let long : length c.body_of-body.result.now ≡ past_of g at - start = ap (λ (x : List ℕ). length x) part_is ∙ length-slice start (past_of g at) g e.within in
     rw c.entered-inner.ensures (omega (arith, c.requires.ready, below, long, tb.short, e.within), (record { few = omega (arith, e.variables); order = omega arith; within = omega arith; near = omega (arith, long, bf.high, e.within, tb.short); here = ready.here }, (tabled_fewer g a.table.now a.mode.families_visible k (omega (arith, below)) tb, refl)))
@@ -165,7 +161,6 @@ run_call-returns-in-Over t c =
     let l = a.bytes.now in
     let ready = c.requires.from_value in
     let en = c.requires.enterable.1.0 in
-    let is = c.requires.enterable.1.1 in
     let g = a.program.now in
     let vs = take a.mode.variables a.vars.now in
     let room = length a.out.now in
@@ -177,7 +172,7 @@ run_call-returns-in-Over t c =
     let at = c.listed-at.result in
     let e : Entry g k at = rw c.listed-at.ensures (tb.each k below) in
     let ar : Arguments (slice first a.to l) g at vs (operands_of a.scope a.regs.now) _ _ c.arguments.result = rw c.wide-many.ensures.0 at c.arguments.ensures in
-    (λ s q. does_as _ _ _ _ _ (one_run a.mode room a.place a.tag (slice a.from a.to l) g (frame_in a.mode vs a.scope a.regs.now)) (call_over a.mode room a.base a.from a.to a.place a.tag l g vs a.scope a.regs.now ready en.deep is k first named at below e _ _ c.arguments.result ar c.in-Over.is) (step_taken a.mode.limit room a.out.now s a.st a.place _ _ _ q.step.left q.step.same q.step.more (does_end a.out.now a.st 24 a.place)))
+    (λ s q. does_as _ _ _ _ _ (one_run a.mode room a.place a.tag (slice a.from a.to l) g (frame_in a.mode vs a.scope a.regs.now)) (call_over a.mode room a.base a.from a.to a.place a.tag l g vs a.scope a.regs.now ready en.deep c.requires.enterable.1.1 k first named at below e _ _ c.arguments.result ar c.in-Over.is) (step_taken a.mode.limit room a.out.now s a.st a.place _ _ _ q.step.left q.step.same q.step.more (does_end a.out.now a.st 24 a.place)))
 
 pub run_call-returns-in-Stuck : goal.run_call-returns-in-Stuck
 run_call-returns-in-Stuck t c =
@@ -185,7 +180,6 @@ run_call-returns-in-Stuck t c =
     let l = a.bytes.now in
     let ready = c.requires.from_value in
     let en = c.requires.enterable.1.0 in
-    let is = c.requires.enterable.1.1 in
     let g = a.program.now in
     let vs = take a.mode.variables a.vars.now in
     let room = length a.out.now in
@@ -197,7 +191,7 @@ run_call-returns-in-Stuck t c =
     let at = c.listed-at.result in
     let e : Entry g k at = rw c.listed-at.ensures (tb.each k below) in
     let ar : Arguments (slice first a.to l) g at vs (operands_of a.scope a.regs.now) _ _ c.arguments.result = rw c.wide-many.ensures.0 at c.arguments.ensures in
-    (λ s q. does_as _ _ _ _ _ (one_run a.mode room a.place a.tag (slice a.from a.to l) g (frame_in a.mode vs a.scope a.regs.now)) (call_stuck a.mode room a.base a.from a.to a.place a.tag l g vs a.scope a.regs.now ready en.deep is k first named at below e _ _ c.arguments.result ar c.in-Stuck.is) (step_taken a.mode.limit room a.out.now s a.st a.place _ _ _ q.step.left q.step.same q.step.more (does_stuck a.out.now a.st _)))
+    (λ s q. does_as _ _ _ _ _ (one_run a.mode room a.place a.tag (slice a.from a.to l) g (frame_in a.mode vs a.scope a.regs.now)) (call_stuck a.mode room a.base a.from a.to a.place a.tag l g vs a.scope a.regs.now ready en.deep c.requires.enterable.1.1 k first named at below e _ _ c.arguments.result ar c.in-Stuck.is) (step_taken a.mode.limit room a.out.now s a.st a.place _ _ _ q.step.left q.step.same q.step.more (does_stuck a.out.now a.st _)))
 
 pub run_call-shape_of-out : goal.run_call-shape_of-out
 run_call-shape_of-out t c =
@@ -209,7 +203,6 @@ run_call-returns-in-All t c =
     let l = a.bytes.now in
     let ready = c.requires.from_value in
     let en = c.requires.enterable.1.0 in
-    let is = c.requires.enterable.1.1 in
     let g = a.program.now in
     let vs = take a.mode.variables a.vars.now in
     let room = length a.out.now in
@@ -225,7 +218,7 @@ run_call-returns-in-All t c =
     let start = c.in-All.start in
     let part_is : c.body_of-body.result.now ≡ slice start (past_of g at) g = c.body_of-body.ensures in
     let d = rw c.entered-inner.ensures at c.run_list.ensures in
-    (λ s q. does_as _ _ _ _ _ (one_run a.mode room a.place a.tag (slice a.from a.to l) g (frame_in a.mode vs a.scope a.regs.now)) (call_all a.mode room a.base a.from a.to a.place a.tag l g vs a.scope a.regs.now ready en.deep is k first named at below e _ _ c.arguments.result ar n start c.in-All.is c.scope_of.result c.scope_of.ensures c.body_of-body.result.now part_is) (step_taken a.mode.limit room a.out.now s a.st a.place _ _ _ q.step.left q.step.same q.step.more d.0))
+    (λ s q. does_as _ _ _ _ _ (one_run a.mode room a.place a.tag (slice a.from a.to l) g (frame_in a.mode vs a.scope a.regs.now)) (call_all a.mode room a.base a.from a.to a.place a.tag l g vs a.scope a.regs.now ready en.deep c.requires.enterable.1.1 k first named at below e _ _ c.arguments.result ar n start c.in-All.is c.scope_of.result c.scope_of.ensures c.body_of-body.result.now part_is) (step_taken a.mode.limit room a.out.now s a.st a.place _ _ _ q.step.left q.step.same q.step.more d.0))
 
 pub run_list-loop-w-init : goal.run_list-loop-w-init
 run_list-loop-w-init t c =
@@ -513,13 +506,12 @@ run_rounds-repeats_of-requires t c =
     let g = a.program.now in
     let vs = a.vars.now in
     let room = length a.out.now in
-    let w = c.inmost-e.ensures in
     let e = c.inmost-e.result in
-    let ready = w.able.ready in
-    let en = w.able.enterable in
-    let past = w.able.bodied in
+    let ready = c.inmost-e.ensures.able.ready in
+    let en = c.inmost-e.ensures.able.enterable in
+    let past = c.inmost-e.ensures.able.bodied in
     let here = a.base + e.from - 3 in
-    let at : a.base + e.from ≡ here + 3 = omega (arith, w.able.behind) in
+    let at : a.base + e.from ≡ here + 3 = omega (arith, c.inmost-e.ensures.able.behind) in
     record {
       to_in_bounds = ready.within;
       many_le_most_values = omega (arith, ready.few, c.wide-many.ensures.0);
@@ -536,13 +528,12 @@ run_rounds-inner-n-requires t c =
     let g = a.program.now in
     let vs = a.vars.now in
     let room = length a.out.now in
-    let w = c.inmost-e.ensures in
     let e = c.inmost-e.result in
-    let ready = w.able.ready in
-    let en = w.able.enterable in
-    let past = w.able.bodied in
+    let ready = c.inmost-e.ensures.able.ready in
+    let en = c.inmost-e.ensures.able.enterable in
+    let past = c.inmost-e.ensures.able.bodied in
     let here = a.base + e.from - 3 in
-    let at : a.base + e.from ≡ here + 3 = omega (arith, w.able.behind) in
+    let at : a.base + e.from ≡ here + 3 = omega (arith, c.inmost-e.ensures.able.behind) in
     (omega (arith, en.deep), omega (arith, ready.few, en.deep))
 
 pub run_rounds-run_list-requires : goal.run_rounds-run_list-requires
@@ -552,19 +543,18 @@ run_rounds-run_list-requires t c =
     let g = a.program.now in
     let vs = a.vars.now in
     let room = length a.out.now in
-    let w = c.inmost-e.ensures in
     let e = c.inmost-e.result in
-    let ready = w.able.ready in
-    let en = w.able.enterable in
-    let past = w.able.bodied in
+    let ready = c.inmost-e.ensures.able.ready in
+    let en = c.inmost-e.ensures.able.enterable in
+    let past = c.inmost-e.ensures.able.bodied in
     let here = a.base + e.from - 3 in
-    let at : a.base + e.from ≡ here + 3 = omega (arith, w.able.behind) in
+    let at : a.base + e.from ≡ here + 3 = omega (arith, c.inmost-e.ensures.able.behind) in
     let rep : Repeated l e.from a.to e.tag (take e.mode.variables vs) e.mode.reversed c.repeats_of.result = rw c.wide-many.ensures.0 at c.repeats_of.ensures in
     let st0 = c.in-Are.start in
     let total = c.in-Are.total in
     let body = c.in-Are.body in
     let o = loop_opens e.mode room a.base e.from a.to here e.tag l g vs a.scope a.regs.now en.deep past at c.repeats_of.result rep ready.order st0 total body c.in-Are.is in
-    rw (c.inner-n.ensures, range_back {z = st0} o.ranged) (omega (arith, c.requires.ready, o.low, w.later, w.visible, inner_seen e.mode e.tag), (record { few = inner_few e.mode e.tag ready.few en.deep; order = o.high; within = ready.within; near = ready.near; here = ready.here }, (tabled_fewer g a.table.now a.mode.families_visible (inner_of e.mode e.tag).families_visible (omega (arith, w.visible, inner_seen e.mode e.tag)) c.requires.enterable.0, o.often)))
+    rw (c.inner-n.ensures, range_back {z = st0} o.ranged) (omega (arith, c.requires.ready, o.low, c.inmost-e.ensures.later, c.inmost-e.ensures.visible, inner_seen e.mode e.tag), (record { few = inner_few e.mode e.tag ready.few en.deep; order = o.high; within = ready.within; near = ready.near; here = ready.here }, (tabled_fewer g a.table.now a.mode.families_visible (inner_of e.mode e.tag).families_visible (omega (arith, c.inmost-e.ensures.visible, inner_seen e.mode e.tag)) c.requires.enterable.0, o.often)))
 
 pub run_rounds-returns-in-Over : goal.run_rounds-returns-in-Over
 run_rounds-returns-in-Over t c =
@@ -573,15 +563,14 @@ run_rounds-returns-in-Over t c =
     let g = a.program.now in
     let vs = a.vars.now in
     let room = length a.out.now in
-    let w = c.inmost-e.ensures in
     let e = c.inmost-e.result in
-    let ready = w.able.ready in
-    let en = w.able.enterable in
-    let past = w.able.bodied in
+    let ready = c.inmost-e.ensures.able.ready in
+    let en = c.inmost-e.ensures.able.enterable in
+    let past = c.inmost-e.ensures.able.bodied in
     let here = a.base + e.from - 3 in
-    let at : a.base + e.from ≡ here + 3 = omega (arith, w.able.behind) in
+    let at : a.base + e.from ≡ here + 3 = omega (arith, c.inmost-e.ensures.able.behind) in
     let rep : Repeated l e.from a.to e.tag (take e.mode.variables vs) e.mode.reversed c.repeats_of.result = rw c.wide-many.ensures.0 at c.repeats_of.ensures in
-    (inside_does l a.base a.to _ e w a.place c.requires.tabled room g vs a.scope a.regs.now a.out.now _ _ (λ s q. does_as _ _ _ _ _ (one_run e.mode room here e.tag (slice e.from a.to l) g (frame_in e.mode (take e.mode.variables vs) a.scope a.regs.now)) (loop_over e.mode room a.base e.from a.to here e.tag l g vs a.scope a.regs.now en.deep past at c.repeats_of.result rep c.in-Over.is) (step_taken e.mode.limit room a.out.now s e.st here _ _ _ q.step.left q.step.same q.step.more (does_end a.out.now e.st 24 here))), refl)
+    (inside_does l a.base a.to _ e c.inmost-e.ensures a.place c.requires.tabled room g vs a.scope a.regs.now a.out.now _ _ (λ s q. does_as _ _ _ _ _ (one_run e.mode room here e.tag (slice e.from a.to l) g (frame_in e.mode (take e.mode.variables vs) a.scope a.regs.now)) (loop_over e.mode room a.base e.from a.to here e.tag l g vs a.scope a.regs.now en.deep past at c.repeats_of.result rep c.in-Over.is) (step_taken e.mode.limit room a.out.now s e.st here _ _ _ q.step.left q.step.same q.step.more (does_end a.out.now e.st 24 here))), refl)
 
 pub run_rounds-returns-in-Stuck : goal.run_rounds-returns-in-Stuck
 run_rounds-returns-in-Stuck t c =
@@ -590,15 +579,14 @@ run_rounds-returns-in-Stuck t c =
     let g = a.program.now in
     let vs = a.vars.now in
     let room = length a.out.now in
-    let w = c.inmost-e.ensures in
     let e = c.inmost-e.result in
-    let ready = w.able.ready in
-    let en = w.able.enterable in
-    let past = w.able.bodied in
+    let ready = c.inmost-e.ensures.able.ready in
+    let en = c.inmost-e.ensures.able.enterable in
+    let past = c.inmost-e.ensures.able.bodied in
     let here = a.base + e.from - 3 in
-    let at : a.base + e.from ≡ here + 3 = omega (arith, w.able.behind) in
+    let at : a.base + e.from ≡ here + 3 = omega (arith, c.inmost-e.ensures.able.behind) in
     let rep : Repeated l e.from a.to e.tag (take e.mode.variables vs) e.mode.reversed c.repeats_of.result = rw c.wide-many.ensures.0 at c.repeats_of.ensures in
-    (inside_does l a.base a.to _ e w a.place c.requires.tabled room g vs a.scope a.regs.now a.out.now _ _ (λ s q. does_as _ _ _ _ _ (one_run e.mode room here e.tag (slice e.from a.to l) g (frame_in e.mode (take e.mode.variables vs) a.scope a.regs.now)) (loop_stuck e.mode room a.base e.from a.to here e.tag l g vs a.scope a.regs.now en.deep past at c.repeats_of.result rep c.in-Stuck.is) (step_taken e.mode.limit room a.out.now s e.st here _ _ _ q.step.left q.step.same q.step.more (does_stuck a.out.now e.st _))), refl)
+    (inside_does l a.base a.to _ e c.inmost-e.ensures a.place c.requires.tabled room g vs a.scope a.regs.now a.out.now _ _ (λ s q. does_as _ _ _ _ _ (one_run e.mode room here e.tag (slice e.from a.to l) g (frame_in e.mode (take e.mode.variables vs) a.scope a.regs.now)) (loop_stuck e.mode room a.base e.from a.to here e.tag l g vs a.scope a.regs.now en.deep past at c.repeats_of.result rep c.in-Stuck.is) (step_taken e.mode.limit room a.out.now s e.st here _ _ _ q.step.left q.step.same q.step.more (does_stuck a.out.now e.st _))), refl)
 
 pub run_rounds-shape_of-out : goal.run_rounds-shape_of-out
 run_rounds-shape_of-out t c =
@@ -611,20 +599,19 @@ run_rounds-returns-in-Are t c =
     let g = a.program.now in
     let vs = a.vars.now in
     let room = length a.out.now in
-    let w = c.inmost-e.ensures in
     let e = c.inmost-e.result in
-    let ready = w.able.ready in
-    let en = w.able.enterable in
-    let past = w.able.bodied in
+    let ready = c.inmost-e.ensures.able.ready in
+    let en = c.inmost-e.ensures.able.enterable in
+    let past = c.inmost-e.ensures.able.bodied in
     let here = a.base + e.from - 3 in
-    let at : a.base + e.from ≡ here + 3 = omega (arith, w.able.behind) in
+    let at : a.base + e.from ≡ here + 3 = omega (arith, c.inmost-e.ensures.able.behind) in
     let rep : Repeated l e.from a.to e.tag (take e.mode.variables vs) e.mode.reversed c.repeats_of.result = rw c.wide-many.ensures.0 at c.repeats_of.ensures in
     let st0 = c.in-Are.start in
     let total = c.in-Are.total in
     let body = c.in-Are.body in
     let o = loop_opens e.mode room a.base e.from a.to here e.tag l g vs a.scope a.regs.now en.deep past at c.repeats_of.result rep ready.order st0 total body c.in-Are.is in
     let d = rw (c.inner-n.ensures, range_back {z = st0} o.ranged) at c.run_list.ensures in
-    (inside_does l a.base a.to _ e w a.place c.requires.tabled room g vs a.scope a.regs.now a.out.now _ _ (λ s q. does_as _ _ _ _ _ (one_run e.mode room here e.tag (slice e.from a.to l) g (frame_in e.mode (take e.mode.variables vs) a.scope a.regs.now)) o.is (step_taken e.mode.limit room a.out.now s e.st here _ _ _ q.step.left q.step.same q.step.more d.0)), inside_stays l a.base a.to _ e w _ _ (inner_stays e.mode e.tag past _ _ d.1))
+    (inside_does l a.base a.to _ e c.inmost-e.ensures a.place c.requires.tabled room g vs a.scope a.regs.now a.out.now _ _ (λ s q. does_as _ _ _ _ _ (one_run e.mode room here e.tag (slice e.from a.to l) g (frame_in e.mode (take e.mode.variables vs) a.scope a.regs.now)) o.is (step_taken e.mode.limit room a.out.now s e.st here _ _ _ q.step.left q.step.same q.step.more d.0)), inside_stays l a.base a.to _ e c.inmost-e.ensures _ _ (inner_stays e.mode e.tag past _ _ d.1))
 
 pub run_statement-enter-r-requires : goal.run_statement-enter-r-requires
 run_statement-enter-r-requires t c =

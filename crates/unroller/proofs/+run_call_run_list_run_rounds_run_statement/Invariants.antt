@@ -53,7 +53,7 @@ decreases-run_statement l =
 
 abbrev pub invariant-run_list-loop-w : goal.invariant-run_list-loop-w
 invariant-run_list-loop-w l =
-    M.Midway l.looping l.mode l.base l.from l.to l.place (to_z w64 l.start) l.total l.bytes l.program l.initial.vars l.scope l.regs l.initial.out l.initial.s l.vars l.out l.cuts l.w l.i l.s
+    M.Midway l.looping l.mode l.base l.from l.to l.place (l.start) l.total l.bytes l.program l.initial.vars l.scope l.regs l.initial.out l.initial.s l.vars l.out l.cuts l.w l.i l.s
 
 abbrev pub decreases-run_list-loop-w : goal.decreases-run_list-loop-w
 decreases-run_list-loop-w l =
