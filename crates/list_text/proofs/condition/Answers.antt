@@ -1,5 +1,4 @@
 -- `condition` meets its contract: nothing where there is no condition, and `if`, the bit and the value where there is one. Assumes nothing.
-use borrow.Author.Rules.{rules}
 use Prim.Native.Nat.{ℕ, ◌-◌}
 use mathlib.Core.Path.{◌≡◌, sym, ap, ◌∙◌}
 use mathlib.Core.List.{◌++◌, append-nil}

@@ -1,5 +1,4 @@
 -- `last_line` meets its contract: `end`, four numbers, and a line end. Assumes nothing.
-use borrow.Author.Rules.{rules}
 use mathlib.Core.Path.{refl}
 use native.Mathlib.Omega.{arith}
 use Rattle.text_bytes.specs.Decimal.{ascii}

@@ -1,5 +1,4 @@
 -- `line` meets its contract: the condition, the operation on its numbers, and a line end. Assumes nothing.
-use borrow.Author.Rules.{rules}
 use mathlib.Core.Path.{refl}
 use mathlib.Core.List.{◌++◌}
 use native.Mathlib.Omega.{arith}

@@ -61,7 +61,7 @@ pub loop-next-preserved : goal.loop-next-preserved
 loop-next-preserved c =
     let b : c.line-size.result ≤ c.loop-next.size + 128 = c.line-size.ensures.bound in
     let h : 128 ≤ length c.loop-next.text - c.loop-next.size = leb-true _ _ c.if-text-size-ge-LINE.true-raw in
-    let k : length c.line-size.new.text ≡ length c.loop-next.text = c.line-size.auto.1.0 in
+    let k : length c.line-size.new.text ≡ length c.loop-next.text = c.line-size.auto.text in
     let s : length c.loop-next.text ≡ length c.args.text.now = c.loop-next.invariant.4 in
     let e : record_size * c.loop-next.next + record_size - record_size * c.loop-next.next ≡ record_size = omega arith in
     let t : take c.line-size.result c.line-size.new.text ≡ lines_text c.args.records.now c.args.first (c.loop-next.next + 1 - c.args.first) =

@@ -1,15 +1,8 @@
 -- `lines` meets its contract. The loop's invariant: the text holds the lines of the records up to `next`, each of at most 128 bytes. Assumes nothing.
-use Prim.Native.Nat.{ℕ, ◌+◌, ◌*◌, ◌-◌, ◌<◌, ◌≤◌}
-use mathlib.Core.Path.{◌≡◌, refl, sym, ap, ◌∙◌}
-use mathlib.Core.List.{List, ◌++◌}
-use native.Mathlib.Nat.{sub_self}
-use native.Mathlib.Omega.{arith}
-use lib.ListN.{length, take, drop, length-take, length-drop}
-use Rattle.language.specs.Limits.{record_size}
-use Rattle.list_text.specs.Lines.{line_text, lines_text}
-use Rattle.list_text.proofs.Texts.{lines_more}
-use borrow.Author.Tests.{leb-true, leb-false}
-use Rattle.io.proofs.Counting.{prefix_len_of_le}
+use Prim.Native.Nat.{◌*◌, ◌-◌, ◌≤◌}
+use mathlib.Core.Path.{◌≡◌}
+use lib.ListN.{length, take}
+use Rattle.list_text.specs.Lines.{lines_text}
 use Rattle.list_text.proofs.lines.Given as goal
 
 abbrev pub invariant-loop-next : goal.invariant-loop-next

@@ -1,5 +1,4 @@
 -- `named` meets its contract: a name, and then a number. Assumes nothing.
-use borrow.Author.Rules.{rules}
 use mathlib.Core.Path.{refl}
 use native.Mathlib.Omega.{arith}
 use Rattle.list_text.proofs.Texts.{then}

@@ -1,5 +1,4 @@
 -- `paired` meets its contract: a name and a number, and then another number. Assumes nothing.
-use borrow.Author.Rules.{rules}
 use mathlib.Core.Path.{refl}
 use native.Mathlib.Omega.{arith}
 use Rattle.list_text.proofs.Texts.{then}

@@ -1,5 +1,4 @@
 -- `tripled` meets its contract: a name and two numbers, and then another number. Assumes nothing.
-use borrow.Author.Rules.{rules}
 use mathlib.Core.Path.{refl}
 use native.Mathlib.Omega.{arith}
 use Rattle.list_text.proofs.Texts.{then}
