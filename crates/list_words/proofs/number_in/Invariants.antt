@@ -1,9 +1,7 @@
 -- `number_in` meets its contract. The loop's invariant: the first i bytes are digits, and n is their number. Assumes nothing.
 use Prim.Native.Nat.{◌-◌}
-use native.Mathlib.Omega.{arith}
 use lib.ListN.{length}
-use Rattle.list_words.specs.Jobs.{said_by}
-use Rattle.list_words.proofs.WordLaws.{Reading, reading_start, no_byte, below_digits, above_digits, too_large_lem, reading_next, reading_done}
+use Rattle.list_words.proofs.WordLaws.{Reading}
 use Rattle.list_words.proofs.number_in.Given as goal
 
 abbrev pub invariant-loop-i : goal.invariant-loop-i

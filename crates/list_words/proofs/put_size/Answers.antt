@@ -1,5 +1,4 @@
 -- `put_size` meets its contract: four bytes stored one after another. Assumes nothing.
-use borrow.Author.Rules.{rules}
 use native.Mathlib.Omega.{arith}
 use lib.ListN.{length-set}
 use Rattle.list_words.specs.Words.{size_bytes}

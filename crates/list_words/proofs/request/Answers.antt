@@ -1,5 +1,4 @@
 -- `request` meets its contract, for no word, `--help`, a bad family, bad sizes, and a family at its sizes. Assumes nothing.
-use borrow.Author.Rules.{rules}
 use mathlib.Core.Path.{refl, sym, ap, subst, ◌∙◌}
 use mathlib.Core.Option.{none, some}
 use native.Mathlib.Omega.{arith}

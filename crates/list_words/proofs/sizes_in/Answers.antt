@@ -1,11 +1,9 @@
 -- `sizes_in` meets its contract. The loop's invariant: the words so far say so many sizes, which are in the first bytes. Assumes nothing.
-use Prim.Native.Nat.{◌-◌}
-use mathlib.Core.Path.{◌≡◌, refl, sym, ap, ◌∙◌}
+use mathlib.Core.Path.{refl, sym, ap, ◌∙◌}
 use native.Mathlib.Omega.{arith}
-use borrow.Author.Rules.{rules}
-use lib.ListN.{length, length-take}
+use lib.ListN.{length-take}
 use Rattle.list_words.specs.Jobs.{said_by, sizes_meant}
-use Rattle.list_words.proofs.WordLaws.{Sizing, sizing_start, too_many_lem, sizing_done, no_number, sizing_next}
+use Rattle.list_words.proofs.WordLaws.{sizing_start, too_many_lem, sizing_done, no_number, sizing_next}
 use Rattle.list_words.proofs.sizes_in.Goals as goal
 
 pub loop-at-init : goal.loop-at-init
@@ -57,8 +55,8 @@ pub loop-at-preserved : goal.loop-at-preserved
 unfolding said_by
 loop-at-preserved c = (
   sizing_next c.args.text.now c.args.from c.loop-at.sizes c.loop-at.at c.loop-at.many c.loop-at.invariant.0 c.word_at-word.result c.word_at-word.ensures c.if-many-eq-MOST_SIZES.false
-      c.in-Number.n c.put_size.new.sizes (ap said_by (sym c.in-Number.is) ∙ c.number_in.ensures) c.put_size.auto.1.0 c.put_size.ensures,
-  c.put_size.auto.1.0 ∙ c.loop-at.invariant.1,
+      c.in-Number.n c.put_size.new.sizes (ap said_by (sym c.in-Number.is) ∙ c.number_in.ensures) c.put_size.auto.sizes c.put_size.ensures,
+  c.put_size.auto.sizes ∙ c.loop-at.invariant.1,
 )
 
 pub overflow_mul-size : goal.overflow_mul-size

@@ -1,8 +1,6 @@
 -- `word_at` meets its contract. The loop's invariant: the bytes up to i belong to the word. Assumes nothing.
-use Prim.Native.Nat.{◌-◌}
 use native.Mathlib.Omega.{arith}
-use lib.ListN.{length}
-use Rattle.list_words.proofs.WordLaws.{Passing, passing_start, passing_next, word_ends, text_ends}
+use Rattle.list_words.proofs.WordLaws.{passing_start, passing_next, word_ends, text_ends}
 use Rattle.list_words.proofs.word_at.Goals as goal
 
 pub loop-i-init : goal.loop-i-init

@@ -1,8 +1,7 @@
 -- `word_at` meets its contract. The loop's invariant: the bytes up to i belong to the word. Assumes nothing.
 use Prim.Native.Nat.{◌-◌}
-use native.Mathlib.Omega.{arith}
 use lib.ListN.{length}
-use Rattle.list_words.proofs.WordLaws.{Passing, passing_start, passing_next, word_ends, text_ends}
+use Rattle.list_words.proofs.WordLaws.{Passing}
 use Rattle.list_words.proofs.word_at.Given as goal
 
 abbrev pub invariant-loop-i : goal.invariant-loop-i
