@@ -1,15 +1,14 @@
 // What the program says of itself.
+use crate::output;
 
 // Says how the program is called, on standard error.
-pub fn print_usage() {
-    io::write_all(
-        2,
-        b"usage: list [FAMILY [SIZE ..]] < PROGRAM; list --help says more\n",
-    );
+pub fn print_usage(rt: &HostRuntime) {
+    // Where standard error takes nothing, nobody can be told.
+    let _ = eprintln!(rt; "usage: list [FAMILY [SIZE ..]] < PROGRAM; list --help says more");
 }
 
 // Says what the program does.
-pub fn print_help() {
+pub fn print_help(rt: &HostRuntime) {
     let text = b"usage: list < PROGRAM
        list FAMILY [SIZE ..] < PROGRAM
        list --help
@@ -29,7 +28,5 @@ There is no exit status: a list is whole where its last line begins with
 `end 0 ` and has its line end. Where reading or writing fails, there is no such
 line, and a message is on standard error.
 ";
-    if !io::write_all(1, text) {
-        os::fail(b"list: writing standard output");
-    }
+    output::write_all(rt, text);
 }

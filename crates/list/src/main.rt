@@ -4,6 +4,7 @@
 
 mod help;
 mod input;
+mod output;
 
 ghost use Rattle.std.specs.Prelude.{◌*◌, ◌≤◌, ◌≡◌, length};
 ghost use Rattle.language.specs.Limits.{record_size};
@@ -18,8 +19,9 @@ use metaqasm::{MetaqasmResult, metaqasm_instance as list_family, metaqasm_run as
 // The steps that a program may take.
 const LIMIT: u64 = 1000000;
 
-// Prints the lines of the records, a buffer of them at a time, and answers whether all were written.
-fn print_records(output: &[u8], records: usize) -> bool
+// Prints the lines of the records, a buffer of them at a time, and answers whether all were written. Where not, a message
+// says so.
+fn print_records(rt: &HostRuntime, output: &[u8], records: usize) -> bool
     requires { record_size * records ≤ length output.now }
 {
     let mut space = io::buffer();
@@ -28,7 +30,7 @@ fn print_records(output: &[u8], records: usize) -> bool
     while next < records {
         let chunk = list_text::lines(output, next, records, buffer);
         let size = chunk.size;
-        if !io::write_all(1, &buffer[..size]) {
+        if !output::write_all(rt, &buffer[..size]) {
             return false;
         }
         next = chunk.next;
@@ -36,8 +38,8 @@ fn print_records(output: &[u8], records: usize) -> bool
     true
 }
 
-// Prints the last line, and answers whether it was written.
-fn print_result(res: MetaqasmResult) -> bool {
+// Prints the last line, and answers whether it was written. Where not, a message says so.
+fn print_result(rt: &HostRuntime, res: MetaqasmResult) -> bool {
     let mut buffer = io::buffer();
     let size = list_text::last_line(
         res.number as u64,
@@ -46,20 +48,17 @@ fn print_result(res: MetaqasmResult) -> bool {
         res.steps,
         &mut buffer,
     );
-    io::write_all(1, &buffer[..size])
+    output::write_all(rt, &buffer[..size])
 }
 
 // Prints a listing. Where a write fails, nothing more is printed, and a message says so.
-fn print_listing(output: &[u8], res: MetaqasmResult)
+fn print_listing(rt: &HostRuntime, output: &[u8], res: MetaqasmResult)
     requires { record_size * res.records ≤ length output.now }
 {
-    if !print_records(output, res.records as usize) {
-        os::fail(b"list: writing standard output");
+    if !print_records(rt, output, res.records as usize) {
         return;
     }
-    if !print_result(res) {
-        os::fail(b"list: writing standard output");
-    }
+    print_result(rt, res);
 }
 
 // Runs a job on a program.
@@ -76,34 +75,33 @@ fn answer(job: Job, sizes: &[u8], program: &[u8], output: &mut [u8]) -> Metaqasm
 
 // Does a job on the program that standard input has. A program of more than 65,535 bytes is handed over as 65,536 bytes,
 // however long it is, and the library refuses it: `end 1 0 0 0`.
-fn list_program(job: Job, sizes: &[u8])
+fn list_program(rt: &HostRuntime, job: Job, sizes: &[u8])
     requires { JobHeld job sizes.now }
 {
     let mut program = io::large_buffer();
-    let got = input::read_program(&mut program);
+    let got = input::read_program(rt, &mut program);
     if !got.whole {
-        os::fail(b"list: reading standard input");
         return;
     }
     let size = got.size;
     let mut output = io::large_buffer();
     let result = answer(job, sizes, &program[..size], &mut output);
-    print_listing(&output, result);
+    print_listing(rt, &output, result);
 }
 
 // Does what the words behind the program's name ask for.
-fn main() {
+fn main(rt: HostRuntime) {
     let mut space = io::buffer();
-    let said = input::read_words(&mut space);
+    let said = input::read_words(&rt, &mut space);
     let size = said.size;
     let mut sizes = io::buffer();
     if !said.whole {
-        help::print_usage();
+        help::print_usage(&rt);
         return;
     }
     match list_words::request(&space[..size], &mut sizes) {
-        Asked::Listing(job) => list_program(job, &sizes),
-        Asked::Help => help::print_help(),
-        Asked::Bad => help::print_usage(),
+        Asked::Listing(job) => list_program(&rt, job, &sizes),
+        Asked::Help => help::print_help(&rt),
+        Asked::Bad => help::print_usage(&rt),
     }
 }
