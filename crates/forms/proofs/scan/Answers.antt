@@ -3,11 +3,10 @@
 use borrow.Author.Rules.{rules}
 use native.Mathlib.Omega.{arith}
 use mathlib.Core.Path.{◌≡◌, sym, ap, ◌∙◌}
-use mathlib.Core.Bool.{Bool, true, false}
+use mathlib.Core.Bool.{Bool}
 use Prim.Native.Nat.{ℕ, ◌+◌, ◌-◌, ◌≤◌, ◌<◌}
-use Rattle.language.specs.Form.{built, out_of_range, showing_of}
-use Rattle.form_laws.specs.Settled.{scan, after}
-use Rattle.forms.specs.Flat.{Kept, as_form, built_of, shown_of}
+use Rattle.language.specs.Form.{showing_of}
+use Rattle.forms.specs.Flat.{as_form, built_of, shown_of}
 use Rattle.forms.specs.Rows.{loops_of}
 use Rattle.forms.proofs.Laws.{fewer, told, none_after, scan_on, scan_out, scan_end}
 use Rattle.forms.proofs.scan.Goals as goal

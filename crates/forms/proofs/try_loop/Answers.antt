@@ -1,14 +1,12 @@
 -- `forms::try_loop` meets its contract. Assumes nothing.
-use borrow.Author.Rules.{rules}
 use native.Mathlib.Omega.{arith}
 use mathlib.Core.Path.{◌≡◌, sym, ap, ◌∙◌}
 use mathlib.Core.List.{List}
 use mathlib.Core.Bool.{Bool, true}
 use lib.IntN.{ℤ}
-use Rattle.language.specs.Form.{Built, built, less_range, is_shown}
+use Rattle.language.specs.Form.{Built, built, is_shown}
 use Rattle.forms.specs.declared.Verdict.{Verdict}
 use Rattle.forms.specs.Flat.{as_form, built_of, shown_of}
-use Rattle.forms.specs.Rows.{loop_at}
 use Rattle.forms.proofs.Laws.{fewer, trial_made, trial_out}
 use Rattle.forms.proofs.Verdicts.{not_shown_lem}
 use borrow.Enum.Refused.{opened}
