@@ -70,7 +70,7 @@ class Turn:
         for (old, new), (place, _) in zip(entry["needs"], entry["asked_at"]):
             self.goals[plain(old)] = (old, new, place)
         self.loops = {old: (new, names, flags) for ((old, new), names), flags in zip(entry["loops"], entry["changed"])}
-        self.lost, self.opened = [], False
+        self.lost, self.opened, self.is_cycle = [], False, False
 
     def above(self, place, steps):
         for _ in range(steps):
@@ -99,6 +99,10 @@ class Turn:
         if plain(first) in ("args", "requires", "type_inv", "ranges", "well_formed"):
             parts = [plain(first), *rest[1:]]
             pre = self.entry["pre"]
+            if first == "requires" and self.is_cycle:
+                if parts[1:2] == ["0"]:
+                    return ".".join(["c", "decreases", *parts[2:]])
+                parts = [first, *parts[2:]]
             if first == "requires" and pre:
                 parts = [first, *nested(pre["fields"], parts[1:])]
             return "c." + ".".join(parts)
@@ -290,6 +294,7 @@ def turn_cycle(entries, called, folder, crate, function, members):
         inside = re.sub(r"(?m)^  ", "", inside)
         head, declarations = blocks(before + inside)
         one = Turn(entries[member], called)
+        one.is_cycle = True
         got = answers_of(one, entries[member], head, declarations, f"{member}-" if several else "", "t ")
         for line in got[1]:
             if line not in uses and not re.search(r"\.(Lts-\w+ as lts|Reads\.\{Post\}|Shared\..*)$", line):
@@ -298,6 +303,7 @@ def turn_cycle(entries, called, folder, crate, function, members):
         invariants += got[3]
         answers += got[4]
         lost += [f"{member}: {it}" for it in one.lost]
+    uses.append("use Prim.Native.Nat.{◌+◌, ◌-◌, ◌*◌}")
     # One import a module.
     merged = {}
     for line in uses:

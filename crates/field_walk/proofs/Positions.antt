@@ -172,8 +172,9 @@ module _ (bytes : List ℕ) (from : ℕ) where
   unfolding PositionsKept
   kept_swap cuts zero c to n l b h k = absurd (omega arith)
   kept_swap cuts (suc d) c to n l b h k =
-      let e : suc d - 1 ≡ d = omega arith in
-      rw (e, get_or-set_same cuts d c 0 (omega arith)) (h, b, kept_set cuts d d c c (omega arith) (kept_up cuts d (get_or cuts d 0) c (omega arith) (omega (arith, k.0)) k.2))
+      let e : d ≡ suc d - 1 = omega arith in
+      subst (λ (n : ℕ). PositionsKept bytes from (set cuts n c) (suc d) to) e
+      (rw (get_or-set_same cuts d c 0 (omega arith)) (h, b, kept_set cuts d d c c (omega arith) (kept_up cuts d (get_or cuts d 0) c (omega arith) (omega (arith, k.0)) k.2)))
 
   pub kept_below : (cuts : List ℕ) (d c : ℕ) → 1 ≤ d → (get_or cuts (d - 1) 0 ≡ c → ⊥) → PositionsKept bytes from cuts d (suc c) → PositionsKept bytes from cuts d c
   unfolding PositionsKept

@@ -67,7 +67,7 @@ fn result(number: u32, place: u32, s: State) -> MetaqasmResult
 // The result of a run that came to an answer.
 fn result_of_answer(a: Answer) -> MetaqasmResult
     requires { NotStuck a }
-    ensures* { λ r. ⌜ ((output : List ℕ) → concluded output a ≡ finished (record { result = answered r; output = output })) ⌝ }
+    ensures { (output : List ℕ) → concluded output a ≡ finished (record { result = answered result; output = output }) }
 {
     match a {
         Answer::Going(s) => result(0, 0, s),
@@ -97,8 +97,8 @@ pub extern "C" fn metaqasm_check(program: &[u8]) -> MetaqasmResult
 // the records name and which bytes are kept. The others are parts of it that hold for every program.
 #[unsafe(no_mangle)]
 pub extern "C" fn metaqasm_run(program: &[u8], limit: u64, output: &mut [u8]) -> MetaqasmResult
-    ensures* output_value { λ r. ⌜ run_outcome program.now limit output.old ≡ finished (record { result = answered r; output = output.new }) ⌝ }
-    ensures* fact { λ r. ⌜ SoundRun program.now limit output.old (record { result = answered r; output = output.new }) ⌝ }
+    ensures output_value { run_outcome program.now limit output.old ≡ finished (record { result = answered result; output = output.new }) }
+    ensures fact { SoundRun program.now limit output.old (record { result = answered result; output = output.new }) }
     ensures records_in_bounds { record_size * result.records ≤ length output.new }
     ensures steps_le_limit { result.steps ≤ limit }
 {
@@ -124,8 +124,8 @@ pub extern "C" fn metaqasm_instance(
     limit: u64,
     output: &mut [u8],
 ) -> MetaqasmResult
-    ensures* output_value { λ r. ⌜ instance_outcome program.now family sizes.now limit output.old ≡ finished (record { result = answered r; output = output.new }) ⌝ }
-    ensures* fact { λ r. ⌜ SoundInstance program.now family sizes.now limit output.old (record { result = answered r; output = output.new }) ⌝ }
+    ensures output_value { instance_outcome program.now family sizes.now limit output.old ≡ finished (record { result = answered result; output = output.new }) }
+    ensures fact { SoundInstance program.now family sizes.now limit output.old (record { result = answered result; output = output.new }) }
     ensures records_in_bounds { record_size * result.records ≤ length output.new }
     ensures steps_le_limit { result.steps ≤ limit }
 {
@@ -171,7 +171,7 @@ fn printed(
     requires records_in_bounds { record_size * run.records ≤ length output.now }
     requires few_halvings { FewHalvings run.records output.now }
     requires wires_le_most_wires { (wires ≤ most_wires) × (bits ≤ most_bits) }
-    ensures* { λ r. ⌜ ((rs : List Record) → records_in run.records output.now ≡ some rs → record { result = text_answered r; output = output.now; text = text.new } ≡ printed text.old (text_of wires bits rs) (record { result = answered run; output = output.now })) ⌝ }
+    ensures { (rs : List Record) → records_in run.records output.now ≡ some rs → record { result = text_answered result; output = output.now; text = text.new } ≡ printed text.old (text_of wires bits rs) (record { result = answered run; output = output.now }) }
 {
     let records = run.records as usize;
     match qasm_print::print(output, records, wires as u16, bits as u16, text) {
@@ -197,8 +197,8 @@ pub extern "C" fn metaqasm_run_text(
     output: &mut [u8],
     text: &mut [u8],
 ) -> MetaqasmTextResult
-    ensures* text_value { λ r. ⌜ run_text_outcome program.now limit output.old text.old ≡ text_finished (record { result = text_answered r; output = output.new; text = text.new }) ⌝ }
-    ensures* fact { λ r. ⌜ SoundRunText program.now limit output.old text.old (record { result = text_answered r; output = output.new; text = text.new }) ⌝ }
+    ensures text_value { run_text_outcome program.now limit output.old text.old ≡ text_finished (record { result = text_answered result; output = output.new; text = text.new }) }
+    ensures fact { SoundRunText program.now limit output.old text.old (record { result = text_answered result; output = output.new; text = text.new }) }
     ensures records_in_bounds { record_size * result.records ≤ length output.new }
     ensures steps_le_limit { result.steps ≤ limit }
     ensures length_in_bounds { result.length ≤ length text.new }
@@ -221,8 +221,8 @@ pub extern "C" fn metaqasm_instance_text(
     output: &mut [u8],
     text: &mut [u8],
 ) -> MetaqasmTextResult
-    ensures* text_value { λ r. ⌜ instance_text_outcome program.now family sizes.now limit output.old text.old ≡ text_finished (record { result = text_answered r; output = output.new; text = text.new }) ⌝ }
-    ensures* fact { λ r. ⌜ SoundInstanceText program.now family sizes.now limit output.old text.old (record { result = text_answered r; output = output.new; text = text.new }) ⌝ }
+    ensures text_value { instance_text_outcome program.now family sizes.now limit output.old text.old ≡ text_finished (record { result = text_answered result; output = output.new; text = text.new }) }
+    ensures fact { SoundInstanceText program.now family sizes.now limit output.old text.old (record { result = text_answered result; output = output.new; text = text.new }) }
     ensures records_in_bounds { record_size * result.records ≤ length output.new }
     ensures steps_le_limit { result.steps ≤ limit }
     ensures length_in_bounds { result.length ≤ length text.new }

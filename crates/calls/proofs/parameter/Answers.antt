@@ -24,4 +24,4 @@ returns-in-Family c =
 pub returns-in_default : goal.returns-in_default
 unfolding parameter_of gathered_operand
 returns-in_default c =
-    sym (single_is (kind_with (get_or c.args.given.now c.args.i 0)) (get_or c.args.given.now (c.args.i + 1) 0) (get_or c.args.given.now (c.args.i + 2) 0) (rw c.with_number.ensures at (opened c.in_default.in_default-own.keys3)))
+    sym (single_is (kind_with (get_or c.args.given.now c.args.i 0)) (get_or c.args.given.now (c.args.i + 1) 0) (get_or c.args.given.now (c.args.i + 2) 0) (rw c.with_number.ensures at c.in_default.in_default-own.keys3))

@@ -20,7 +20,7 @@ returns-then-levels-eq0 t c =
     let program = a.program.now in
     let tag = c.in-Whole.tag in
     let next = c.in-Whole.next in
-    let w = when_whole program a.at a.to tag next c.requires.variables_le_all_variables.0 (sym c.header_at.ensures ∙ c.in-Whole.is) in
+    let w = when_whole program a.at a.to tag next c.requires.to_in_bounds (sym c.header_at.ensures ∙ c.in-Whole.is) in
     record {
       f_after = index_deep program a.at a.to a.parent a.levels a.variables tag next w c.too_deep.result (c.too_deep.ensures a.at (slice (a.at + 3) next program)) c.if-levels-eq0.true;
       form_passes = tt;
@@ -32,10 +32,10 @@ overflow_add-from t c =
     let program = a.program.now in
     let tag = c.in-Whole.tag in
     let next = c.in-Whole.next in
-    let w = when_whole program a.at a.to tag next c.requires.variables_le_all_variables.0 (sym c.header_at.ensures ∙ c.in-Whole.is) in
+    let w = when_whole program a.at a.to tag next c.requires.to_in_bounds (sym c.header_at.ensures ∙ c.in-Whole.is) in
     let h = w.high in
     let k = w.low in
-    let q = c.requires.variables_le_all_variables.0 in
+    let q = c.requires.to_in_bounds in
     omega arith
 
 pub literal-requires : goal.literal-requires
@@ -44,9 +44,9 @@ literal-requires t c =
     let program = a.program.now in
     let tag = c.in-Whole.tag in
     let next = c.in-Whole.next in
-    let w = when_whole program a.at a.to tag next c.requires.variables_le_all_variables.0 (sym c.header_at.ensures ∙ c.in-Whole.is) in
+    let w = when_whole program a.at a.to tag next c.requires.to_in_bounds (sym c.header_at.ensures ∙ c.in-Whole.is) in
     let h = w.high in
-    let q = c.requires.variables_le_all_variables.0 in
+    let q = c.requires.to_in_bounds in
     (w.low, omega arith)
 
 pub variable-requires : goal.variable-requires
@@ -55,12 +55,12 @@ variable-requires t c =
     let program = a.program.now in
     let tag = c.in-Whole.tag in
     let next = c.in-Whole.next in
-    let w = when_whole program a.at a.to tag next c.requires.variables_le_all_variables.0 (sym c.header_at.ensures ∙ c.in-Whole.is) in
+    let w = when_whole program a.at a.to tag next c.requires.to_in_bounds (sym c.header_at.ensures ∙ c.in-Whole.is) in
     let h = w.high in
-    let q = c.requires.variables_le_all_variables.0 in
+    let q = c.requires.to_in_bounds in
     record {
       at_bound = (w.low, omega arith);
-      variables_le_all_variables = c.requires.variables_le_all_variables.1;
+      variables_le_all_variables = c.requires.variables_le_all_variables;
     }
 
 pub index-left-requires : goal.index-left-requires
@@ -69,11 +69,11 @@ index-left-requires t c =
     let program = a.program.now in
     let tag = c.in-Whole.tag in
     let next = c.in-Whole.next in
-    let w = when_whole program a.at a.to tag next c.requires.variables_le_all_variables.0 (sym c.header_at.ensures ∙ c.in-Whole.is) in
+    let w = when_whole program a.at a.to tag next c.requires.to_in_bounds (sym c.header_at.ensures ∙ c.in-Whole.is) in
     let h = w.high in
-    let q = c.requires.variables_le_all_variables.0 in
+    let q = c.requires.to_in_bounds in
     let z = c.if-levels-eq0.false in
-    (omega (arith, c.requires.to_in_bounds), (omega arith, c.requires.variables_le_all_variables.1))
+    (omega (arith, c.requires.to_in_bounds), (omega arith, c.requires.variables_le_all_variables))
 
 pub returns-in_default : goal.returns-in_default
 returns-in_default t c =
@@ -81,14 +81,14 @@ returns-in_default t c =
     let program = a.program.now in
     let tag = c.in-Whole.tag in
     let next = c.in-Whole.next in
-    let w = when_whole program a.at a.to tag next c.requires.variables_le_all_variables.0 (sym c.header_at.ensures ∙ c.in-Whole.is) in
+    let w = when_whole program a.at a.to tag next c.requires.to_in_bounds (sym c.header_at.ensures ∙ c.in-Whole.is) in
     let op = c.in-Both.op in
     let acts = index_acts program a.at a.to a.parent a.levels a.variables tag next w (Both op) c.if-levels-eq0.false c.index_tag-kind.result c.index_tag-kind.ensures c.in-Both.is in
     let r = c.index-left.result in
     let l = c.index-left.new.f in
     record {
-      f_after = both_left program a.at next a.variables (a.levels - 1) op r l c.index-left.ensures.f_after (opened c.in_default.in_default-own.keys2) ∙ acts;
-      form_passes = form_passes_refused program a.at a.to r l (opened c.in_default.in_default-own.keys2);
+      f_after = both_left program a.at next a.variables (a.levels - 1) op r l c.index-left.ensures.f_after c.in_default.in_default-own.keys2 ∙ acts;
+      form_passes = form_passes_refused program a.at a.to r l c.in_default.in_default-own.keys2;
     }
 
 pub index-right-requires : goal.index-right-requires
@@ -97,11 +97,11 @@ index-right-requires t c =
     let program = a.program.now in
     let tag = c.in-Whole.tag in
     let next = c.in-Whole.next in
-    let w = when_whole program a.at a.to tag next c.requires.variables_le_all_variables.0 (sym c.header_at.ensures ∙ c.in-Whole.is) in
+    let w = when_whole program a.at a.to tag next c.requires.to_in_bounds (sym c.header_at.ensures ∙ c.in-Whole.is) in
     let h = w.high in
-    let q = c.requires.variables_le_all_variables.0 in
+    let q = c.requires.to_in_bounds in
     let z = c.if-levels-eq0.false in
-    (omega (arith, c.requires.to_in_bounds), (omega arith, c.requires.variables_le_all_variables.1))
+    (omega (arith, c.requires.to_in_bounds), (omega arith, c.requires.variables_le_all_variables))
 
 pub returns-in_default-right : goal.returns-in_default-right
 returns-in_default-right t c =
@@ -109,7 +109,7 @@ returns-in_default-right t c =
     let program = a.program.now in
     let tag = c.in-Whole.tag in
     let next = c.in-Whole.next in
-    let w = when_whole program a.at a.to tag next c.requires.variables_le_all_variables.0 (sym c.header_at.ensures ∙ c.in-Whole.is) in
+    let w = when_whole program a.at a.to tag next c.requires.to_in_bounds (sym c.header_at.ensures ∙ c.in-Whole.is) in
     let op = c.in-Both.op in
     let acts = index_acts program a.at a.to a.parent a.levels a.variables tag next w (Both op) c.if-levels-eq0.false c.index_tag-kind.result c.index_tag-kind.ensures c.in-Both.is in
     let r = c.index-left.result in
@@ -119,8 +119,8 @@ returns-in_default-right t c =
     let s = c.index-right.result in
     let k = c.index-right.new.f in
     record {
-      f_after = both_right program a.at next a.variables (a.levels - 1) op r l c.index-left.ensures.f_after mid c.in-Upto.is v.0 s k c.index-right.ensures.f_after l (opened c.in_default-right.in_default-right-own.keys2) ∙ acts;
-      form_passes = form_passes_refused program a.at a.to s l (opened c.in_default-right.in_default-right-own.keys2);
+      f_after = both_right program a.at next a.variables (a.levels - 1) op r l c.index-left.ensures.f_after mid c.in-Upto.is v.0 s k c.index-right.ensures.f_after l c.in_default-right.in_default-right-own.keys2 ∙ acts;
+      form_passes = form_passes_refused program a.at a.to s l c.in_default-right.in_default-right-own.keys2;
     }
 
 pub returns-then-end-next : goal.returns-then-end-next
@@ -130,7 +130,7 @@ returns-then-end-next t c =
     let program = a.program.now in
     let tag = c.in-Whole.tag in
     let next = c.in-Whole.next in
-    let w = when_whole program a.at a.to tag next c.requires.variables_le_all_variables.0 (sym c.header_at.ensures ∙ c.in-Whole.is) in
+    let w = when_whole program a.at a.to tag next c.requires.to_in_bounds (sym c.header_at.ensures ∙ c.in-Whole.is) in
     let op = c.in-Both.op in
     let acts = index_acts program a.at a.to a.parent a.levels a.variables tag next w (Both op) c.if-levels-eq0.false c.index_tag-kind.result c.index_tag-kind.ensures c.in-Both.is in
     let r = c.index-left.result in
@@ -142,7 +142,7 @@ returns-then-end-next t c =
     let end = c.in-Upto-right.end in
     let u = form_passes_upto program mid next s k end c.in-Upto-right.is c.index-right.ensures.form_passes in
     let h = w.high in
-    let q = c.requires.variables_le_all_variables.0 in
+    let q = c.requires.to_in_bounds in
     record {
       f_after = both_leftover program a.at next a.variables (a.levels - 1) op r l c.index-left.ensures.f_after mid c.in-Upto.is v.0 s k c.index-right.ensures.f_after end c.in-Upto-right.is u.0 c.if-end-next.true (omega arith) ∙ acts;
       form_passes = tt;
@@ -154,7 +154,7 @@ combine-requires t c =
     let program = a.program.now in
     let tag = c.in-Whole.tag in
     let next = c.in-Whole.next in
-    let w = when_whole program a.at a.to tag next c.requires.variables_le_all_variables.0 (sym c.header_at.ensures ∙ c.in-Whole.is) in
+    let w = when_whole program a.at a.to tag next c.requires.to_in_bounds (sym c.header_at.ensures ∙ c.in-Whole.is) in
     let op = c.in-Both.op in
     let acts = index_acts program a.at a.to a.parent a.levels a.variables tag next w (Both op) c.if-levels-eq0.false c.index_tag-kind.result c.index_tag-kind.ensures c.in-Both.is in
     let r = c.index-left.result in
@@ -175,7 +175,7 @@ unfolding checked_form
 returns-in-End t c =
     let a = c.args in
     record {
-      f_after = index_end a.program.now a.at a.to a.parent a.levels a.variables (when_end a.program.now a.at a.to c.requires.variables_le_all_variables.0 (sym c.header_at.ensures ∙ c.in-End.is));
+      f_after = index_end a.program.now a.at a.to a.parent a.levels a.variables (when_end a.program.now a.at a.to c.requires.to_in_bounds (sym c.header_at.ensures ∙ c.in-End.is));
       form_passes = tt;
     }
 
@@ -184,7 +184,7 @@ unfolding checked_form
 returns-in-Cut t c =
     let a = c.args in
     record {
-      f_after = index_cut a.program.now a.at a.to a.parent a.levels a.variables (when_cut a.program.now a.at a.to c.requires.variables_le_all_variables.0 (sym c.header_at.ensures ∙ c.in-Cut.is));
+      f_after = index_cut a.program.now a.at a.to a.parent a.levels a.variables (when_cut a.program.now a.at a.to c.requires.to_in_bounds (sym c.header_at.ensures ∙ c.in-Cut.is));
       form_passes = tt;
     }
 
@@ -195,7 +195,7 @@ returns-in-Other t c =
     let program = a.program.now in
     let tag = c.in-Whole.tag in
     let next = c.in-Whole.next in
-    let w = when_whole program a.at a.to tag next c.requires.variables_le_all_variables.0 (sym c.header_at.ensures ∙ c.in-Whole.is) in
+    let w = when_whole program a.at a.to tag next c.requires.to_in_bounds (sym c.header_at.ensures ∙ c.in-Whole.is) in
     record {
       f_after = index_acts program a.at a.to a.parent a.levels a.variables tag next w Other c.if-levels-eq0.false c.index_tag-kind.result c.index_tag-kind.ensures c.in-Other.is;
       form_passes = tt;
@@ -207,7 +207,7 @@ returns-in-Literal t c =
     let program = a.program.now in
     let tag = c.in-Whole.tag in
     let next = c.in-Whole.next in
-    let w = when_whole program a.at a.to tag next c.requires.variables_le_all_variables.0 (sym c.header_at.ensures ∙ c.in-Whole.is) in
+    let w = when_whole program a.at a.to tag next c.requires.to_in_bounds (sym c.header_at.ensures ∙ c.in-Whole.is) in
     record {
       f_after = c.literal.ensures.by_index a.variables ∙ index_acts program a.at a.to a.parent a.levels a.variables tag next w Literal c.if-levels-eq0.false c.index_tag-kind.result c.index_tag-kind.ensures c.in-Literal.is;
       form_passes = form_ends_passes program a.at a.to tag next c.literal.result c.literal.new.f w c.literal.ensures.form_ends_at;
@@ -219,7 +219,7 @@ returns-in-Variable t c =
     let program = a.program.now in
     let tag = c.in-Whole.tag in
     let next = c.in-Whole.next in
-    let w = when_whole program a.at a.to tag next c.requires.variables_le_all_variables.0 (sym c.header_at.ensures ∙ c.in-Whole.is) in
+    let w = when_whole program a.at a.to tag next c.requires.to_in_bounds (sym c.header_at.ensures ∙ c.in-Whole.is) in
     record {
       f_after = c.variable.ensures.f_after ∙ index_acts program a.at a.to a.parent a.levels a.variables tag next w Variable c.if-levels-eq0.false c.index_tag-kind.result c.index_tag-kind.ensures c.in-Variable.is;
       form_passes = form_ends_passes program a.at a.to tag next c.variable.result c.variable.new.f w c.variable.ensures.form_ends_at;
@@ -231,7 +231,7 @@ returns-else-end-next t c =
     let program = a.program.now in
     let tag = c.in-Whole.tag in
     let next = c.in-Whole.next in
-    let w = when_whole program a.at a.to tag next c.requires.variables_le_all_variables.0 (sym c.header_at.ensures ∙ c.in-Whole.is) in
+    let w = when_whole program a.at a.to tag next c.requires.to_in_bounds (sym c.header_at.ensures ∙ c.in-Whole.is) in
     let op = c.in-Both.op in
     let acts = index_acts program a.at a.to a.parent a.levels a.variables tag next w (Both op) c.if-levels-eq0.false c.index_tag-kind.result c.index_tag-kind.ensures c.in-Both.is in
     let r = c.index-left.result in

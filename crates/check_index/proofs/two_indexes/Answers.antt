@@ -13,8 +13,8 @@ returns-in_default c =
     let from = a.from in
     let l = c.index-r.new.f in
     record {
-      high_after = low_stops (scope_of a.variables) program a.parent from a.to c.index-r.result l c.index-r.ensures.f_after l a.high.now (opened c.in_default.in_default-own.keys2);
-      bounds_pass = bounds_stop program from a.to c.index-r.result l a.high.now (opened c.in_default.in_default-own.keys2);
+      high_after = low_stops (scope_of a.variables) program a.parent from a.to c.index-r.result l c.index-r.ensures.f_after l a.high.now c.in_default.in_default-own.keys2;
+      bounds_pass = bounds_stop program from a.to c.index-r.result l a.high.now c.in_default.in_default-own.keys2;
     }
 
 pub returns-in_default-t : goal.returns-in_default-t
@@ -27,8 +27,8 @@ returns-in_default-t c =
     let v = form_passes_upto program from a.to c.index-r.result l mid c.in-Upto.is c.index-r.ensures.form_passes in
     let k = c.index-t.new.f in
     record {
-      high_after = high_stops (scope_of a.variables) program a.parent from a.to c.index-r.result l c.index-r.ensures.f_after mid c.in-Upto.is v.0 c.index-t.result k c.index-t.ensures.f_after l k (opened c.in_default-t.in_default-t-own.keys2);
-      bounds_pass = bounds_stop program from a.to c.index-t.result l k (opened c.in_default-t.in_default-t-own.keys2);
+      high_after = high_stops (scope_of a.variables) program a.parent from a.to c.index-r.result l c.index-r.ensures.f_after mid c.in-Upto.is v.0 c.index-t.result k c.index-t.ensures.f_after l k c.in_default-t.in_default-t-own.keys2;
+      bounds_pass = bounds_stop program from a.to c.index-t.result l k c.in_default-t.in_default-t-own.keys2;
     }
 
 pub returns : goal.returns

@@ -31,7 +31,7 @@ list-loop-tag-init t c =
 
 pub list-header_at-requires : goal.list-header_at-requires
 list-header_at-requires t c =
-    c.requires.tables_right
+    c.requires.to_in_bounds
 
 pub list-returns-in-End : goal.list-returns-in-End
 unfolding checked_part
@@ -39,7 +39,7 @@ list-returns-in-End t c =
     let a = c.args in
     let program = a.program.now in
     let s = scope_full a.s a.families.now a.kinds.now a.sizes.now a.lows.now a.highs.now in
-    list_end a.levels program c.loop-tag.at a.to s (when_end program c.loop-tag.at a.to c.requires.tables_right (sym c.header_at.ensures ∙ c.in-End.is)) ∙ sym c.loop-tag.invariant
+    list_end a.levels program c.loop-tag.at a.to s (when_end program c.loop-tag.at a.to c.requires.to_in_bounds (sym c.header_at.ensures ∙ c.in-End.is)) ∙ sym c.loop-tag.invariant
 
 pub list-returns-in-Cut : goal.list-returns-in-Cut
 unfolding checked_part
@@ -47,7 +47,7 @@ list-returns-in-Cut t c =
     let a = c.args in
     let program = a.program.now in
     let s = scope_full a.s a.families.now a.kinds.now a.sizes.now a.lows.now a.highs.now in
-    list_cut a.levels program c.loop-tag.at a.to s (when_cut program c.loop-tag.at a.to c.requires.tables_right (sym c.header_at.ensures ∙ c.in-Cut.is)) ∙ sym c.loop-tag.invariant
+    list_cut a.levels program c.loop-tag.at a.to s (when_cut program c.loop-tag.at a.to c.requires.to_in_bounds (sym c.header_at.ensures ∙ c.in-Cut.is)) ∙ sym c.loop-tag.invariant
 
 pub list-one_statement-r-requires : goal.list-one_statement-r-requires
 list-one_statement-r-requires t c =
@@ -56,11 +56,11 @@ list-one_statement-r-requires t c =
     let s = scope_full a.s a.families.now a.kinds.now a.sizes.now a.lows.now a.highs.now in
     let tag = c.in-Whole.tag in
     let next = c.in-Whole.next in
-    let w = when_whole program c.loop-tag.at a.to tag next c.requires.tables_right (sym c.header_at.ensures ∙ c.in-Whole.is) in
+    let w = when_whole program c.loop-tag.at a.to tag next c.requires.to_in_bounds (sym c.header_at.ensures ∙ c.in-Whole.is) in
     let h = w.high in
     let k = w.low in
-    let q = c.requires.tables_right in
-    (omega (arith, c.requires.to_in_bounds), ((k, omega arith), (c.requires.families_right.0, c.requires.families_right.1)))
+    let q = c.requires.to_in_bounds in
+    (omega (arith, c.decreases), ((k, omega arith), (c.requires.tables_right, c.requires.families_right)))
 
 -- None
 
@@ -71,10 +71,10 @@ list-returns-in_default t c =
     let s = scope_full a.s a.families.now a.kinds.now a.sizes.now a.lows.now a.highs.now in
     let tag = c.in-Whole.tag in
     let next = c.in-Whole.next in
-    let w = when_whole program c.loop-tag.at a.to tag next c.requires.tables_right (sym c.header_at.ensures ∙ c.in-Whole.is) in
+    let w = when_whole program c.loop-tag.at a.to tag next c.requires.to_in_bounds (sym c.header_at.ensures ∙ c.in-Whole.is) in
     let h = w.high in
     let k = w.low in
-    let q = c.requires.tables_right in
+    let q = c.requires.to_in_bounds in
     let rest = check_statements (statements_by (read_statement a.levels) (fields_at program next a.to)) s in
     part_stops c.one_statement-r.result (stated a.levels c.loop-tag.at tag next program s) rest c.one_statement-r.ensures (opened c.in_default.in_default-own.keys2) ∙ sym (list_next a.levels program c.loop-tag.at a.to s tag next w) ∙ sym c.loop-tag.invariant
 
@@ -85,10 +85,10 @@ list-loop-tag-smaller t c =
     let s = scope_full a.s a.families.now a.kinds.now a.sizes.now a.lows.now a.highs.now in
     let tag = c.in-Whole.tag in
     let next = c.in-Whole.next in
-    let w = when_whole program c.loop-tag.at a.to tag next c.requires.tables_right (sym c.header_at.ensures ∙ c.in-Whole.is) in
+    let w = when_whole program c.loop-tag.at a.to tag next c.requires.to_in_bounds (sym c.header_at.ensures ∙ c.in-Whole.is) in
     let h = w.high in
     let k = w.low in
-    let q = c.requires.tables_right in
+    let q = c.requires.to_in_bounds in
     omega arith
 
 pub list-loop-tag-preserved : goal.list-loop-tag-preserved
@@ -98,10 +98,10 @@ list-loop-tag-preserved t c =
     let s = scope_full a.s a.families.now a.kinds.now a.sizes.now a.lows.now a.highs.now in
     let tag = c.in-Whole.tag in
     let next = c.in-Whole.next in
-    let w = when_whole program c.loop-tag.at a.to tag next c.requires.tables_right (sym c.header_at.ensures ∙ c.in-Whole.is) in
+    let w = when_whole program c.loop-tag.at a.to tag next c.requires.to_in_bounds (sym c.header_at.ensures ∙ c.in-Whole.is) in
     let h = w.high in
     let k = w.low in
-    let q = c.requires.tables_right in
+    let q = c.requires.to_in_bounds in
     let rest = check_statements (statements_by (read_statement a.levels) (fields_at program next a.to)) s in
     c.loop-tag.invariant ∙ list_next a.levels program c.loop-tag.at a.to s tag next w ∙ part_went c.one_statement-r.result (stated a.levels c.loop-tag.at tag next program s) rest c.one_statement-r.ensures (opened c.in-Upto.in-Upto-own.keys1)
 
@@ -115,53 +115,53 @@ one_statement-returns-then-levels-eq0 t c =
 
 pub one_statement-overflow_add-from : goal.one_statement-overflow_add-from
 one_statement-overflow_add-from t c =
-    omega (arith, c.requires.tables_right)
+    omega (arith, c.requires.at_bound)
 
 pub one_statement-one_wire-requires : goal.one_statement-one_wire-requires
 one_statement-one_wire-requires t c =
     record {
-      next_in_bounds = c.requires.tables_right.1;
-      tables_right = c.requires.families_right.0;
+      next_in_bounds = c.requires.at_bound.1;
+      tables_right = c.requires.tables_right;
     }
 
 pub one_statement-two_wires-requires : goal.one_statement-two_wires-requires
 one_statement-two_wires-requires t c =
     record {
-      next_in_bounds = c.requires.tables_right.1;
-      tables_right = c.requires.families_right.0;
+      next_in_bounds = c.requires.at_bound.1;
+      tables_right = c.requires.tables_right;
     }
 
 pub one_statement-phase-requires : goal.one_statement-phase-requires
 one_statement-phase-requires t c =
     record {
-      next_in_bounds = c.requires.tables_right.1;
-      tables_right = c.requires.families_right.0;
+      next_in_bounds = c.requires.at_bound.1;
+      tables_right = c.requires.tables_right;
     }
 
 pub one_statement-cphase-requires : goal.one_statement-cphase-requires
 one_statement-cphase-requires t c =
     record {
-      next_in_bounds = c.requires.tables_right.1;
-      tables_right = c.requires.families_right.0;
+      next_in_bounds = c.requires.at_bound.1;
+      tables_right = c.requires.tables_right;
     }
 
 pub one_statement-call-requires : goal.one_statement-call-requires
 one_statement-call-requires t c =
     record {
-      at_bound = c.requires.tables_right;
-      tables_right = c.requires.families_right.0;
-      families_right = c.requires.families_right.1;
+      at_bound = c.requires.at_bound;
+      tables_right = c.requires.tables_right;
+      families_right = c.requires.families_right;
     }
 
 pub one_statement-list-requires : goal.one_statement-list-requires
 one_statement-list-requires t c =
     let z = c.if-levels-eq0.false in
-    (omega (arith, c.requires.at_bound), (c.requires.tables_right.1, (c.requires.families_right.0, c.requires.families_right.1)))
+    (omega (arith, c.decreases), (c.requires.at_bound.1, (c.requires.tables_right, c.requires.families_right)))
 
 pub one_statement-repeated-requires : goal.one_statement-repeated-requires
 one_statement-repeated-requires t c =
     let z = c.if-levels-eq0.false in
-    (omega (arith, c.requires.at_bound), (c.requires.tables_right, (c.requires.families_right.0, c.requires.families_right.1)))
+    (omega (arith, c.decreases), (c.requires.at_bound, (c.requires.tables_right, c.requires.families_right)))
 
 pub one_statement-returns-in-Gate : goal.one_statement-returns-in-Gate
 unfolding check_statement gate_of fields_at
@@ -242,16 +242,16 @@ repeated-returns-then-n-ge-MOST_LOOPS t c =
 
 pub repeated-overflow_add-variables : goal.repeated-overflow_add-variables
 repeated-overflow_add-variables t c =
-    let q = c.requires.families_right.0.few in
+    let q = c.requires.tables_right.few in
     let z = c.if-n-ge-MOST_LOOPS.false in
     omega arith
 
 pub repeated-two_indexes-r-requires : goal.repeated-two_indexes-r-requires
 repeated-two_indexes-r-requires t c =
-    let q = c.requires.families_right.0.few in
+    let q = c.requires.tables_right.few in
     let z = c.if-n-ge-MOST_LOOPS.false in
     record {
-      to_in_bounds = c.requires.tables_right.1;
+      to_in_bounds = c.requires.at_bound.1;
       variables_le_all_variables = omega arith;
     }
 
@@ -280,14 +280,14 @@ repeated-list-requires t c =
     let h = c.two_indexes-r.new.high in
     let mid = c.in-Upto.from in
     let v = bounds_upto program (a.at + 3) a.next c.two_indexes-r.result l h mid c.in-Upto.is c.two_indexes-r.ensures.bounds_pass in
-    let r = c.requires.families_right.0 in
+    let r = c.requires.tables_right in
     let z = c.if-n-ge-MOST_LOOPS.false in (
-      omega (arith, c.requires.at_bound),
+      omega (arith, c.decreases),
       (
-        c.requires.tables_right.1,
+        c.requires.at_bound.1,
         (
           record { few = r.few; nested = omega arith; kind_rows = r.kind_rows; size_rows = r.size_rows; named = r.named; low_rows = rows_set a.lows.now 8 n l r.low_rows v.1; high_rows = rows_set a.highs.now 8 n h r.high_rows v.2 },
-          record { few = c.requires.families_right.1.few; rows = c.requires.families_right.1.rows },
+          record { few = c.requires.families_right.few; rows = c.requires.families_right.rows },
         ),
       ),
     )
@@ -309,7 +309,7 @@ repeated-returns t c =
     let few : length (loops_of n a.lows.now a.highs.now) < 8 = (let z = c.if-n-ge-MOST_LOOPS.false in omega arith) in
     let mid = c.in-Upto.from in
     let v = bounds_upto program (a.at + 3) a.next c.two_indexes-r.result l h mid c.in-Upto.is c.two_indexes-r.ensures.bounds_pass in
-    let r = c.requires.families_right.0 in
+    let r = c.requires.tables_right in
     let z = c.if-n-ge-MOST_LOOPS.false in
     let x = r.low_rows.enough in
     let y = r.high_rows.enough in

@@ -1,16 +1,11 @@
 -- `forms::left` meets its contract. The invariant: the loops that remain are those that remain of the loops not looked at yet. Assumes nothing.
-use borrow.Author.Rules.{rules}
 use native.Mathlib.Omega.{arith}
-use mathlib.Core.Path.{◌≡◌, refl, ap, ◌∙◌}
-use mathlib.Core.List.{List}
-use Prim.Native.Nat.{◌+◌, ◌≤◌}
-use lib.IntN.{ℤ}
+use mathlib.Core.Path.{refl, ap, ◌∙◌}
+use Prim.Native.Nat.{◌+◌}
 use mir.Syntax.{w64}
 use mir.Val.{of_z}
-use Rattle.form_laws.specs.Settled.{remaining}
 use Rattle.language.proofs.Integers.{range_fits, bits_zero}
 use Rattle.forms.specs.Flat.{as_form}
-use Rattle.forms.specs.Rows.{loops_of}
 use Rattle.forms.proofs.Lists.{kept_at}
 use Rattle.forms.proofs.Laws.{passed_by, met, none_met}
 use Rattle.forms.proofs.left.Goals as goal

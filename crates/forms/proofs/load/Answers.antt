@@ -1,5 +1,4 @@
 -- `forms::load` meets its contract. Assumes nothing.
-use borrow.Author.Rules.{rules}
 use native.Mathlib.Omega.{arith}
 use Rattle.language.proofs.Integers.{range_back, range_fits, narrow_back}
 use Rattle.forms.proofs.Lists.{short_range, load_wide, load_kept}

@@ -1,44 +1,37 @@
 -- `forms::put_sum` meets its contract: a product and a sum of numbers in range, each tested. Assumes nothing.
--- the product, as the machine reads it back
 use borrow.Author.Rules.{rules}
 use mathlib.Core.Path.{◌≡◌, sym, ap, ◌∙◌}
-use mathlib.Core.Bool.{Bool, ◌&&◌}
+use mathlib.Core.Bool.{Bool, true, ◌&&◌}
 use lib.IntN.{ℤ, ◌+ℤ◌, ◌*ℤ◌}
 use lib.ListN.{set}
 use mir.Syntax.{w64}
 use mir.Val.{SFits, to_z, of_z}
 use mir.ValLaws.{to_z-of_z}
 use Rattle.language.specs.Form.{in_range}
-use Rattle.language.proofs.Integers.{ranged-fits, sum_fits, range_back, clash}
+use Rattle.language.proofs.Integers.{ranged-fits, product_fits, sum_fits, range_back, clash}
 use Rattle.forms.proofs.put_sum.Goals as goal
 
-p-is : (c : tie.Start) → to_z w64 (of_z w64 (to_z w64 (of_z w64 c.args.k) *ℤ to_z w64 (of_z w64 c.args.y))) ≡ c.args.k *ℤ c.args.y
-p-is c = search (rules, ranged-fits)
+module _ (x k y : ℤ) (hx : in_range x ≡ true) (hk : in_range k ≡ true) (hy : in_range y ≡ true) where
+  -- the product, as the machine reads it back
+  p-is : to_z w64 (of_z w64 (to_z w64 (of_z w64 k) *ℤ to_z w64 (of_z w64 y))) ≡ k *ℤ y
+  p-is = ap (λ (z : ℤ). to_z w64 (of_z w64 z)) (λ j. range_back hk j *ℤ range_back hy j) ∙ to_z-of_z w64 _ (product_fits k y hk hy)
 
-p-in : (c : tie.After-in-range) {t : Bool} → c.in-range.result ≡ t → in_range (c.before.args.k *ℤ c.before.args.y) ≡ t
-p-in c e = ap in_range (sym (p-is c.before)) ∙ sym c.in-range.ensures ∙ e
+  p-in : {r t : Bool} → r ≡ in_range (to_z w64 (of_z w64 (to_z w64 (of_z w64 k) *ℤ to_z w64 (of_z w64 y)))) → r ≡ t → in_range (k *ℤ y) ≡ t
+  p-in a e = ap in_range (sym p-is) ∙ sym a ∙ e
 
--- the sum, as it is added, and as the machine reads it back
+  -- the sum, as it is added, and as the machine reads it back
+  abbrev added : ℤ
+  added = to_z w64 (of_z w64 x) +ℤ to_z w64 (of_z w64 (to_z w64 (of_z w64 k) *ℤ to_z w64 (of_z w64 y)))
 
-abbrev added : tie.Start → ℤ
-added s = to_z w64 (of_z w64 s.args.x) +ℤ to_z w64 (of_z w64 (to_z w64 (of_z w64 s.args.k) *ℤ to_z w64 (of_z w64 s.args.y)))
+  module _ {r : Bool} (a : r ≡ in_range (to_z w64 (of_z w64 (to_z w64 (of_z w64 k) *ℤ to_z w64 (of_z w64 y))))) (e : r ≡ true) where
+    z-fits : SFits w64 added
+    z-fits = rw (range_back hx, p-is) (sum_fits x (k *ℤ y) hx (p-in a e))
 
-z-fits : (c : tie.Then1) → SFits w64 (added c.before.before)
-z-fits c =
-    let s = c.before.before in
-    rw (range_back s.requires.1.0, p-is s) (sum_fits s.args.x (s.args.k *ℤ s.args.y) s.requires.1.0 (p-in c.before c.if1.true))
+    z-is : to_z w64 (of_z w64 added) ≡ x +ℤ k *ℤ y
+    z-is = to_z-of_z w64 _ z-fits ∙ (λ j. range_back hx j +ℤ p-is j)
 
-z-is : (c : tie.Then1) →
-    let s = c.before.before in
-    to_z w64 (of_z w64 (added s)) ≡ s.args.x +ℤ s.args.k *ℤ s.args.y
-z-is c =
-    let s = c.before.before in
-    to_z-of_z w64 _ (z-fits c) ∙ (λ j. range_back s.requires.1.0 j +ℤ p-is s j)
-
-z-in : (c : tie.After-in-range2) {t : Bool} → c.in-range2.result ≡ t →
-    let s = c.before.before.before in
-    in_range (s.args.x +ℤ s.args.k *ℤ s.args.y) ≡ t
-z-in c e = ap in_range (sym (z-is c.before)) ∙ sym c.in-range2.ensures ∙ e
+    z-in : {s t : Bool} → s ≡ in_range (to_z w64 (of_z w64 added)) → s ≡ t → in_range (x +ℤ k *ℤ y) ≡ t
+    z-in b d = ap in_range (sym z-is) ∙ sym b ∙ d
 
 pub overflow_mul-p : goal.overflow_mul-p
 overflow_mul-p c = search (rules, ranged-fits)
@@ -46,23 +39,29 @@ overflow_mul-p c = search (rules, ranged-fits)
 pub returns-else-in_range : goal.returns-else-in_range
 returns-else-in_range c =
     record {
-      value = sym (λ j. p-in c.before c.if-in_range.false j && in_range (c.args.x +ℤ c.args.k *ℤ c.args.y));
+      value = sym (λ j. p-in c.args.x c.args.k c.args.y c.requires.x_value c.requires.k_value c.requires.y_value c.in_range.ensures c.if-in_range.false j && in_range (c.args.x +ℤ c.args.k *ℤ c.args.y));
       f_after = (λ e. absurd (clash (sym e)));
     }
 
 pub overflow_add-z : goal.overflow_add-z
-overflow_add-z c = z-fits c
+overflow_add-z c = z-fits c.args.x c.args.k c.args.y c.requires.x_value c.requires.k_value c.requires.y_value c.in_range.ensures c.if-in_range.true
 
 pub returns-then-in_range-2 : goal.returns-then-in_range-2
 returns-then-in_range-2 c =
+    let hx = c.requires.x_value in
+    let hk = c.requires.k_value in
+    let hy = c.requires.y_value in
     record {
-      value = sym (λ j. p-in a.before c.if-in_range.true j && z-in c.before c.if-in_range-2.true j);
-      f_after = (λ _. ap (λ (z : ℤ). set c.args.f.now c.args.i z) (z-is a));
+      value = sym (λ j. p-in c.args.x c.args.k c.args.y hx hk hy c.in_range.ensures c.if-in_range.true j && z-in c.args.x c.args.k c.args.y hx hk hy c.in_range.ensures c.if-in_range.true c.in_range-2.ensures c.if-in_range-2.true j);
+      f_after = (λ _. ap (λ (z : ℤ). set c.args.f.now c.args.i z) (z-is c.args.x c.args.k c.args.y hx hk hy c.in_range.ensures c.if-in_range.true));
     }
 
 pub returns : goal.returns
 returns c =
+    let hx = c.requires.x_value in
+    let hk = c.requires.k_value in
+    let hy = c.requires.y_value in
     record {
-      value = sym (λ j. p-in a.before c.if-in_range.true j && z-in c.before c.if-in_range-2.false j);
+      value = sym (λ j. p-in c.args.x c.args.k c.args.y hx hk hy c.in_range.ensures c.if-in_range.true j && z-in c.args.x c.args.k c.args.y hx hk hy c.in_range.ensures c.if-in_range.true c.in_range-2.ensures c.if-in_range-2.false j);
       f_after = (λ e. absurd (clash (sym e)));
     }

@@ -1,15 +1,10 @@
 -- `forms::scan` meets its contract. The invariant: the scan of the form that came in is the scan of the form as it is, over the loops below the last variable that was replaced.
 -- Assumes nothing.
-use borrow.Author.Rules.{rules}
-use native.Mathlib.Omega.{arith}
-use mathlib.Core.Path.{◌≡◌, sym, ap, ◌∙◌}
-use mathlib.Core.Bool.{Bool, true, false}
-use Prim.Native.Nat.{ℕ, ◌+◌, ◌-◌, ◌≤◌}
-use Rattle.language.specs.Form.{built, out_of_range, showing_of}
+use mathlib.Core.Path.{◌≡◌}
+use Prim.Native.Nat.{◌-◌, ◌≤◌}
 use Rattle.form_laws.specs.Settled.{scan, after}
-use Rattle.forms.specs.Flat.{Kept, as_form, built_of, shown_of}
+use Rattle.forms.specs.Flat.{Kept, as_form}
 use Rattle.forms.specs.Rows.{loops_of}
-use Rattle.forms.proofs.Laws.{fewer, told, none_after, scan_on, scan_out, scan_end}
 use Rattle.forms.proofs.scan.Given as goal
 
 abbrev pub invariant-loop-f : goal.invariant-loop-f

@@ -1,5 +1,4 @@
 -- `forms::set_multiple` meets its contract. Assumes nothing.
-use borrow.Author.Rules.{rules}
 use mathlib.Core.Path.{refl, ap, ◌∙◌}
 use lib.IntN.{ℤ}
 use Rattle.language.specs.Form.{in_range, multiple_of, sum_of, ◌then_build◌}

@@ -1,5 +1,4 @@
 -- `forms::show` meets its contract: the plain rule, and the trials only where that does not show the form. Assumes nothing.
-use borrow.Author.Rules.{rules}
 use native.Mathlib.Omega.{arith}
 use mathlib.Core.Path.{sym, ap, ◌∙◌}
 use Rattle.language.specs.Form.{showing}

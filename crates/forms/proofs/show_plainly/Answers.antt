@@ -7,7 +7,6 @@ use Prim.Native.Nat.{ℕ, ◌+◌, ◌-◌, ◌≤◌, ◌<◌}
 use lib.IntN.{pos}
 use lib.ListN.{get_or}
 use Rattle.language.specs.Form.{showing_of}
-use Rattle.form_laws.specs.Settled.{scan}
 use Rattle.forms.specs.Flat.{as_form, built_of, shown_of}
 use Rattle.forms.specs.Rows.{loops_of}
 use Rattle.forms.proofs.Laws.{fewer, gone_few, told, told_after, none_after, scan_on, scan_out, scan_end}

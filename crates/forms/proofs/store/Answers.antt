@@ -1,5 +1,4 @@
 -- `forms::store` meets its contract. Assumes nothing.
-use borrow.Author.Rules.{rules}
 use native.Mathlib.Omega.{arith}
 use Rattle.language.proofs.Integers.{range_back, narrow_back, narrow_fits}
 use Rattle.forms.proofs.Lists.{kept_at, store_wide, store_short}

@@ -4,32 +4,31 @@ use borrow.Author.Rules.{rules}
 use native.Mathlib.Omega.{arith}
 use mathlib.Core.Path.{◌≡◌, ap, ◌∙◌}
 use mathlib.Core.Bool.{true}
-use Prim.Native.Nat.{◌+◌}
-use lib.IntN.{pos}
+use Prim.Native.Nat.{ℕ, ◌+◌, ◌<◌}
+use mathlib.Core.List.{List}
+use lib.IntN.{ℤ, pos}
 use lib.ListN.{get_or}
 use mir.Syntax.{w64}
 use mir.Val.{of_z}
 use Rattle.language.specs.Form.{in_range, multiple_of, sum_of, ◌then_build◌}
 use Rattle.language.proofs.Integers.{range_back, range_fits, bits_zero}
-use Rattle.forms.proofs.Lists.{each_at, ranges, drop_kept, drop_flat, closed_zero, closed_less, closed_more}
+use Rattle.forms.proofs.Lists.{kept_at, drop_kept, drop_flat, closed_zero, closed_less, closed_more}
+use Rattle.forms.specs.Flat.{Kept}
 use Rattle.forms.specs.Rows.{loop_at}
 use Rattle.forms.proofs.substitute.Goals as goal
 
-k-in : (c : tie.Start) → in_range (get_or c.args.f.now (c.args.v + 1) (pos 0)) ≡ true
-k-in c =
-    let l = c.requires.0.long in
-    let h = c.requires.1.0 in
-    each_at ranges c.args.f.now (c.args.v + 1) (omega arith) c.requires.0.inside
+-- v's coefficient is in range
+
+k-in : (f : List ℤ) (v : ℕ) → v < 12 → Kept f → in_range (get_or f (v + 1) (pos 0)) ≡ true
+k-in f v h k = kept_at f (v + 1) (omega arith) k
 
 pub bounds-f-at : goal.bounds-f-at
 bounds-f-at c = search rules
 
--- v's coefficient is in range
-
 pub returns-then-k-eq0 : goal.returns-then-k-eq0
 returns-then-k-eq0 c =
     record {
-      f_after = closed_zero c.args.f.now c.args.v (loop_at c.args.n c.args.lows.now c.args.highs.now) c.requires.kept (bits_zero (range_fits _ (k-in s)) c.if-k-eq0.true);
+      f_after = closed_zero c.args.f.now c.args.v (loop_at c.args.n c.args.lows.now c.args.highs.now) c.requires.kept (bits_zero (range_fits _ (k-in c.args.f.now c.args.v c.requires.v_lt_all_variables c.requires.kept)) c.if-k-eq0.true);
       kept_2 = (λ _. c.requires.kept);
     }
 
@@ -37,7 +36,7 @@ pub add_scaled-requires : goal.add_scaled-requires
 add_scaled-requires c =
     record {
       kept = drop_kept c.args.f.now c.args.v c.requires.kept;
-      k_value = let q = k-in s in search (rules, range_back);
+      k_value = let q = k-in c.args.f.now c.args.v c.requires.v_lt_all_variables c.requires.kept in search (rules, range_back);
       kept_2 = c.requires.rows_2.each c.args.n (omega arith);
     }
 
@@ -46,9 +45,9 @@ returns-then-k-lt0 c =
     let f = c.args.f.now in
     let v = c.args.v in
     let b = loop_at c.args.n c.args.lows.now c.args.highs.now in
-    let sign = rw (range_back (k-in s)) at c.if-k-lt0.true in
+    let sign = rw (range_back (k-in c.args.f.now c.args.v c.requires.v_lt_all_variables c.requires.kept)) at c.if-k-lt0.true in
     record {
-      f_after = c.add_scaled.ensures.f_after ∙ (λ j. multiple_of (range_back (k-in s) j) b.high then_build sum_of (drop_flat f v c.requires.kept j)) ∙ closed_less f v b c.requires.kept sign;
+      f_after = c.add_scaled.ensures.f_after ∙ (λ j. multiple_of (range_back (k-in c.args.f.now c.args.v c.requires.v_lt_all_variables c.requires.kept) j) b.high then_build sum_of (drop_flat f v c.requires.kept j)) ∙ closed_less f v b c.requires.kept sign;
       kept_2 = c.add_scaled.ensures.kept_3;
     }
 
@@ -56,7 +55,7 @@ pub add_scaled-requires-2 : goal.add_scaled-requires-2
 add_scaled-requires-2 c =
     record {
       kept = drop_kept c.args.f.now c.args.v c.requires.kept;
-      k_value = let q = k-in s in search (rules, range_back);
+      k_value = let q = k-in c.args.f.now c.args.v c.requires.v_lt_all_variables c.requires.kept in search (rules, range_back);
       kept_2 = c.requires.rows.each c.args.n (omega arith);
     }
 
@@ -65,8 +64,8 @@ returns c =
     let f = c.args.f.now in
     let v = c.args.v in
     let b = loop_at c.args.n c.args.lows.now c.args.highs.now in
-    let sign = rw (range_back (k-in s)) at c.if-k-lt0.false in
+    let sign = rw (range_back (k-in c.args.f.now c.args.v c.requires.v_lt_all_variables c.requires.kept)) at c.if-k-lt0.false in
     record {
-      f_after = c.add_scaled-2.ensures.f_after ∙ (λ j. multiple_of (range_back (k-in s) j) b.low then_build sum_of (drop_flat f v c.requires.kept j)) ∙ closed_more f v b c.requires.kept (λ e. c.if-k-eq0.false (ap (of_z w64) e)) sign;
+      f_after = c.add_scaled-2.ensures.f_after ∙ (λ j. multiple_of (range_back (k-in c.args.f.now c.args.v c.requires.v_lt_all_variables c.requires.kept) j) b.low then_build sum_of (drop_flat f v c.requires.kept j)) ∙ closed_more f v b c.requires.kept (λ e. c.if-k-eq0.false (ap (of_z w64) e)) sign;
       kept_2 = c.add_scaled-2.ensures.kept_3;
     }

@@ -1,10 +1,9 @@
 -- `forms::sum_but` meets its contract: the loop of `add_scaled`, into another form. Assumes nothing.
-use borrow.Author.Rules.{rules}
 use native.Mathlib.Omega.{arith}
 use mathlib.Core.Path.{◌≡◌, refl, sym, ap, ◌∙◌, subst}
 use mathlib.Core.List.{List}
-use mathlib.Core.Bool.{true, ◌&&◌}
-use Prim.Native.Nat.{◌-◌, ◌+◌}
+use mathlib.Core.Bool.{Bool, true, ◌&&◌}
+use Prim.Native.Nat.{ℕ, ◌+◌}
 use lib.IntN.{ℤ, pos, ◌+ℤ◌, ◌*ℤ◌}
 use lib.ListN.{get_or, set}
 use mir.Syntax.{w64}
@@ -16,48 +15,24 @@ use Rattle.forms.proofs.Lists.{kept_at, set_kept}
 use Rattle.forms.proofs.Laws.{Scaling, scaling_begun, scaling_again, scaling_stopped, scaling_ended}
 use Rattle.forms.proofs.sum_but.Goals as goal
 
-abbrev rest : tie.Start invariant-loop decreases-loop → List ℤ
-rest c = set c.args.f.now c.args.at (pos 0)
-
-rest-kept : (c : tie.Start invariant-loop decreases-loop) → Kept (rest c)
+rest-kept : (f : List ℤ) (at : ℕ) → Kept f → Kept (set f at (pos 0))
 unfolding in_range
-rest-kept c = set_kept c.args.f.now c.args.at (pos 0) refl c.requires.1.0
-
-y-in : (c : tie.In-loop invariant-loop decreases-loop) → in_range (get_or c.before.before.args.h.now c.before.loop.i (pos 0)) ≡ true
-y-in c = kept_at c.before.before.args.h.now c.before.loop.i c.loop-test.true c.before.before.requires.1.1.1.1
-
-x-in : (c : tie.In-loop invariant-loop decreases-loop) → in_range (get_or (rest c.before.before) c.before.loop.i (pos 0)) ≡ true
-x-in c = kept_at (rest c.before.before) c.before.loop.i c.loop-test.true (rest-kept c.before.before)
+rest-kept f at h = set_kept f at (pos 0) refl h
 
 -- the definition, for the number k as the machine reads it back
 
-meets : (c : tie.Start invariant-loop decreases-loop) →
-    let f = as_form (rest c) in
-    let h = as_form c.args.h.now in
-    (multiple_of (to_z w64 (of_z w64 c.args.k)) h then_build sum_of f) ≡ (multiple_of c.args.k h then_build sum_of f)
-meets c = ap (λ (v : ℤ). (multiple_of v (as_form c.args.h.now) then_build sum_of (as_form (rest c)))) (range_back c.requires.1.1.1.0)
+meets : (k : ℤ) (f h : List ℤ) → in_range k ≡ true → (multiple_of (to_z w64 (of_z w64 k)) (as_form h) then_build sum_of (as_form f)) ≡ (multiple_of k (as_form h) then_build sum_of (as_form f))
+meets k f h q = ap (λ (v : ℤ). (multiple_of v (as_form h) then_build sum_of (as_form f))) (range_back q)
 
 -- the number that comes in of f, as the machine reads it back
 
-x-told : (c : tie.After-number-but invariant-loop decreases-loop) →
-    let s = c.before.before in
-    to_z w64 (of_z w64 c.number-but.result) ≡ get_or (rest s.before.before) s.before.loop.i (pos 0)
-x-told c = ap (λ (z : ℤ). to_z w64 (of_z w64 z)) c.number-but.ensures ∙ range_back (x-in c.before.before)
+x-told : {r x : ℤ} → r ≡ x → in_range x ≡ true → to_z w64 (of_z w64 r) ≡ x
+x-told e h = ap (λ (z : ℤ). to_z w64 (of_z w64 z)) e ∙ range_back h
 
--- the leaf's answer, of the two lists' entries
+-- the leaf's answer, of the two lists' entries: x is read where x' stood
 
-number-told : (c : tie.After-put-number invariant-loop decreases-loop) →
-    let s = c.before.before.before.before in
-    let a = s.before.before in
-    let k = to_z w64 (of_z w64 a.args.k) in
-    let x = get_or (rest a) s.before.loop.i (pos 0) in
-    let y = get_or a.args.h.now s.before.loop.i (pos 0) in
-    c.put-number.result ≡ (in_range (k *ℤ y) && in_range (x +ℤ k *ℤ y))
-number-told c =
-    let n = c.before.before in
-    let s = n.before.before in
-    let k = to_z w64 (of_z w64 s.before.before.args.k) in
-    c.put-number.ensures.0 ∙ (λ j. in_range (k *ℤ range_back (y-in s) j) && in_range (x-told n j +ℤ k *ℤ range_back (y-in s) j))
+number-told : (k x x' y : ℤ) {r : Bool} → x ≡ x' → in_range y ≡ true → r ≡ (in_range (k *ℤ to_z w64 (of_z w64 y)) && in_range (x +ℤ k *ℤ to_z w64 (of_z w64 y))) → r ≡ (in_range (k *ℤ y) && in_range (x' +ℤ k *ℤ y))
+number-told k x x' y e h p = p ∙ (λ j. in_range (k *ℤ range_back h j) && in_range (e j +ℤ k *ℤ range_back h j))
 
 pub loop-i-init : goal.loop-i-init
 loop-i-init c = scaling_begun _ _ _ _
@@ -72,17 +47,24 @@ number_but-x-requires c =
 
 pub put_number-requires : goal.put_number-requires
 put_number-requires c =
+    let rk = rest-kept c.args.f.now c.args.at c.requires.kept in
+    let x-in = kept_at (set c.args.f.now c.args.at (pos 0)) c.loop-i.i c.loop-i-test.true rk in
+    let y-in = kept_at c.args.h.now c.loop-i.i c.loop-i-test.true c.requires.kept_2 in
     record {
       i_lt_form_numbers = omega (arith, c.loop-i-test.true);
-      x_value = ap in_range (x-told n) ∙ x-in s;
+      x_value = ap in_range (x-told c.number_but-x.ensures x-in) ∙ x-in;
       k_value = ap in_range (range_back c.requires.k_value) ∙ c.requires.k_value;
-      y_value = ap in_range (range_back (y-in s)) ∙ y-in s;
+      y_value = ap in_range (range_back y-in) ∙ y-in;
     }
 
 pub returns-else-put_number : goal.returns-else-put_number
 returns-else-put_number c =
+    let rk = rest-kept c.args.f.now c.args.at c.requires.kept in
+    let x-in = kept_at (set c.args.f.now c.args.at (pos 0)) c.loop-i.i c.loop-i-test.true rk in
+    let y-in = kept_at c.args.h.now c.loop-i.i c.loop-i-test.true c.requires.kept_2 in
+    let told = number-told (to_z w64 (of_z w64 c.args.k)) _ _ (get_or c.args.h.now c.loop-i.i (pos 0)) (x-told c.number_but-x.ensures x-in) y-in c.put_number.ensures.value in
     record {
-      g_after = scaling_stopped c.loop-i.invariant (rest-kept a) c.requires.kept_2 c.requires.g_len c.loop-i-test.true (sym (number-told m) ∙ c.if-put_number.false) ∙ meets a;
+      g_after = scaling_stopped c.loop-i.invariant rk c.requires.kept_2 c.requires.g_len c.loop-i-test.true (sym told ∙ c.if-put_number.false) ∙ meets c.args.k (set c.args.f.now c.args.at (pos 0)) c.args.h.now c.requires.k_value;
       kept_3 = (λ e. absurd (clash (sym e)));
     }
 
@@ -90,14 +72,20 @@ pub loop-i-preserved : goal.loop-i-preserved
 loop-i-preserved c =
     let i = c.loop-i.i in
     let k = to_z w64 (of_z w64 c.args.k) in
-    let put = c.put_number.ensures.g_after c.if-put_number.true ∙ (λ j. set c.loop-i.g i (x-told n j +ℤ k *ℤ range_back (y-in s) j)) in
-    subst (λ (g : List ℤ). Scaling k (rest a) c.args.h.now c.args.g.now g (i + 1)) (sym put)
-    (scaling_again c.loop-i.invariant (rest-kept a) c.requires.kept_2 c.requires.g_len c.loop-i-test.true (sym (number-told m) ∙ c.if-put_number.true))
+    let rest = set c.args.f.now c.args.at (pos 0) in
+    let rk = rest-kept c.args.f.now c.args.at c.requires.kept in
+    let x-in = kept_at rest i c.loop-i-test.true rk in
+    let y-in = kept_at c.args.h.now i c.loop-i-test.true c.requires.kept_2 in
+    let x-is = x-told c.number_but-x.ensures x-in in
+    let told = number-told k _ _ (get_or c.args.h.now i (pos 0)) x-is y-in c.put_number.ensures.value in
+    let put = c.put_number.ensures.g_after c.if-put_number.true ∙ (λ j. set c.loop-i.g i (x-is j +ℤ k *ℤ range_back y-in j)) in
+    subst (λ (g : List ℤ). Scaling k rest c.args.h.now c.args.g.now g (i + 1)) (sym put)
+    (scaling_again c.loop-i.invariant rk c.requires.kept_2 c.requires.g_len c.loop-i-test.true (sym told ∙ c.if-put_number.true))
 
 pub returns : goal.returns
 returns c =
-    let e = scaling_ended c.loop-i.invariant (rest-kept a) c.requires.kept_2 c.requires.g_len c.loop-i-test.false in
+    let e = scaling_ended c.loop-i.invariant (rest-kept c.args.f.now c.args.at c.requires.kept) c.requires.kept_2 c.requires.g_len c.loop-i-test.false in
     record {
-      g_after = e.0 ∙ meets a;
+      g_after = e.0 ∙ meets c.args.k (set c.args.f.now c.args.at (pos 0)) c.args.h.now c.requires.k_value;
       kept_3 = (λ _. e.1);
     }

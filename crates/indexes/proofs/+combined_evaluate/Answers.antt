@@ -21,7 +21,7 @@ combined-returns-then-tag-lt66 t c =
     let l = a.bytes.now in
     let v = take a.many a.vars.now in
     let s = slice a.from a.to l in
-    let h : a.levels ≡ 0 → ⊥ = λ z. omega (arith, c.requires.levels_nonzero.1.0) in
+    let h : a.levels ≡ 0 → ⊥ = λ z. omega (arith, c.requires.levels_nonzero.0) in
     at_other a.tag s a.levels v h (λ z. omega arith) (λ z. omega arith) (λ z. omega arith) (λ z. omega arith) (λ z. omega arith)
 
 pub combined-returns-then-tag-gt68 : goal.combined-returns-then-tag-gt68
@@ -30,7 +30,7 @@ combined-returns-then-tag-gt68 t c =
     let l = a.bytes.now in
     let v = take a.many a.vars.now in
     let s = slice a.from a.to l in
-    let h : a.levels ≡ 0 → ⊥ = λ z. omega (arith, c.requires.levels_nonzero.1.0) in
+    let h : a.levels ≡ 0 → ⊥ = λ z. omega (arith, c.requires.levels_nonzero.0) in
     at_other a.tag s a.levels v h (λ z. omega arith) (λ z. omega arith) (λ z. omega arith) (λ z. omega arith) (λ z. omega arith)
 
 pub combined-returns-in_default : goal.combined-returns-in_default
@@ -39,7 +39,7 @@ combined-returns-in_default t c =
     let l = a.bytes.now in
     let v = take a.many a.vars.now in
     let s = slice a.from a.to l in
-    let h : a.levels ≡ 0 → ⊥ = λ z. omega (arith, c.requires.levels_nonzero.1.0) in
+    let h : a.levels ≡ 0 → ⊥ = λ z. omega (arith, c.requires.levels_nonzero.0) in
     at_left a.tag s a.levels v h (omega arith) (omega arith) Stuck
     (left_none l a.from a.to (a.levels - 1) v (rw c.header_at.ensures at (opened c.in_default.in_default-own.keys2))) (inr refl)
 
@@ -65,7 +65,7 @@ combined-evaluate-left-requires t c =
     let mid = c.in-Whole.mid in
     let e : look_in l a.from a.to ≡ Whole u mid = sym c.header_at.ensures ∙ c.in-Whole.is in
     let f = in_whole l a.from a.to u mid e in
-    (omega (arith, c.requires.from_le_to, c.requires.levels_nonzero.1.0), ((f.low, omega (arith, f.high, c.requires.many_le_most_values.1)), c.requires.levels_nonzero.0))
+    (omega (arith, c.decreases, c.requires.levels_nonzero.0), ((f.low, omega (arith, f.high, c.requires.from_le_to.1)), c.requires.many_le_most_values))
 
 pub combined-returns-in_default-left : goal.combined-returns-in_default-left
 combined-returns-in_default-left t c =
@@ -73,7 +73,7 @@ combined-returns-in_default-left t c =
     let l = a.bytes.now in
     let v = take a.many a.vars.now in
     let s = slice a.from a.to l in
-    let h : a.levels ≡ 0 → ⊥ = λ z. omega (arith, c.requires.levels_nonzero.1.0) in
+    let h : a.levels ≡ 0 → ⊥ = λ z. omega (arith, c.requires.levels_nonzero.0) in
     let u = c.in-Whole.first in
     let mid = c.in-Whole.mid in
     let e : look_in l a.from a.to ≡ Whole u mid = sym c.header_at.ensures ∙ c.in-Whole.is in
@@ -86,7 +86,7 @@ combined-returns-in_default-header_at t c =
     let l = a.bytes.now in
     let v = take a.many a.vars.now in
     let s = slice a.from a.to l in
-    let h : a.levels ≡ 0 → ⊥ = λ z. omega (arith, c.requires.levels_nonzero.1.0) in
+    let h : a.levels ≡ 0 → ⊥ = λ z. omega (arith, c.requires.levels_nonzero.0) in
     let u = c.in-Whole.first in
     let mid = c.in-Whole.mid in
     let e : look_in l a.from a.to ≡ Whole u mid = sym c.header_at.ensures ∙ c.in-Whole.is in
@@ -124,7 +124,7 @@ combined-evaluate-right-requires t c =
     let end = c.in-Whole-header_at.end in
     let e2 : look_in l mid a.to ≡ Whole u2 end = sym c.header_at-2.ensures ∙ c.in-Whole-header_at.is in
     let f = in_whole l mid a.to u2 end e2 in
-    (omega (arith, c.requires.from_le_to, c.requires.levels_nonzero.1.0), ((f.low, omega (arith, f.high, c.requires.many_le_most_values.1)), c.requires.levels_nonzero.0))
+    (omega (arith, c.decreases, c.requires.levels_nonzero.0), ((f.low, omega (arith, f.high, c.requires.from_le_to.1)), c.requires.many_le_most_values))
 
 pub combined-returns-in_default-right : goal.combined-returns-in_default-right
 combined-returns-in_default-right t c =
@@ -132,7 +132,7 @@ combined-returns-in_default-right t c =
     let l = a.bytes.now in
     let v = take a.many a.vars.now in
     let s = slice a.from a.to l in
-    let h : a.levels ≡ 0 → ⊥ = λ z. omega (arith, c.requires.levels_nonzero.1.0) in
+    let h : a.levels ≡ 0 → ⊥ = λ z. omega (arith, c.requires.levels_nonzero.0) in
     let u = c.in-Whole.first in
     let mid = c.in-Whole.mid in
     let e : look_in l a.from a.to ≡ Whole u mid = sym c.header_at.ensures ∙ c.in-Whole.is in
@@ -176,7 +176,7 @@ combined-returns t c =
     let l = a.bytes.now in
     let v = take a.many a.vars.now in
     let s = slice a.from a.to l in
-    let h : a.levels ≡ 0 → ⊥ = λ z. omega (arith, c.requires.levels_nonzero.1.0) in
+    let h : a.levels ≡ 0 → ⊥ = λ z. omega (arith, c.requires.levels_nonzero.0) in
     let u = c.in-Whole.first in
     let mid = c.in-Whole.mid in
     let e : look_in l a.from a.to ≡ Whole u mid = sym c.header_at.ensures ∙ c.in-Whole.is in

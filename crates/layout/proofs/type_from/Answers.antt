@@ -23,7 +23,7 @@ register_from-requires c =
     let r = index_ranged (slice a.from a.to a.bytes.now) 0 (take a.many a.values.now) _ (rw c.in-Is.is at c.index_at.ensures) in
     record {
       z_value = rw (range_back r) (r);
-      next_le_most_wires = rw (range_back r) (c.requires.many_le_most_values.1);
+      next_le_most_wires = c.requires.many_le_most_values.1;
     }
 
 pub returns-in-Is : goal.returns-in-Is

@@ -13,10 +13,9 @@ put-name-requires c =
 pub put_power-power-requires : goal.put_power-power-requires
 unfolding ascii
 put_power-power-requires c =
-    let both = (c.requires.k_le_most_halvings, room_next (room_first (ascii ") ") c.requires.room) c.put-name.ensures) in
     record {
-      k_le_most_halvings = both.0;
-      room = both.1;
+      k_le_most_halvings = c.requires.k_le_most_halvings;
+      room = room_next (room_first (ascii ") ") c.requires.room) c.put-name.ensures;
     }
 
 pub put-requires : goal.put-requires

@@ -33,7 +33,7 @@ returns-then-tag-eq0 c =
     λ q b.
     let g = globals_in a.limit room l a.t.families (take (3 * a.t.registers) a.regs.now) q b in
     let run = act_top a.limit room (read_top (field a.at a.tag content)) g in
-    does_as _ _ _ _ _ run (list_acts a.limit room a.t.families a.t.registers l a.regs.now q b c.top_scope-scope.result c.top_scope-scope.ensures a.at a.tag (slice a.at a.next l) content c.requires.program_value (⊎_map (λ h. omega (arith, h.taken)) (λ h. ltb-true 6 a.tag h.1.taken) c.then-tag-eq0.branch)) (rw c.top_mode-mode.ensures at c.once.ensures)
+    does_as _ _ _ _ _ run (list_acts a.limit room a.t.families a.t.registers l a.regs.now q b c.top_scope-scope.result c.top_scope-scope.ensures a.at a.tag (slice a.at a.next l) content c.requires.program_value (⊎_map (λ h. omega (arith, h)) (λ h. h.1) c.then-tag-eq0.either)) (rw c.top_mode-mode.ensures at c.once.ensures)
 
 pub returns-in_default : goal.returns-in_default
 returns-in_default c =

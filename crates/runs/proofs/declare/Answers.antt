@@ -22,7 +22,7 @@ register-requires c =
 pub returns-then-tag-eq2 : goal.returns-then-tag-eq2
 returns-then-tag-eq2 c =
     let e = c.if-tag-eq2.true in
-    record { family = λ h. absurd (omega (arith, e, h)); quantum = λ _. c.register.ensures; classical = λ h. absurd (omega (arith, e, h)) }
+    record { family = λ h. absurd (omega (arith, e, h)); quantum = λ _. (c.register.ensures.value, c.register.ensures.regs_after); classical = λ h. absurd (omega (arith, e, h)) }
 
 pub register-requires-2 : goal.register-requires-2
 unfolding total_of
@@ -32,4 +32,4 @@ register-requires-2 c =
 
 pub returns : goal.returns
 returns c =
-    record { family = λ h. absurd (c.if-tag-eq1.false h); quantum = λ h. absurd (c.if-tag-eq2.false h); classical = λ _. c.register-2.ensures }
+    record { family = λ h. absurd (c.if-tag-eq1.false h); quantum = λ h. absurd (c.if-tag-eq2.false h); classical = λ _. (c.register-2.ensures.value, c.register-2.ensures.regs_after) }

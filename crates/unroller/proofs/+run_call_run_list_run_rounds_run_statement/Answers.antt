@@ -37,44 +37,44 @@ use Rattle.unroller.proofs.+run_call_run_list_run_rounds_run_statement.Goals as 
 
 pub run_call-called_family-requires : goal.run_call-called_family-requires
 run_call-called_family-requires t c =
-    (c.requires.from_value.order, c.requires.from_value.within)
+    (c.requires.ready.order, c.requires.ready.within)
 
 pub run_call-returns-in_default : goal.run_call-returns-in_default
 run_call-returns-in_default t c =
     let a = c.args in
     let l = a.bytes.now in
-    let ready = c.requires.from_value in
-    let en = c.requires.enterable.1.0 in
+    let ready = c.requires.ready in
+    let en = c.requires.enterable.0 in
     let g = a.program.now in
     let vs = take a.mode.variables a.vars.now in
     let room = length a.out.now in
     let none = calls_none a.tag a.from (slice a.from a.to l) (operands_of a.scope a.regs.now) c.called_family.result c.called_family.ensures c.in_default.is in
-    (λ s q. does_as _ _ _ _ _ (one_run a.mode room a.place a.tag (slice a.from a.to l) g (frame_in a.mode vs a.scope a.regs.now)) (call_nothing a.mode room a.base a.from a.to a.place a.tag l g vs a.scope a.regs.now ready en.deep c.requires.enterable.1.1 en.named none) (step_taken a.mode.limit room a.out.now s a.st a.place _ _ _ q.step.left q.step.same q.step.more (does_stuck a.out.now a.st _)))
+    (λ s q. does_as _ _ _ _ _ (one_run a.mode room a.place a.tag (slice a.from a.to l) g (frame_in a.mode vs a.scope a.regs.now)) (call_nothing a.mode room a.base a.from a.to a.place a.tag l g vs a.scope a.regs.now ready en.deep c.requires.enterable.1 en.named none) (step_taken a.mode.limit room a.out.now s a.st a.place _ _ _ q.step.left q.step.same q.step.more (does_stuck a.out.now a.st _)))
 
 pub run_call-returns-then-mode-number : goal.run_call-returns-then-mode-number
 run_call-returns-then-mode-number t c =
     let a = c.args in
     let l = a.bytes.now in
-    let ready = c.requires.from_value in
-    let en = c.requires.enterable.1.0 in
+    let ready = c.requires.ready in
+    let en = c.requires.enterable.0 in
     let g = a.program.now in
     let vs = take a.mode.variables a.vars.now in
     let room = length a.out.now in
-    let tb = c.requires.enterable.0 in
+    let tb = c.requires.tabled in
     let k = c.in-Family.number in
     let first = c.in-Family.first in
     let named : CallsFamily a.tag a.from (slice a.from a.to l) (operands_of a.scope a.regs.now) k first = calls_family _ _ _ _ c.called_family.result c.called_family.ensures k first c.in-Family.is in
-    (λ s q. does_as _ _ _ _ _ (one_run a.mode room a.place a.tag (slice a.from a.to l) g (frame_in a.mode vs a.scope a.regs.now)) (call_none a.mode room a.base a.from a.to a.place a.tag l g vs a.scope a.regs.now ready en.deep c.requires.enterable.1.1 k first named c.if-mode-number.true) (step_taken a.mode.limit room a.out.now s a.st a.place _ _ _ q.step.left q.step.same q.step.more (does_stuck a.out.now a.st _)))
+    (λ s q. does_as _ _ _ _ _ (one_run a.mode room a.place a.tag (slice a.from a.to l) g (frame_in a.mode vs a.scope a.regs.now)) (call_none a.mode room a.base a.from a.to a.place a.tag l g vs a.scope a.regs.now ready en.deep c.requires.enterable.1 k first named c.if-mode-number.true) (step_taken a.mode.limit room a.out.now s a.st a.place _ _ _ q.step.left q.step.same q.step.more (does_stuck a.out.now a.st _)))
 
 pub run_call-listed-at-requires : goal.run_call-listed-at-requires
 run_call-listed-at-requires t c =
-    omega (arith, c.if-mode-number.false, c.requires.enterable.0.many)
+    omega (arith, c.if-mode-number.false, c.requires.tabled.many)
 
 pub run_call-arguments-requires : goal.run_call-arguments-requires
 run_call-arguments-requires t c =
     let a = c.args in
-    let ready = c.requires.from_value in
-    let tb = c.requires.enterable.0 in
+    let ready = c.requires.ready in
+    let tb = c.requires.tabled in
     let k = c.in-Family.number in
     let e : Entry a.program.now k c.listed-at.result = rw c.listed-at.ensures (tb.each k c.if-mode-number.false) in
     record {
@@ -85,18 +85,18 @@ run_call-arguments-requires t c =
 
 pub run_call-overflow_cast-result : goal.run_call-overflow_cast-result
 run_call-overflow_cast-result t c =
-    omega (arith, c.requires.from_value.here)
+    omega (arith, c.requires.ready.here)
 
 pub run_call-body_of-body-requires : goal.run_call-body_of-body-requires
 run_call-body_of-body-requires t c =
     let a = c.args in
     let l = a.bytes.now in
-    let ready = c.requires.from_value in
-    let en = c.requires.enterable.1.0 in
+    let ready = c.requires.ready in
+    let en = c.requires.enterable.0 in
     let g = a.program.now in
     let vs = take a.mode.variables a.vars.now in
     let room = length a.out.now in
-    let tb = c.requires.enterable.0 in
+    let tb = c.requires.tabled in
     let k = c.in-Family.number in
     let first = c.in-Family.first in
     let named : CallsFamily a.tag a.from (slice a.from a.to l) (operands_of a.scope a.regs.now) k first = calls_family _ _ _ _ c.called_family.result c.called_family.ensures k first c.in-Family.is in
@@ -106,7 +106,7 @@ run_call-body_of-body-requires t c =
     let ar : Arguments (slice first a.to l) g at vs (operands_of a.scope a.regs.now) _ _ c.arguments.result = rw c.wide-many.ensures.0 at c.arguments.ensures in
     let n = c.in-All.count in
     let start = c.in-All.start in
-    let bf = call_begins a.mode room a.base a.from a.to a.place a.tag l g vs a.scope a.regs.now ready en.deep c.requires.enterable.1.1 k first named at below e _ _ c.arguments.result ar n start c.in-All.is in
+    let bf = call_begins a.mode room a.base a.from a.to a.place a.tag l g vs a.scope a.regs.now ready en.deep c.requires.enterable.1 k first named at below e _ _ c.arguments.result ar n start c.in-All.is in
     record {
       family_head = head_of e;
       body_from = bf;
@@ -115,8 +115,8 @@ run_call-body_of-body-requires t c =
 pub run_call-overflow_add-at : goal.run_call-overflow_add-at
 run_call-overflow_add-at t c =
     let a = c.args in
-    let ready = c.requires.from_value in
-    let tb = c.requires.enterable.0 in
+    let ready = c.requires.ready in
+    let tb = c.requires.tabled in
     let k = c.in-Family.number in
     let e : Entry a.program.now k c.listed-at.result = rw c.listed-at.ensures (tb.each k c.if-mode-number.false) in
     omega (arith, e.long, e.within)
@@ -124,8 +124,8 @@ run_call-overflow_add-at t c =
 pub run_call-bounds-program-at : goal.run_call-bounds-program-at
 run_call-bounds-program-at t c =
     let a = c.args in
-    let ready = c.requires.from_value in
-    let tb = c.requires.enterable.0 in
+    let ready = c.requires.ready in
+    let tb = c.requires.tabled in
     let k = c.in-Family.number in
     let e : Entry a.program.now k c.listed-at.result = rw c.listed-at.ensures (tb.each k c.if-mode-number.false) in
     omega (arith, e.long, e.within)
@@ -135,12 +135,12 @@ unfolding Often
 run_call-run_list-requires t c =
     let a = c.args in
     let l = a.bytes.now in
-    let ready = c.requires.from_value in
-    let en = c.requires.enterable.1.0 in
+    let ready = c.requires.ready in
+    let en = c.requires.enterable.0 in
     let g = a.program.now in
     let vs = take a.mode.variables a.vars.now in
     let room = length a.out.now in
-    let tb = c.requires.enterable.0 in
+    let tb = c.requires.tabled in
     let k = c.in-Family.number in
     let first = c.in-Family.first in
     let named : CallsFamily a.tag a.from (slice a.from a.to l) (operands_of a.scope a.regs.now) k first = calls_family _ _ _ _ c.called_family.result c.called_family.ensures k first c.in-Family.is in
@@ -150,21 +150,21 @@ run_call-run_list-requires t c =
     let ar : Arguments (slice first a.to l) g at vs (operands_of a.scope a.regs.now) _ _ c.arguments.result = rw c.wide-many.ensures.0 at c.arguments.ensures in
     let n = c.in-All.count in
     let start = c.in-All.start in
-    let bf = call_begins a.mode room a.base a.from a.to a.place a.tag l g vs a.scope a.regs.now ready en.deep c.requires.enterable.1.1 k first named at below e _ _ c.arguments.result ar n start c.in-All.is in
+    let bf = call_begins a.mode room a.base a.from a.to a.place a.tag l g vs a.scope a.regs.now ready en.deep c.requires.enterable.1 k first named at below e _ _ c.arguments.result ar n start c.in-All.is in
     let part_is : c.body_of-body.result.now ≡ slice start (past_of g at) g = c.body_of-body.ensures in
     let long : length c.body_of-body.result.now ≡ past_of g at - start = ap (λ (x : List ℕ). length x) part_is ∙ length-slice start (past_of g at) g e.within in
-    rw c.entered-inner.ensures (omega (arith, c.requires.ready, below, long, tb.short, e.within), (record { few = omega (arith, e.variables); order = omega arith; within = omega arith; near = omega (arith, long, bf.high, e.within, tb.short); here = ready.here }, (tabled_fewer g a.table.now a.mode.families_visible k (omega (arith, below)) tb, refl)))
+    rw c.entered-inner.ensures (omega (arith, c.decreases, below, long, tb.short, e.within), (record { few = omega (arith, e.variables); order = omega arith; within = omega arith; near = omega (arith, long, bf.high, e.within, tb.short); here = ready.here }, (tabled_fewer g a.table.now a.mode.families_visible k (omega (arith, below)) tb, refl)))
 
 pub run_call-returns-in-Over : goal.run_call-returns-in-Over
 run_call-returns-in-Over t c =
     let a = c.args in
     let l = a.bytes.now in
-    let ready = c.requires.from_value in
-    let en = c.requires.enterable.1.0 in
+    let ready = c.requires.ready in
+    let en = c.requires.enterable.0 in
     let g = a.program.now in
     let vs = take a.mode.variables a.vars.now in
     let room = length a.out.now in
-    let tb = c.requires.enterable.0 in
+    let tb = c.requires.tabled in
     let k = c.in-Family.number in
     let first = c.in-Family.first in
     let named : CallsFamily a.tag a.from (slice a.from a.to l) (operands_of a.scope a.regs.now) k first = calls_family _ _ _ _ c.called_family.result c.called_family.ensures k first c.in-Family.is in
@@ -172,18 +172,18 @@ run_call-returns-in-Over t c =
     let at = c.listed-at.result in
     let e : Entry g k at = rw c.listed-at.ensures (tb.each k below) in
     let ar : Arguments (slice first a.to l) g at vs (operands_of a.scope a.regs.now) _ _ c.arguments.result = rw c.wide-many.ensures.0 at c.arguments.ensures in
-    (λ s q. does_as _ _ _ _ _ (one_run a.mode room a.place a.tag (slice a.from a.to l) g (frame_in a.mode vs a.scope a.regs.now)) (call_over a.mode room a.base a.from a.to a.place a.tag l g vs a.scope a.regs.now ready en.deep c.requires.enterable.1.1 k first named at below e _ _ c.arguments.result ar c.in-Over.is) (step_taken a.mode.limit room a.out.now s a.st a.place _ _ _ q.step.left q.step.same q.step.more (does_end a.out.now a.st 24 a.place)))
+    (λ s q. does_as _ _ _ _ _ (one_run a.mode room a.place a.tag (slice a.from a.to l) g (frame_in a.mode vs a.scope a.regs.now)) (call_over a.mode room a.base a.from a.to a.place a.tag l g vs a.scope a.regs.now ready en.deep c.requires.enterable.1 k first named at below e _ _ c.arguments.result ar c.in-Over.is) (step_taken a.mode.limit room a.out.now s a.st a.place _ _ _ q.step.left q.step.same q.step.more (does_end a.out.now a.st 24 a.place)))
 
 pub run_call-returns-in-Stuck : goal.run_call-returns-in-Stuck
 run_call-returns-in-Stuck t c =
     let a = c.args in
     let l = a.bytes.now in
-    let ready = c.requires.from_value in
-    let en = c.requires.enterable.1.0 in
+    let ready = c.requires.ready in
+    let en = c.requires.enterable.0 in
     let g = a.program.now in
     let vs = take a.mode.variables a.vars.now in
     let room = length a.out.now in
-    let tb = c.requires.enterable.0 in
+    let tb = c.requires.tabled in
     let k = c.in-Family.number in
     let first = c.in-Family.first in
     let named : CallsFamily a.tag a.from (slice a.from a.to l) (operands_of a.scope a.regs.now) k first = calls_family _ _ _ _ c.called_family.result c.called_family.ensures k first c.in-Family.is in
@@ -191,7 +191,7 @@ run_call-returns-in-Stuck t c =
     let at = c.listed-at.result in
     let e : Entry g k at = rw c.listed-at.ensures (tb.each k below) in
     let ar : Arguments (slice first a.to l) g at vs (operands_of a.scope a.regs.now) _ _ c.arguments.result = rw c.wide-many.ensures.0 at c.arguments.ensures in
-    (λ s q. does_as _ _ _ _ _ (one_run a.mode room a.place a.tag (slice a.from a.to l) g (frame_in a.mode vs a.scope a.regs.now)) (call_stuck a.mode room a.base a.from a.to a.place a.tag l g vs a.scope a.regs.now ready en.deep c.requires.enterable.1.1 k first named at below e _ _ c.arguments.result ar c.in-Stuck.is) (step_taken a.mode.limit room a.out.now s a.st a.place _ _ _ q.step.left q.step.same q.step.more (does_stuck a.out.now a.st _)))
+    (λ s q. does_as _ _ _ _ _ (one_run a.mode room a.place a.tag (slice a.from a.to l) g (frame_in a.mode vs a.scope a.regs.now)) (call_stuck a.mode room a.base a.from a.to a.place a.tag l g vs a.scope a.regs.now ready en.deep c.requires.enterable.1 k first named at below e _ _ c.arguments.result ar c.in-Stuck.is) (step_taken a.mode.limit room a.out.now s a.st a.place _ _ _ q.step.left q.step.same q.step.more (does_stuck a.out.now a.st _)))
 
 pub run_call-shape_of-out : goal.run_call-shape_of-out
 run_call-shape_of-out t c =
@@ -201,12 +201,12 @@ pub run_call-returns-in-All : goal.run_call-returns-in-All
 run_call-returns-in-All t c =
     let a = c.args in
     let l = a.bytes.now in
-    let ready = c.requires.from_value in
-    let en = c.requires.enterable.1.0 in
+    let ready = c.requires.ready in
+    let en = c.requires.enterable.0 in
     let g = a.program.now in
     let vs = take a.mode.variables a.vars.now in
     let room = length a.out.now in
-    let tb = c.requires.enterable.0 in
+    let tb = c.requires.tabled in
     let k = c.in-Family.number in
     let first = c.in-Family.first in
     let named : CallsFamily a.tag a.from (slice a.from a.to l) (operands_of a.scope a.regs.now) k first = calls_family _ _ _ _ c.called_family.result c.called_family.ensures k first c.in-Family.is in
@@ -218,7 +218,7 @@ run_call-returns-in-All t c =
     let start = c.in-All.start in
     let part_is : c.body_of-body.result.now ≡ slice start (past_of g at) g = c.body_of-body.ensures in
     let d = rw c.entered-inner.ensures at c.run_list.ensures in
-    (λ s q. does_as _ _ _ _ _ (one_run a.mode room a.place a.tag (slice a.from a.to l) g (frame_in a.mode vs a.scope a.regs.now)) (call_all a.mode room a.base a.from a.to a.place a.tag l g vs a.scope a.regs.now ready en.deep c.requires.enterable.1.1 k first named at below e _ _ c.arguments.result ar n start c.in-All.is c.scope_of.result c.scope_of.ensures c.body_of-body.result.now part_is) (step_taken a.mode.limit room a.out.now s a.st a.place _ _ _ q.step.left q.step.same q.step.more d.0))
+    (λ s q. does_as _ _ _ _ _ (one_run a.mode room a.place a.tag (slice a.from a.to l) g (frame_in a.mode vs a.scope a.regs.now)) (call_all a.mode room a.base a.from a.to a.place a.tag l g vs a.scope a.regs.now ready en.deep c.requires.enterable.1 k first named at below e _ _ c.arguments.result ar n start c.in-All.is c.scope_of.result c.scope_of.ensures c.body_of-body.result.now part_is) (step_taken a.mode.limit room a.out.now s a.st a.place _ _ _ q.step.left q.step.same q.step.more d.0))
 
 pub run_list-loop-w-init : goal.run_list-loop-w-init
 run_list-loop-w-init t c =
@@ -226,9 +226,9 @@ run_list-loop-w-init t c =
     let l = a.bytes.now in
     let g = a.program.now in
     let X : ℤ = to_z w64 (of_z w64 a.start) in
-    let ready = c.requires.tabled in
+    let ready = c.requires.ready in
     let reversed = sym (to_z-of_z w64 a.start c.ranges.start) in
-    let often = subst (λ (z : ℤ). Often a.looping a.mode z a.total) reversed c.requires.often.1 in
+    let often = subst (λ (z : ℤ). Often a.looping a.mode z a.total) reversed c.requires.often in
     rw c.whole-w.ensures (M.starts a.looping a.mode a.base a.from a.to a.place X a.total l g a.vars.now a.scope a.regs.now a.out.now a.st often ready.order ready.within _)
 
 pub run_list-shape_of-out-then-total-i : goal.run_list-shape_of-out-then-total-i
@@ -241,9 +241,9 @@ run_list-returns-then-total-i t c =
     let l = a.bytes.now in
     let g = a.program.now in
     let X : ℤ = to_z w64 (of_z w64 a.start) in
-    let ready = c.requires.tabled in
+    let ready = c.requires.ready in
     let reversed = sym (to_z-of_z w64 a.start c.ranges.start) in
-    let often = subst (λ (z : ℤ). Often a.looping a.mode z a.total) reversed c.requires.often.1 in
+    let often = subst (λ (z : ℤ). Often a.looping a.mode z a.total) reversed c.requires.often in
     let i = c.loop-w in
     (does_as _ _ _ _ _ (times_run a.looping a.mode (length a.out.now) a.base a.from a.to a.place a.start a.total l g (frame_in a.mode (take (kept_in a.mode a.looping) a.vars.now) a.scope a.regs.now)) (ap (λ (z : ℤ). (times_run a.looping a.mode (length a.out.now) a.base a.from a.to a.place z a.total l g (frame_in a.mode (take (kept_in a.mode a.looping) a.vars.now) a.scope a.regs.now))) reversed) (M.ends a.looping a.mode a.base a.from a.to a.place X a.total l g a.vars.now a.scope a.regs.now a.out.now a.st i.vars i.out i.cuts i.w i.i i.s i.invariant c.if-w.true c.if-total-i.true), i.invariant.kept)
 
@@ -253,9 +253,9 @@ run_list-begin_round-r-requires t c =
     let l = a.bytes.now in
     let g = a.program.now in
     let X : ℤ = to_z w64 (of_z w64 a.start) in
-    let ready = c.requires.tabled in
+    let ready = c.requires.ready in
     let reversed = sym (to_z-of_z w64 a.start c.ranges.start) in
-    let often = subst (λ (z : ℤ). Often a.looping a.mode z a.total) reversed c.requires.often.1 in
+    let often = subst (λ (z : ℤ). Often a.looping a.mode z a.total) reversed c.requires.often in
     let i = c.loop-w in
     record {
       place_le_longest_program = (omega (arith, ready.here, ready.near), omega (arith, ready.few));
@@ -272,9 +272,9 @@ run_list-returns-in_default t c =
     let l = a.bytes.now in
     let g = a.program.now in
     let X : ℤ = to_z w64 (of_z w64 a.start) in
-    let ready = c.requires.tabled in
+    let ready = c.requires.ready in
     let reversed = sym (to_z-of_z w64 a.start c.ranges.start) in
-    let often = subst (λ (z : ℤ). Often a.looping a.mode z a.total) reversed c.requires.often.1 in
+    let often = subst (λ (z : ℤ). Often a.looping a.mode z a.total) reversed c.requires.often in
     let i = c.loop-w in
     (does_as _ _ _ _ _ (times_run a.looping a.mode (length a.out.now) a.base a.from a.to a.place a.start a.total l g (frame_in a.mode (take (kept_in a.mode a.looping) a.vars.now) a.scope a.regs.now)) (ap (λ (z : ℤ). (times_run a.looping a.mode (length a.out.now) a.base a.from a.to a.place z a.total l g (frame_in a.mode (take (kept_in a.mode a.looping) a.vars.now) a.scope a.regs.now))) reversed) (M.refuses a.looping a.mode a.base a.from a.to a.place X a.total l g a.vars.now a.scope a.regs.now a.out.now a.st i.vars i.out i.cuts i.w i.i i.s i.invariant c.if-w.true c.if-total-i.false _ c.begin_round-r.result c.begin_round-r.ensures (opened c.in_default.in_default-own.keys2)), M.stays a.looping a.mode a.base a.from a.to a.place X a.total l g a.vars.now a.scope a.regs.now a.out.now a.st i.vars i.out i.cuts i.w i.i i.s i.invariant c.if-w.true c.if-total-i.false _ c.begin_round-r.result c.begin_round-r.ensures)
 
@@ -284,9 +284,9 @@ run_list-begin-requires t c =
     let l = a.bytes.now in
     let g = a.program.now in
     let X : ℤ = to_z w64 (of_z w64 a.start) in
-    let ready = c.requires.tabled in
+    let ready = c.requires.ready in
     let reversed = sym (to_z-of_z w64 a.start c.ranges.start) in
-    let often = subst (λ (z : ℤ). Often a.looping a.mode z a.total) reversed c.requires.often.1 in
+    let often = subst (λ (z : ℤ). Often a.looping a.mode z a.total) reversed c.requires.often in
     (ready.order, ready.within, omega (arith, ready.within, ready.near))
 
 pub run_list-shape_of-out-in_default-begin : goal.run_list-shape_of-out-in_default-begin
@@ -299,9 +299,9 @@ run_list-returns-in_default-begin t c =
     let l = a.bytes.now in
     let g = a.program.now in
     let X : ℤ = to_z w64 (of_z w64 a.start) in
-    let ready = c.requires.tabled in
+    let ready = c.requires.ready in
     let reversed = sym (to_z-of_z w64 a.start c.ranges.start) in
-    let often = subst (λ (z : ℤ). Often a.looping a.mode z a.total) reversed c.requires.often.1 in
+    let often = subst (λ (z : ℤ). Often a.looping a.mode z a.total) reversed c.requires.often in
     let i = c.loop-w in
     (does_as _ _ _ _ _ (times_run a.looping a.mode (length a.out.now) a.base a.from a.to a.place a.start a.total l g (frame_in a.mode (take (kept_in a.mode a.looping) a.vars.now) a.scope a.regs.now)) (ap (λ (z : ℤ). (times_run a.looping a.mode (length a.out.now) a.base a.from a.to a.place z a.total l g (frame_in a.mode (take (kept_in a.mode a.looping) a.vars.now) a.scope a.regs.now))) reversed) (M.breaks a.looping a.mode a.base a.from a.to a.place X a.total l g a.vars.now a.scope a.regs.now a.out.now a.st i.vars i.out i.cuts i.w i.i i.s i.invariant c.if-w.true c.if-total-i.false _ c.begin_round-r.result c.begin_round-r.ensures often c.in-Going.t c.in-Going.is _ c.begin.result c.begin.ensures c.in_default-begin.is _), M.stays a.looping a.mode a.base a.from a.to a.place X a.total l g a.vars.now a.scope a.regs.now a.out.now a.st i.vars i.out i.cuts i.w i.i i.s i.invariant c.if-w.true c.if-total-i.false _ c.begin_round-r.result c.begin_round-r.ensures)
 
@@ -316,9 +316,9 @@ run_list-loop-w-smaller-then-w t c =
     let l = a.bytes.now in
     let g = a.program.now in
     let X : ℤ = to_z w64 (of_z w64 a.start) in
-    let ready = c.requires.tabled in
+    let ready = c.requires.ready in
     let reversed = sym (to_z-of_z w64 a.start c.ranges.start) in
-    let often = subst (λ (z : ℤ). Often a.looping a.mode z a.total) reversed c.requires.often.1 in
+    let often = subst (λ (z : ℤ). Often a.looping a.mode z a.total) reversed c.requires.often in
     let i = c.loop-w in
     rw c.whole-w-then-w.ensures (omega (arith, c.if-w.true, c.if-total-i.false, ready.near, ready.within))
 
@@ -328,9 +328,9 @@ run_list-loop-w-preserved-then-w t c =
     let l = a.bytes.now in
     let g = a.program.now in
     let X : ℤ = to_z w64 (of_z w64 a.start) in
-    let ready = c.requires.tabled in
+    let ready = c.requires.ready in
     let reversed = sym (to_z-of_z w64 a.start c.ranges.start) in
-    let often = subst (λ (z : ℤ). Often a.looping a.mode z a.total) reversed c.requires.often.1 in
+    let often = subst (λ (z : ℤ). Often a.looping a.mode z a.total) reversed c.requires.often in
     let i = c.loop-w in
     rw c.whole-w-then-w.ensures (M.begins a.looping a.mode a.base a.from a.to a.place X a.total l g a.vars.now a.scope a.regs.now a.out.now a.st i.vars i.out i.cuts i.w i.i i.s i.invariant c.if-w.true c.if-total-i.false _ c.begin_round-r.result c.begin_round-r.ensures often c.in-Going.t c.in-Going.is _ c.begin.result c.begin.ensures ready.order _ _ c.in-With.is)
 
@@ -340,9 +340,9 @@ run_list-seek-w-requires t c =
     let l = a.bytes.now in
     let g = a.program.now in
     let X : ℤ = to_z w64 (of_z w64 a.start) in
-    let ready = c.requires.tabled in
+    let ready = c.requires.ready in
     let reversed = sym (to_z-of_z w64 a.start c.ranges.start) in
-    let often = subst (λ (z : ℤ). Often a.looping a.mode z a.total) reversed c.requires.often.1 in
+    let often = subst (λ (z : ℤ). Often a.looping a.mode z a.total) reversed c.requires.often in
     let i = c.loop-w in
     (i.invariant.walking, c.if-w.false, omega (arith, i.invariant.high, ready.within, ready.near))
 
@@ -352,9 +352,9 @@ run_list-header_at-requires t c =
     let l = a.bytes.now in
     let g = a.program.now in
     let X : ℤ = to_z w64 (of_z w64 a.start) in
-    let ready = c.requires.tabled in
+    let ready = c.requires.ready in
     let reversed = sym (to_z-of_z w64 a.start c.ranges.start) in
-    let often = subst (λ (z : ℤ). Often a.looping a.mode z a.total) reversed c.requires.often.1 in
+    let often = subst (λ (z : ℤ). Often a.looping a.mode z a.total) reversed c.requires.often in
     next_within l a.mode.reversed c.seek-w.result _ c.seek-w.ensures.next
 
 pub run_list-shape_of-out-in_default-header_at : goal.run_list-shape_of-out-in_default-header_at
@@ -367,9 +367,9 @@ run_list-returns-in_default-header_at t c =
     let l = a.bytes.now in
     let g = a.program.now in
     let X : ℤ = to_z w64 (of_z w64 a.start) in
-    let ready = c.requires.tabled in
+    let ready = c.requires.ready in
     let reversed = sym (to_z-of_z w64 a.start c.ranges.start) in
-    let often = subst (λ (z : ℤ). Often a.looping a.mode z a.total) reversed c.requires.often.1 in
+    let often = subst (λ (z : ℤ). Often a.looping a.mode z a.total) reversed c.requires.often in
     let i = c.loop-w in
     (does_as _ _ _ _ _ (times_run a.looping a.mode (length a.out.now) a.base a.from a.to a.place a.start a.total l g (frame_in a.mode (take (kept_in a.mode a.looping) a.vars.now) a.scope a.regs.now)) (ap (λ (z : ℤ). (times_run a.looping a.mode (length a.out.now) a.base a.from a.to a.place z a.total l g (frame_in a.mode (take (kept_in a.mode a.looping) a.vars.now) a.scope a.regs.now))) reversed) (M.cut a.looping a.mode a.base a.from a.to a.place X a.total l g a.vars.now a.scope a.regs.now a.out.now a.st i.vars i.out i.cuts i.w i.i i.s i.invariant c.if-w.false c.seek-w.result _ c.seek-w.ensures (rw c.header_at.ensures at (opened c.in_default-header_at.in_default-header_at-own.keys2)) _), i.invariant.kept)
 
@@ -379,9 +379,9 @@ run_list-overflow_add-content t c =
     let l = a.bytes.now in
     let g = a.program.now in
     let X : ℤ = to_z w64 (of_z w64 a.start) in
-    let ready = c.requires.tabled in
+    let ready = c.requires.ready in
     let reversed = sym (to_z-of_z w64 a.start c.ranges.start) in
-    let often = subst (λ (z : ℤ). Often a.looping a.mode z a.total) reversed c.requires.often.1 in
+    let often = subst (λ (z : ℤ). Often a.looping a.mode z a.total) reversed c.requires.often in
     let i = c.loop-w in
     let v = c.seek-w.result in
     let tag = c.in-Whole.tag in
@@ -396,9 +396,9 @@ run_list-overflow_add-at t c =
     let l = a.bytes.now in
     let g = a.program.now in
     let X : ℤ = to_z w64 (of_z w64 a.start) in
-    let ready = c.requires.tabled in
+    let ready = c.requires.ready in
     let reversed = sym (to_z-of_z w64 a.start c.ranges.start) in
-    let often = subst (λ (z : ℤ). Often a.looping a.mode z a.total) reversed c.requires.often.1 in
+    let often = subst (λ (z : ℤ). Often a.looping a.mode z a.total) reversed c.requires.often in
     let i = c.loop-w in
     let v = c.seek-w.result in
     let tag = c.in-Whole.tag in
@@ -413,16 +413,16 @@ run_list-run_statement-r-requires t c =
     let l = a.bytes.now in
     let g = a.program.now in
     let X : ℤ = to_z w64 (of_z w64 a.start) in
-    let ready = c.requires.tabled in
+    let ready = c.requires.ready in
     let reversed = sym (to_z-of_z w64 a.start c.ranges.start) in
-    let often = subst (λ (z : ℤ). Often a.looping a.mode z a.total) reversed c.requires.often.1 in
+    let often = subst (λ (z : ℤ). Often a.looping a.mode z a.total) reversed c.requires.often in
     let i = c.loop-w in
     let v = c.seek-w.result in
     let tag = c.in-Whole.tag in
     let end = c.in-Whole.next in
     let is : header_of v.here (fields_at l v.here v.to) ≡ Whole tag end = sym c.header_at.ensures ∙ c.in-Whole.is in
     let spot = M.spot a.looping a.mode a.base a.from a.to a.place X a.total l g a.vars.now a.scope a.regs.now a.out.now a.st i.vars i.out i.cuts i.w i.i i.s i.invariant c.if-w.false c.seek-w.result _ c.seek-w.ensures tag end is in
-    (omega (arith, c.requires.ready, spot.inside, spot.past, spot.sooner), (record { few = ready.few; order = spot.inside; within = spot.within; near = ready.near; here = omega (arith, spot.inside, spot.within, ready.near) }, (omega arith, c.requires.often.0)))
+    (omega (arith, c.decreases, spot.inside, spot.past, spot.sooner), (record { few = ready.few; order = spot.inside; within = spot.within; near = ready.near; here = omega (arith, spot.inside, spot.within, ready.near) }, (omega arith, c.requires.tabled)))
 
 pub run_list-shape_of-out-in_default-r : goal.run_list-shape_of-out-in_default-r
 run_list-shape_of-out-in_default-r t c =
@@ -434,9 +434,9 @@ run_list-returns-in_default-r t c =
     let l = a.bytes.now in
     let g = a.program.now in
     let X : ℤ = to_z w64 (of_z w64 a.start) in
-    let ready = c.requires.tabled in
+    let ready = c.requires.ready in
     let reversed = sym (to_z-of_z w64 a.start c.ranges.start) in
-    let often = subst (λ (z : ℤ). Often a.looping a.mode z a.total) reversed c.requires.often.1 in
+    let often = subst (λ (z : ℤ). Often a.looping a.mode z a.total) reversed c.requires.often in
     let i = c.loop-w in
     let v = c.seek-w.result in
     let tag = c.in-Whole.tag in
@@ -450,9 +450,9 @@ run_list-loop-w-smaller t c =
     let l = a.bytes.now in
     let g = a.program.now in
     let X : ℤ = to_z w64 (of_z w64 a.start) in
-    let ready = c.requires.tabled in
+    let ready = c.requires.ready in
     let reversed = sym (to_z-of_z w64 a.start c.ranges.start) in
-    let often = subst (λ (z : ℤ). Often a.looping a.mode z a.total) reversed c.requires.often.1 in
+    let often = subst (λ (z : ℤ). Often a.looping a.mode z a.total) reversed c.requires.often in
     let i = c.loop-w in
     let v = c.seek-w.result in
     let tag = c.in-Whole.tag in
@@ -467,9 +467,9 @@ run_list-loop-w-preserved t c =
     let l = a.bytes.now in
     let g = a.program.now in
     let X : ℤ = to_z w64 (of_z w64 a.start) in
-    let ready = c.requires.tabled in
+    let ready = c.requires.ready in
     let reversed = sym (to_z-of_z w64 a.start c.ranges.start) in
-    let often = subst (λ (z : ℤ). Often a.looping a.mode z a.total) reversed c.requires.often.1 in
+    let often = subst (λ (z : ℤ). Often a.looping a.mode z a.total) reversed c.requires.often in
     let i = c.loop-w in
     let v = c.seek-w.result in
     let tag = c.in-Whole.tag in
@@ -480,13 +480,13 @@ run_list-loop-w-preserved t c =
 pub run_rounds-inmost-e-requires : goal.run_rounds-inmost-e-requires
 run_rounds-inmost-e-requires t c =
     let a = c.args in
-    let ready = c.requires.from_value in
-    let at = c.requires.tabled in
+    let ready = c.requires.ready in
+    let at = c.requires.from_value in
     record {
       ready = record { few = ready.few; order = ready.order; within = ready.within; near = ready.near; here = omega (arith, ready.here, at) };
       behind = omega (arith, at);
-      enterable = c.requires.enterable.1.0;
-      bodied = c.requires.enterable.1.1;
+      enterable = c.requires.enterable.0;
+      bodied = c.requires.enterable.1;
     }
 
 pub run_rounds-overflow_add-past : goal.run_rounds-overflow_add-past
@@ -554,7 +554,7 @@ run_rounds-run_list-requires t c =
     let total = c.in-Are.total in
     let body = c.in-Are.body in
     let o = loop_opens e.mode room a.base e.from a.to here e.tag l g vs a.scope a.regs.now en.deep past at c.repeats_of.result rep ready.order st0 total body c.in-Are.is in
-    rw (c.inner-n.ensures, range_back {z = st0} o.ranged) (omega (arith, c.requires.ready, o.low, c.inmost-e.ensures.later, c.inmost-e.ensures.visible, inner_seen e.mode e.tag), (record { few = inner_few e.mode e.tag ready.few en.deep; order = o.high; within = ready.within; near = ready.near; here = ready.here }, (tabled_fewer g a.table.now a.mode.families_visible (inner_of e.mode e.tag).families_visible (omega (arith, c.inmost-e.ensures.visible, inner_seen e.mode e.tag)) c.requires.enterable.0, o.often)))
+    rw (c.inner-n.ensures, range_back {z = st0} o.ranged) (omega (arith, c.decreases, o.low, c.inmost-e.ensures.later, c.inmost-e.ensures.visible, inner_seen e.mode e.tag), (record { few = inner_few e.mode e.tag ready.few en.deep; order = o.high; within = ready.within; near = ready.near; here = ready.here }, (tabled_fewer g a.table.now a.mode.families_visible (inner_of e.mode e.tag).families_visible (omega (arith, c.inmost-e.ensures.visible, inner_seen e.mode e.tag)) c.requires.tabled, o.often)))
 
 pub run_rounds-returns-in-Over : goal.run_rounds-returns-in-Over
 run_rounds-returns-in-Over t c =
@@ -570,7 +570,7 @@ run_rounds-returns-in-Over t c =
     let here = a.base + e.from - 3 in
     let at : a.base + e.from ≡ here + 3 = omega (arith, c.inmost-e.ensures.able.behind) in
     let rep : Repeated l e.from a.to e.tag (take e.mode.variables vs) e.mode.reversed c.repeats_of.result = rw c.wide-many.ensures.0 at c.repeats_of.ensures in
-    (inside_does l a.base a.to _ e c.inmost-e.ensures a.place c.requires.tabled room g vs a.scope a.regs.now a.out.now _ _ (λ s q. does_as _ _ _ _ _ (one_run e.mode room here e.tag (slice e.from a.to l) g (frame_in e.mode (take e.mode.variables vs) a.scope a.regs.now)) (loop_over e.mode room a.base e.from a.to here e.tag l g vs a.scope a.regs.now en.deep past at c.repeats_of.result rep c.in-Over.is) (step_taken e.mode.limit room a.out.now s e.st here _ _ _ q.step.left q.step.same q.step.more (does_end a.out.now e.st 24 here))), refl)
+    (inside_does l a.base a.to _ e c.inmost-e.ensures a.place c.requires.from_value room g vs a.scope a.regs.now a.out.now _ _ (λ s q. does_as _ _ _ _ _ (one_run e.mode room here e.tag (slice e.from a.to l) g (frame_in e.mode (take e.mode.variables vs) a.scope a.regs.now)) (loop_over e.mode room a.base e.from a.to here e.tag l g vs a.scope a.regs.now en.deep past at c.repeats_of.result rep c.in-Over.is) (step_taken e.mode.limit room a.out.now s e.st here _ _ _ q.step.left q.step.same q.step.more (does_end a.out.now e.st 24 here))), refl)
 
 pub run_rounds-returns-in-Stuck : goal.run_rounds-returns-in-Stuck
 run_rounds-returns-in-Stuck t c =
@@ -586,7 +586,7 @@ run_rounds-returns-in-Stuck t c =
     let here = a.base + e.from - 3 in
     let at : a.base + e.from ≡ here + 3 = omega (arith, c.inmost-e.ensures.able.behind) in
     let rep : Repeated l e.from a.to e.tag (take e.mode.variables vs) e.mode.reversed c.repeats_of.result = rw c.wide-many.ensures.0 at c.repeats_of.ensures in
-    (inside_does l a.base a.to _ e c.inmost-e.ensures a.place c.requires.tabled room g vs a.scope a.regs.now a.out.now _ _ (λ s q. does_as _ _ _ _ _ (one_run e.mode room here e.tag (slice e.from a.to l) g (frame_in e.mode (take e.mode.variables vs) a.scope a.regs.now)) (loop_stuck e.mode room a.base e.from a.to here e.tag l g vs a.scope a.regs.now en.deep past at c.repeats_of.result rep c.in-Stuck.is) (step_taken e.mode.limit room a.out.now s e.st here _ _ _ q.step.left q.step.same q.step.more (does_stuck a.out.now e.st _))), refl)
+    (inside_does l a.base a.to _ e c.inmost-e.ensures a.place c.requires.from_value room g vs a.scope a.regs.now a.out.now _ _ (λ s q. does_as _ _ _ _ _ (one_run e.mode room here e.tag (slice e.from a.to l) g (frame_in e.mode (take e.mode.variables vs) a.scope a.regs.now)) (loop_stuck e.mode room a.base e.from a.to here e.tag l g vs a.scope a.regs.now en.deep past at c.repeats_of.result rep c.in-Stuck.is) (step_taken e.mode.limit room a.out.now s e.st here _ _ _ q.step.left q.step.same q.step.more (does_stuck a.out.now e.st _))), refl)
 
 pub run_rounds-shape_of-out : goal.run_rounds-shape_of-out
 run_rounds-shape_of-out t c =
@@ -611,11 +611,11 @@ run_rounds-returns-in-Are t c =
     let body = c.in-Are.body in
     let o = loop_opens e.mode room a.base e.from a.to here e.tag l g vs a.scope a.regs.now en.deep past at c.repeats_of.result rep ready.order st0 total body c.in-Are.is in
     let d = rw (c.inner-n.ensures, range_back {z = st0} o.ranged) at c.run_list.ensures in
-    (inside_does l a.base a.to _ e c.inmost-e.ensures a.place c.requires.tabled room g vs a.scope a.regs.now a.out.now _ _ (λ s q. does_as _ _ _ _ _ (one_run e.mode room here e.tag (slice e.from a.to l) g (frame_in e.mode (take e.mode.variables vs) a.scope a.regs.now)) o.is (step_taken e.mode.limit room a.out.now s e.st here _ _ _ q.step.left q.step.same q.step.more d.0)), inside_stays l a.base a.to _ e c.inmost-e.ensures _ _ (inner_stays e.mode e.tag past _ _ d.1))
+    (inside_does l a.base a.to _ e c.inmost-e.ensures a.place c.requires.from_value room g vs a.scope a.regs.now a.out.now _ _ (λ s q. does_as _ _ _ _ _ (one_run e.mode room here e.tag (slice e.from a.to l) g (frame_in e.mode (take e.mode.variables vs) a.scope a.regs.now)) o.is (step_taken e.mode.limit room a.out.now s e.st here _ _ _ q.step.left q.step.same q.step.more d.0)), inside_stays l a.base a.to _ e c.inmost-e.ensures _ _ (inner_stays e.mode e.tag past _ _ d.1))
 
 pub run_statement-enter-r-requires : goal.run_statement-enter-r-requires
 run_statement-enter-r-requires t c =
-    let ready = c.requires.from_value in
+    let ready = c.requires.ready in
     record {
       from_le_to = (ready.order, ready.within);
       place_le_longest_program = ready.here;
@@ -628,7 +628,7 @@ run_statement-returns-in_default t c =
     let g = a.program.now in
     let f = frame_in a.mode (take a.mode.variables a.vars.now) a.scope a.regs.now in
     let room = length a.out.now in
-    let ready = c.requires.from_value in
+    let ready = c.requires.ready in
     (one_stops a.mode room a.place a.tag l g f a.out.now a.st c.enter-r.result c.enter-r.ensures (opened c.in_default.in_default-own.keys2), refl)
 
 pub run_statement-act-requires : goal.run_statement-act-requires
@@ -638,7 +638,7 @@ run_statement-act-requires t c =
     let g = a.program.now in
     let f = frame_in a.mode (take a.mode.variables a.vars.now) a.scope a.regs.now in
     let room = length a.out.now in
-    let ready = c.requires.from_value in
+    let ready = c.requires.ready in
     record {
       to_in_bounds = ready.within;
       variables_le_most_values = (omega (arith, ready.few), ready.here);
@@ -655,7 +655,7 @@ run_statement-returns-then-is_action t c =
     let g = a.program.now in
     let f = frame_in a.mode (take a.mode.variables a.vars.now) a.scope a.regs.now in
     let room = length a.out.now in
-    let ready = c.requires.from_value in
+    let ready = c.requires.ready in
     let s = c.in-Going.s in
     let q : StepTaken a.mode a.tag l a.st s = one_steps a.mode a.tag l a.place a.st s c.enter-r.result c.enter-r.ensures c.in-Going.is in
     let w = q.enterable in (
@@ -671,11 +671,11 @@ run_statement-run_call-requires t c =
     let g = a.program.now in
     let f = frame_in a.mode (take a.mode.variables a.vars.now) a.scope a.regs.now in
     let room = length a.out.now in
-    let ready = c.requires.from_value in
+    let ready = c.requires.ready in
     let s = c.in-Going.s in
     let q : StepTaken a.mode a.tag l a.st s = one_steps a.mode a.tag l a.place a.st s c.enter-r.result c.enter-r.ensures c.in-Going.is in
     let w = q.enterable in
-    (omega (arith, c.requires.ready), (ready, (c.requires.tabled.0, (c.requires.tabled.1, (w, sym c.is_call.ensures ∙ c.if-is_call.true)))))
+    (omega (arith, c.decreases), (ready, (c.requires.from_value, (c.requires.tabled, (w, sym c.is_call.ensures ∙ c.if-is_call.true)))))
 
 pub run_statement-shape_of-out-then-is_call : goal.run_statement-shape_of-out-then-is_call
 run_statement-shape_of-out-then-is_call t c =
@@ -688,7 +688,7 @@ run_statement-returns-then-is_call t c =
     let g = a.program.now in
     let f = frame_in a.mode (take a.mode.variables a.vars.now) a.scope a.regs.now in
     let room = length a.out.now in
-    let ready = c.requires.from_value in
+    let ready = c.requires.ready in
     let s = c.in-Going.s in
     let q : StepTaken a.mode a.tag l a.st s = one_steps a.mode a.tag l a.place a.st s c.enter-r.result c.enter-r.ensures c.in-Going.is in
     let w = q.enterable in
@@ -701,11 +701,11 @@ run_statement-run_rounds-requires t c =
     let g = a.program.now in
     let f = frame_in a.mode (take a.mode.variables a.vars.now) a.scope a.regs.now in
     let room = length a.out.now in
-    let ready = c.requires.from_value in
+    let ready = c.requires.ready in
     let s = c.in-Going.s in
     let q : StepTaken a.mode a.tag l a.st s = one_steps a.mode a.tag l a.place a.st s c.enter-r.result c.enter-r.ensures c.in-Going.is in
     let w = q.enterable in
-    (omega (arith, c.requires.ready), (ready, (c.requires.tabled.0, (c.requires.tabled.1, (w, has_body a.tag w.high (sym c.is_action.ensures ∙ c.if-is_action.false) (sym c.is_call.ensures ∙ c.if-is_call.false))))))
+    (omega (arith, c.decreases), (ready, (c.requires.from_value, (c.requires.tabled, (w, has_body a.tag w.high (sym c.is_action.ensures ∙ c.if-is_action.false) (sym c.is_call.ensures ∙ c.if-is_call.false))))))
 
 pub run_statement-shape_of-out : goal.run_statement-shape_of-out
 run_statement-shape_of-out t c =
@@ -718,7 +718,7 @@ run_statement-returns t c =
     let g = a.program.now in
     let f = frame_in a.mode (take a.mode.variables a.vars.now) a.scope a.regs.now in
     let room = length a.out.now in
-    let ready = c.requires.from_value in
+    let ready = c.requires.ready in
     let s = c.in-Going.s in
     let q : StepTaken a.mode a.tag l a.st s = one_steps a.mode a.tag l a.place a.st s c.enter-r.result c.enter-r.ensures c.in-Going.is in
     let w = q.enterable in
