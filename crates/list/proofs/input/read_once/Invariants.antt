@@ -1,8 +1,5 @@
--- `input::read_once` is safe and ends. The loop's invariant: the buffer keeps its length. Assumes nothing.
-use Prim.Native.Nat.{◌-◌}
-use mathlib.Core.Path.{◌≡◌, ◌∙◌}
-use borrow.Author.Rules.{rules}
-use lib.ListN.{length}
+-- `input::read_once` meets its contract and ends. The loop's invariant: the buffer keeps its length. Assumes nothing.
+use Rattle.std.proofs.Common.{◌-◌, ◌≡◌, length}
 use Rattle.list.proofs.input.read_once.Given as goal
 
 abbrev pub invariant-loop-tries : goal.invariant-loop-tries

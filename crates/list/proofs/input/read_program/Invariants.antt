@@ -1,11 +1,5 @@
 -- `input::read_program` meets its contract. The loop's invariant: what was read lies within the buffer, which keeps its length. Assumes nothing.
-use Prim.Native.Nat.{◌-◌, ◌≤◌}
-use mathlib.Core.Path.{◌≡◌, ◌∙◌}
-use native.Mathlib.Omega.{arith}
-use borrow.Author.Rules.{rules}
-use lib.ListN.{length}
-use Rattle.io.proofs.Counting.{prefix_len_of_le}
-use Rattle.list.proofs.LentBuffers.{filled, filled_length, part_count}
+use Rattle.std.proofs.Common.{◌-◌, ◌≡◌, ◌≤◌, length}
 use Rattle.list.proofs.input.read_program.Given as goal
 
 abbrev pub invariant-loop-size : goal.invariant-loop-size

@@ -1,11 +1,5 @@
 -- `input::read_words` meets its contract. The loop's invariant: the words so far lie within the text, which keeps its length. Assumes nothing.
-use Prim.Native.Nat.{◌+◌, ◌-◌, ◌≤◌}
-use mathlib.Core.Path.{◌≡◌, ◌∙◌}
-use native.Mathlib.Omega.{arith}
-use borrow.Author.Rules.{rules}
-use lib.ListN.{length, length-set}
-use Rattle.io.proofs.Counting.{prefix_len_of_le}
-use Rattle.list.proofs.LentBuffers.{filled, filled_length, within}
+use Rattle.std.proofs.Common.{◌-◌, ◌≡◌, ◌≤◌, length}
 use Rattle.list.proofs.input.read_words.Given as goal
 
 abbrev pub invariant-loop-i : goal.invariant-loop-i
@@ -14,4 +8,4 @@ invariant-loop-i l =
 
 abbrev pub decreases-loop-i : goal.decreases-loop-i
 decreases-loop-i l =
-    l.many - l.i
+    18446744073709551615 - l.i
