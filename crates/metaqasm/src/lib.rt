@@ -1,4 +1,4 @@
-// The library's calls from C.
+// The calls that C makes through crate metaqasm_c, and that crate list makes.
 #![tactic(auto)]
 
 ghost use Rattle.std.specs.Prelude.{◌≡◌, List, ℕ, ◌*◌, ◌≤◌, length};
@@ -85,8 +85,7 @@ fn result_of_answer(a: Answer) -> MetaqasmResult
 }
 
 // Checks a program.
-#[unsafe(no_mangle)]
-pub extern "C" fn metaqasm_check(program: &[u8]) -> MetaqasmResult
+pub fn metaqasm_check(program: &[u8]) -> MetaqasmResult
     ensures { answered result ≡ check_result program.now }
 {
     checked(program)
@@ -95,8 +94,7 @@ pub extern "C" fn metaqasm_check(program: &[u8]) -> MetaqasmResult
 // Writes the gate list of the whole program. The first promise rules out that the machine is stuck. The second says, where
 // the check gives 0, that the answer is the machine's own, 0 exactly where it came to its end, which ends are possible, what
 // the records name and which bytes are kept. The others are parts of it that hold for every program.
-#[unsafe(no_mangle)]
-pub extern "C" fn metaqasm_run(program: &[u8], limit: u64, output: &mut [u8]) -> MetaqasmResult
+pub fn metaqasm_run(program: &[u8], limit: u64, output: &mut [u8]) -> MetaqasmResult
     ensures output_value { run_outcome program.now limit output.old ≡ finished (record { result = answered result; output = output.new }) }
     ensures fact { SoundRun program.now limit output.old (record { result = answered result; output = output.new }) }
     ensures records_in_bounds { record_size * result.records ≤ length output.new }
@@ -116,8 +114,7 @@ fn wide(n: u32) -> usize
 }
 
 // Writes the gate list of one family at given sizes, with the same promises; a family with a family parameter has none.
-#[unsafe(no_mangle)]
-pub extern "C" fn metaqasm_instance(
+pub fn metaqasm_instance(
     program: &[u8],
     family: u32,
     sizes: &[u8],
@@ -190,8 +187,7 @@ fn printed(
 // for all inputs. The second says, where the check gives 0, that the run behind it is the machine's own, which ends are
 // possible, that the text is that of the machine's list and which bytes are kept. The others are parts of it that hold for
 // every program.
-#[unsafe(no_mangle)]
-pub extern "C" fn metaqasm_run_text(
+pub fn metaqasm_run_text(
     program: &[u8],
     limit: u64,
     output: &mut [u8],
@@ -212,8 +208,7 @@ pub extern "C" fn metaqasm_run_text(
 }
 
 // Runs one family at given sizes, and prints its list where it is complete, with the same promises.
-#[unsafe(no_mangle)]
-pub extern "C" fn metaqasm_instance_text(
+pub fn metaqasm_instance_text(
     program: &[u8],
     family: u32,
     sizes: &[u8],
