@@ -1,6 +1,6 @@
 /* The calls of the metaQASM library, for C and C++ on x86-64 Linux.
  *
- * Build the archive with `rt staticlib metaqasm` (it writes target/staticlib/libmetaqasm.a) and link it:
+ * Build the archive with `bash tools/build.sh metaqasm` (it writes target/staticlib/libmetaqasm.a) and link it:
  *
  *     cc -I include host.c target/staticlib/libmetaqasm.a -o host
  *

@@ -1,6 +1,6 @@
 /* The showing of one form, for C and C++ on x86-64 Linux: whether a check finds it to be 0 or more, and how far it has to go.
  *
- * Build the archive with `rt staticlib showing` (it writes target/staticlib/libshowing.a) and link it:
+ * Build the archive with `bash tools/build.sh showing` (it writes target/staticlib/libshowing.a) and link it:
  *
  *     cc -I include host.c target/staticlib/libshowing.a -o host
  *

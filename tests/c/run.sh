@@ -1,8 +1,8 @@
 #!/usr/bin/env bash
 # Builds the C and C++ programs over the archives and runs them: as they are, with the compiler's sanitizers and under valgrind;
 # then the host of ten lines, and the adder, the Fourier transform and both multipliers in libquantum. What is not there is left
-# out, with a line `skipped: ..`. Run it after `rt staticlib metaqasm` and `rt staticlib showing`. Its last line is `N passed, M
-# failed`, and it succeeds only with M = 0.
+# out, with a line `skipped: ..`. Run it after `bash tools/build.sh metaqasm` and `bash tools/build.sh showing`. Its last line is
+# `N passed, M failed`, and it succeeds only with M = 0.
 set -u
 cd "$(dirname "$0")/../.." || exit 2
 
@@ -77,7 +77,7 @@ script() { # SCRIPT
 for archive in "${archives[@]}"; do
     if [ ! -f "$archive" ]; then
         name=$(basename "$archive" .a)
-        printf '%s is not there: run `rt staticlib %s` first\n0 passed, 1 failed\n' "$archive" "${name#lib}"
+        printf '%s is not there: run `bash tools/build.sh %s` first\n0 passed, 1 failed\n' "$archive" "${name#lib}"
         exit 1
     fi
 done

@@ -131,7 +131,7 @@ macro_rules! compared {
             #[test]
             #[cfg_attr(
                 not($has),
-                ignore = "no archive with this call; run `rt staticlib metaqasm` first"
+                ignore = "no archive with this call; run `bash tools/build.sh metaqasm` first"
             )]
             fn compared_with_the_library() {
                 $crate::harness::hold(super::$work);

@@ -78,7 +78,7 @@ pub fn status() -> String {
             format!("library: compared with the reference: {compared}")
         }
         missing => format!(
-            "library: NOT COMPARED, not in the archive: {}; run `rt staticlib metaqasm` first",
+            "library: NOT COMPARED, not in the archive: {}; run `bash tools/build.sh metaqasm` first",
             missing.join(", ")
         ),
     }

@@ -8,7 +8,7 @@ use reference::{FormNumbers, ShowingOutcome, FORM_NUMBERS};
 pub const THERE: bool = cfg!(has_showing);
 /// What to do where there is none.
 pub const MISSING: &str = "showing: NOT COMPARED, there is no archive with the call; \
-    run `rt staticlib showing` first";
+    run `bash tools/build.sh showing` first";
 
 /// The numbers before and after the form that is lent to the library, which it may not change.
 const GUARD: FormNumbers = [0x3C5A_C3A5; FORM_NUMBERS];

@@ -20,7 +20,7 @@ const LIBRARY: Calls = Calls {
 #[test]
 #[cfg_attr(
     not(all(has_instance, has_run)),
-    ignore = "no archive with these calls; run `rt staticlib metaqasm` first"
+    ignore = "no archive with these calls; run `bash tools/build.sh metaqasm` first"
 )]
 fn every_list_of_the_library_does_what_it_is_meant_to_do() {
     let failed: Vec<String> = checks::ALL

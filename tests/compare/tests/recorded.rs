@@ -45,7 +45,7 @@ fn the_recorded_answers_have_every_number() {
 #[test]
 #[cfg_attr(
     not(all(has_check, has_instance, has_run)),
-    ignore = "no archive with all calls; run `rt staticlib metaqasm` first"
+    ignore = "no archive with all calls; run `bash tools/build.sh metaqasm` first"
 )]
 fn the_library_gives_every_recorded_answer() {
     println!("{}", library::status());
@@ -56,7 +56,7 @@ fn the_library_gives_every_recorded_answer() {
 #[test]
 #[cfg_attr(
     not(all(has_instance_text, has_run_text)),
-    ignore = "no archive with all calls; run `rt staticlib metaqasm` first"
+    ignore = "no archive with all calls; run `bash tools/build.sh metaqasm` first"
 )]
 fn the_library_prints_every_recorded_text() {
     let rows = rows(true);

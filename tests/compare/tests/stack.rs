@@ -27,7 +27,7 @@ fn every_shape_has_enough(call: &str) {
 #[test]
 #[cfg_attr(
     not(has_check),
-    ignore = "no archive with this call; run `rt staticlib metaqasm` first"
+    ignore = "no archive with this call; run `bash tools/build.sh metaqasm` first"
 )]
 fn a_check_has_enough() {
     every_shape_has_enough("check");
@@ -36,7 +36,7 @@ fn a_check_has_enough() {
 #[test]
 #[cfg_attr(
     not(has_instance),
-    ignore = "no archive with this call; run `rt staticlib metaqasm` first"
+    ignore = "no archive with this call; run `bash tools/build.sh metaqasm` first"
 )]
 fn an_instance_has_enough() {
     every_shape_has_enough("instance");
@@ -45,7 +45,7 @@ fn an_instance_has_enough() {
 #[test]
 #[cfg_attr(
     not(has_run),
-    ignore = "no archive with this call; run `rt staticlib metaqasm` first"
+    ignore = "no archive with this call; run `bash tools/build.sh metaqasm` first"
 )]
 fn a_run_has_enough() {
     every_shape_has_enough("run");
@@ -54,7 +54,7 @@ fn a_run_has_enough() {
 #[test]
 #[cfg_attr(
     not(has_instance_text),
-    ignore = "no archive with this call; run `rt staticlib metaqasm` first"
+    ignore = "no archive with this call; run `bash tools/build.sh metaqasm` first"
 )]
 fn an_instance_that_is_printed_has_enough() {
     every_shape_has_enough("instance_text");
@@ -63,7 +63,7 @@ fn an_instance_that_is_printed_has_enough() {
 #[test]
 #[cfg_attr(
     not(has_run_text),
-    ignore = "no archive with this call; run `rt staticlib metaqasm` first"
+    ignore = "no archive with this call; run `bash tools/build.sh metaqasm` first"
 )]
 fn a_run_that_is_printed_has_enough() {
     every_shape_has_enough("run_text");
@@ -72,7 +72,7 @@ fn a_run_that_is_printed_has_enough() {
 #[test]
 #[cfg_attr(
     not(has_run),
-    ignore = "no archive with this call; run `rt staticlib metaqasm` first"
+    ignore = "no archive with this call; run `bash tools/build.sh metaqasm` first"
 )]
 fn calls_of_parameters_nest_as_deep_as_they_can_in_8_mib() {
     let passing = |(_, shape): &(usize, &Shape)| shape.passes();
@@ -88,7 +88,7 @@ fn calls_of_parameters_nest_as_deep_as_they_can_in_8_mib() {
 #[test]
 #[cfg_attr(
     not(has_run),
-    ignore = "no archive with this call; run `rt staticlib metaqasm` first"
+    ignore = "no archive with this call; run `bash tools/build.sh metaqasm` first"
 )]
 fn a_stack_that_is_too_small_is_noticed() {
     assert!(enough("run", 0, stack_kib("run")));

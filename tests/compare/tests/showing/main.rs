@@ -33,7 +33,7 @@ fn the_reference_gives_every_recorded_showing() {
 #[test]
 #[cfg_attr(
     not(has_showing),
-    ignore = "no archive with this call; run `rt staticlib showing` first"
+    ignore = "no archive with this call; run `bash tools/build.sh showing` first"
 )]
 fn the_library_gives_every_recorded_showing() {
     assert_eq!(hold_rows(Who::Library, &rows()), rows().len());
@@ -89,7 +89,7 @@ fn generated(tally: &mut Tally) -> Result<(), String> {
 #[test]
 #[cfg_attr(
     not(has_showing),
-    ignore = "no archive with this call; run `rt staticlib showing` first"
+    ignore = "no archive with this call; run `bash tools/build.sh showing` first"
 )]
 fn generated_showings_are_compared_with_the_library() {
     hold(generated);
