@@ -11,4 +11,4 @@ returns-in_default c =
 
 pub returns : goal.returns
 returns c =
-    λ p fs ks. within_goes p _ _ _ c.show-v.ensures (is_shown_lem c.show-v.result (opened c.in-Shown.in-Shown-own.keys1)) c.room_after.ensures
+    λ p fs ks. within_goes p _ _ _ c.show-v.ensures (is_shown_lem c.show-v.result c.in-Shown.in-Shown-own.keys1) c.room_after.ensures
