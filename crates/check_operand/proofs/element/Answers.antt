@@ -1,5 +1,4 @@
 -- `check_operand::element` meets its contract. Assumes nothing.
-use borrow.Author.Rules.{rules}
 use mathlib.Core.Path.{◌≡◌, ap, ◌∙◌}
 use mathlib.Core.List.{List, []}
 use Prim.Native.Nat.{ℕ, ◌+◌}
@@ -24,7 +23,6 @@ use Rattle.check_operand.proofs.Operands.{element_none, element_beyond, element_
 use Rattle.check_operand.proofs.Tables.{scope_forms, kinds_get, kinds_none}
 use Rattle.language.specs.Check as C
 use Rattle.check_operand.proofs.Wires.{leaves_form, leaves_stops, element_form, form_is}
-use borrow.Enum.Refused.{opened}
 use Rattle.check_operand.proofs.element.Goals as goal
 
 pub returns-then-next-from : goal.returns-then-next-from

@@ -1,5 +1,4 @@
 -- `check_operand::one_wire` meets its contract. Assumes nothing.
-use borrow.Author.Rules.{rules}
 use mathlib.Core.Path.{refl, sym, ◌∙◌}
 use lib.ListN.{drop}
 use Rattle.language.specs.Tree.{bad_operand}
@@ -10,7 +9,6 @@ use Rattle.check_index.specs.Answers.{checked_part}
 use Rattle.check_operand.specs.Tables.{Known, scope_at}
 use Rattle.check_operand.specs.Operands.{wanted_of}
 use Rattle.check_index.proofs.Answers.{ends_stops, part_goes, part_stops, passes_upto, left_some, left_none}
-use borrow.Enum.Refused.{opened}
 use Rattle.check_operand.proofs.one_wire.Goals as goal
 
 pub operand-r-requires : goal.operand-r-requires

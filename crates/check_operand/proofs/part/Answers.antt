@@ -1,5 +1,4 @@
 -- `check_operand::part` meets its contract. Assumes nothing.
-use borrow.Author.Rules.{rules}
 use mathlib.Core.Path.{◌≡◌, ap, ◌∙◌}
 use mathlib.Core.List.{[], List}
 use Prim.Native.Nat.{ℕ, ◌+◌}
@@ -18,7 +17,6 @@ use Rattle.check_index.proofs.Answers.{ends_stops}
 use Rattle.check_index.proofs.TwoBounds.{bounds_upto}
 use Rattle.check_operand.proofs.Slices.{slice_empty, slice_beyond, slice_stops, slice_long, slice_good}
 use Rattle.check_operand.proofs.Tables.{bounds_same, kinds_get, kinds_none}
-use borrow.Enum.Refused.{opened}
 use Rattle.check_operand.proofs.part.Goals as goal
 
 pub returns-then-next-from : goal.returns-then-next-from

@@ -39,7 +39,7 @@ unfolding shown_form
 returns-then-slice_size c =
     let l = c.slice_size.new.last in
     record {
-      last_after = λ p fs ks. size_shown_lem p _ _ _ _ c.show-v.ensures (is_shown_lem c.show-v.result c.in-Shown.in-Shown-own.keys1) c.room_after-w.ensures (is_shown_lem c.room_after-w.result (opened c.in-Shown-w.in-Shown-w-own.keys1)) l (is_made l c.slice_size.ensures.last_after c.if-slice_size.true) c.show.ensures;
+      last_after = λ p fs ks. size_shown_lem p _ _ _ _ c.show-v.ensures (is_shown_lem c.show-v.result c.in-Shown.in-Shown-own.keys1) c.room_after-w.ensures (is_shown_lem c.room_after-w.result c.in-Shown-w.in-Shown-w-own.keys1) l (is_made l c.slice_size.ensures.last_after c.if-slice_size.true) c.show.ensures;
       kept_3 = λ e. c.slice_size.ensures.kept_3 c.if-slice_size.true;
     }
 
@@ -48,6 +48,6 @@ unfolding shown_form shown_of
 returns c =
     let l = c.slice_size.new.last in
     record {
-      last_after = λ p fs ks. size_outside p _ _ _ _ c.show-v.ensures (is_shown_lem c.show-v.result c.in-Shown.in-Shown-own.keys1) c.room_after-w.ensures (is_shown_lem c.room_after-w.result (opened c.in-Shown-w.in-Shown-w-own.keys1)) l (not_made l c.slice_size.ensures.last_after c.if-slice_size.false);
+      last_after = λ p fs ks. size_outside p _ _ _ _ c.show-v.ensures (is_shown_lem c.show-v.result c.in-Shown.in-Shown-own.keys1) c.room_after-w.ensures (is_shown_lem c.room_after-w.result c.in-Shown-w.in-Shown-w-own.keys1) l (not_made l c.slice_size.ensures.last_after c.if-slice_size.false);
       kept_3 = λ e. absurd (shown_not e);
     }

@@ -1,5 +1,4 @@
 -- `check_operand::within` meets its contract. Assumes nothing.
-use borrow.Author.Rules.{rules}
 use Rattle.check_operand.proofs.Shown.{within_stops, within_goes}
 use Rattle.forms.proofs.Verdicts.{is_shown_lem, not_shown_lem}
 use borrow.Enum.Refused.{opened}
