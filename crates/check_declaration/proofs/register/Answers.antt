@@ -24,7 +24,7 @@ returns-in_default c =
     let program = a.program.now in
     record {
       result_value = c.register_size-r.ensures;
-      register_set = register_stops (length program) a.next c.register_size-r.result a.kind a.count a.total a.most a.kinds.now a.sizes.now a.kinds.now a.sizes.now (opened c.in_default.in_default-own.keys2);
+      register_set = register_stops (length program) a.next c.register_size-r.result a.kind a.count a.total a.most a.kinds.now a.sizes.now a.kinds.now a.sizes.now c.in_default.in_default-own.keys2;
     }
 
 pub overflow_cast-size : goal.overflow_cast-size
