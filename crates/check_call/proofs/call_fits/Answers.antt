@@ -45,7 +45,7 @@ returns-in_default c =
     let fs = tabulated (signature_at a.families.now a.kinds.now a.sizes.now) a.s.families 0 in
     let ks = kinds_at (formal_at a.families.now a.kinds.now a.sizes.now) a.s.count a.s.first a.kinds.now a.sizes.now in
     let l = c.call_forms-r.new.forms in
-    fits_stops s a.at a.before a.from program a.next (signature_in (formal_at a.families.now a.kinds.now a.sizes.now) (get_or a.families.now a.row []) a.kinds.now a.sizes.now) c.call_forms-r.result l c.long-m.result c.long-m.ensures.0 (c.call_forms-r.ensures.forms_after fs ks) (opened c.in_default.in_default-own.keys2)
+    fits_stops s a.at a.before a.from program a.next (signature_in (formal_at a.families.now a.kinds.now a.sizes.now) (get_or a.families.now a.row []) a.kinds.now a.sizes.now) c.call_forms-r.result l c.long-m.result c.long-m.ensures.0 (c.call_forms-r.ensures.forms_after fs ks) c.in_default.in_default-own.keys2
 
 pub call_operands-requires : goal.call_operands-requires
 call_operands-requires c =

@@ -80,10 +80,10 @@ returns-in_default c =
     let k₁ = c.plain_rows-r.new.kinds in
     let s₁ = c.plain_rows-r.new.sizes in
     record {
-      sizes_after = λ fs ks n. plain_refused (scope_with fs ks n []) program a.at a.next c.two_counts.result c.two_counts.ensures.result_value m count c.in-Both.is (formal_at families k₁ s₁) c.plain_rows-r.result first k₁ s₁ (c.plain_rows-r.ensures.sizes_after [] [] (formal_at families k₁ s₁)) (opened c.in_default.in_default-own.keys2) (formal_at families k₁ s₁) a.row k₁ s₁;
-      ends_at = ends_stops c.plain_rows-r.result a.next (opened c.in_default.in_default-own.keys2);
-      in_use_after = after_stops (a.row + 1) a.registers c.plain_rows-r.result k₁ (opened c.in_default.in_default-own.keys2);
-      formals_after = formals_refused c.plain_rows-r.result families k₁ (opened c.in_default.in_default-own.keys2);
+      sizes_after = λ fs ks n. plain_refused (scope_with fs ks n []) program a.at a.next c.two_counts.result c.two_counts.ensures.result_value m count c.in-Both.is (formal_at families k₁ s₁) c.plain_rows-r.result first k₁ s₁ (c.plain_rows-r.ensures.sizes_after [] [] (formal_at families k₁ s₁)) c.in_default.in_default-own.keys2 (formal_at families k₁ s₁) a.row k₁ s₁;
+      ends_at = ends_stops c.plain_rows-r.result a.next c.in_default.in_default-own.keys2;
+      in_use_after = after_stops (a.row + 1) a.registers c.plain_rows-r.result k₁ c.in_default.in_default-own.keys2;
+      formals_after = formals_refused c.plain_rows-r.result families k₁ c.in_default.in_default-own.keys2;
       stays = stays_upper bytes a.row first count a.at a.registers families c.requires.formals_in c.plain_rows-r.ensures.apart (omega arith) half;
     }
 

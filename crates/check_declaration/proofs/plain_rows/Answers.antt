@@ -61,14 +61,14 @@ returns-in_default c =
     let e : a.count - i.j ≡ suc (a.count - (i.j + 1)) = (let h = c.loop-j-test.true in omega arith) in
     let sofar : Formals → List Kind → Checked (List Kind) = λ g rest. good (kinds_at g i.j a.first i.kinds i.sizes ++ rest) in
     let last = apart_more (length program) a.first a.count i.j c.loop-j-test.true i.invariant.1 c.plain_row-r.ensures.apart in record {
-      sizes_after = λ fs ks g. rows_stop g c.plain_row-r.result a.count a.first kinds sizes (sofar g) (opened c.in_default.in_default-own.keys2)
-          ∙ ap (λ (c : Checked (List Kind)). c >>= sofar g) (types_stop (plain_level (scope_with fs ks a.m []) a.parent) (a.count - (i.j + 1)) program i.from a.to g c.plain_row-r.result (a.first + i.j) kinds sizes (c.plain_row-r.ensures.sizes_after fs ks g) a.count a.first (opened c.in_default.in_default-own.keys2)
+      sizes_after = λ fs ks g. rows_stop g c.plain_row-r.result a.count a.first kinds sizes (sofar g) c.in_default.in_default-own.keys2
+          ∙ ap (λ (c : Checked (List Kind)). c >>= sofar g) (types_stop (plain_level (scope_with fs ks a.m []) a.parent) (a.count - (i.j + 1)) program i.from a.to g c.plain_row-r.result (a.first + i.j) kinds sizes (c.plain_row-r.ensures.sizes_after fs ks g) a.count a.first c.in_default.in_default-own.keys2
           ∙ ap (λ (n : ℕ). plain_kinds (scope_with fs ks a.m []) (parts_of read_plain (bad_type 4 a.parent) n (fields_at program i.from a.to))) (sym e))
           ∙ sym (i.invariant.7 fs ks g);
-      passes_count = beyond_stops program a.at a.to a.count c.plain_row-r.result (opened c.in_default.in_default-own.keys2);
-      types_within = within_stops a.at a.to a.count c.plain_row-r.result (opened c.in_default.in_default-own.keys2);
-      in_use_after = after_stops 0 a.registers c.plain_row-r.result kinds (opened c.in_default.in_default-own.keys2);
-      plain_after = plain_stops c.plain_row-r.result a.count a.first kinds (opened c.in_default.in_default-own.keys2);
+      passes_count = beyond_stops program a.at a.to a.count c.plain_row-r.result c.in_default.in_default-own.keys2;
+      types_within = within_stops a.at a.to a.count c.plain_row-r.result c.in_default.in_default-own.keys2;
+      in_use_after = after_stops 0 a.registers c.plain_row-r.result kinds c.in_default.in_default-own.keys2;
+      plain_after = plain_stops c.plain_row-r.result a.count a.first kinds c.in_default.in_default-own.keys2;
       apart = last;
     }
 

@@ -103,8 +103,8 @@ returns-in-Upto c =
     let k = c.requires.to_in_bounds in
     let l = c.sized_type.new.f in
     record {
-      f_after = λ fs ks. size_many next c.sized_type.result l (opened c.in-Upto.in-Upto-own.keys1) ∙ c.sized_type.ensures.f_after fs ks ∙ type_many (scope_with fs ks a.m []) program a.at a.to a.parent tag next w c.in-17.is;
-      type_passes = (passed program a.at a.to tag next w, ends_kept next c.sized_type.result l (opened c.in-Upto.in-Upto-own.keys1) c.sized_type.ensures.form_ends_at, type_seven (scope_with [] [] a.m []) program a.at next _ (omega arith) (sym (size_many next c.sized_type.result l (opened c.in-Upto.in-Upto-own.keys1) ∙ c.sized_type.ensures.f_after [] [])));
+      f_after = λ fs ks. size_many next c.sized_type.result l c.in-Upto.in-Upto-own.keys1 ∙ c.sized_type.ensures.f_after fs ks ∙ type_many (scope_with fs ks a.m []) program a.at a.to a.parent tag next w c.in-17.is;
+      type_passes = (passed program a.at a.to tag next w, ends_kept next c.sized_type.result l c.in-Upto.in-Upto-own.keys1 c.sized_type.ensures.form_ends_at, type_seven (scope_with [] [] a.m []) program a.at next _ (omega arith) (sym (size_many next c.sized_type.result l c.in-Upto.in-Upto-own.keys1 ∙ c.sized_type.ensures.f_after [] [])));
     }
 
 pub returns-in-Refused : goal.returns-in-Refused
