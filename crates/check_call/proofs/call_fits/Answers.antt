@@ -1,5 +1,4 @@
 -- `check_call::call_fits` meets its contract. Assumes nothing.
-use borrow.Author.Rules.{rules}
 use mathlib.Core.Path.{◌∙◌}
 use mathlib.Core.List.{[], map}
 use native.Mathlib.Omega.{arith}
@@ -13,7 +12,6 @@ use Rattle.check_call.specs.Calls.{formal_at, signature_in, signature_at, scope_
 use Rattle.check_call.proofs.Calls.{fits_stops, fits_good}
 use Rattle.check_index.proofs.Answers.{count_upto}
 use Rattle.check_call.proofs.Forms.{four_rows}
-use borrow.Enum.Refused.{opened}
 use Rattle.check_call.proofs.call_fits.Goals as goal
 
 pub offset_bounds-families-row : goal.offset_bounds-families-row

@@ -1,5 +1,4 @@
 -- `check_call::call_operand` meets its contract. Assumes nothing.
-use borrow.Author.Rules.{rules}
 use mathlib.Core.Path.{sym, ap, ◌∙◌}
 use mathlib.Core.List.{[]}
 use native.Mathlib.Omega.{arith}
@@ -15,7 +14,6 @@ use Rattle.check_index.proofs.Answers.{ends_passes}
 use Rattle.check_operand.specs.Tables.{kind_in, kind_by}
 use Rattle.check_call.specs.Calls.{formal_at, known_in, scope_full, call_operand}
 use Rattle.check_call.proofs.PassedFamilies.{plain_operand, no_family_lem, answerable, passed_due}
-use borrow.Enum.Refused.{opened}
 use Rattle.check_call.proofs.call_operand.Goals as goal
 
 pub passed-requires : goal.passed-requires

@@ -1,10 +1,9 @@
 -- `check_call::call_operands` meets its contract. Assumes nothing.
-use mathlib.Core.Path.{◌≡◌, refl, sym, ap, ◌∙◌}
+use mathlib.Core.Path.{refl, sym, ap, ◌∙◌}
 use mathlib.Core.List.{List, map}
-use Prim.Native.Nat.{ℕ, suc, ◌+◌, ◌-◌, ◌≤◌}
+use Prim.Native.Nat.{ℕ, suc, ◌+◌}
 use native.Mathlib.Omega.{arith}
 use native.Mathlib.Numerals.{add-one}
-use borrow.Author.Rules.{rules}
 use lib.ListN.{drop}
 use Rattle.language.specs.Tree.{bad_operand}
 use Rattle.language.specs.Read.{Field, due, read_operand, read_argument}
@@ -17,7 +16,6 @@ use Rattle.check_operand.proofs.Tables.{row_drop}
 use Rattle.check_index.proofs.Answers.{ends_stops, part_goes, part_stops, passes_upto}
 use Rattle.check_call.proofs.Calls.{operand_first, operands_over, operands_left, drop_end}
 use Rattle.check_call.specs.Calls.{formal_at, scope_full, call_operand}
-use borrow.Enum.Refused.{opened}
 use Rattle.check_call.proofs.call_operands.Goals as goal
 
 pub loop-j-init : goal.loop-j-init

@@ -1,5 +1,4 @@
 -- `check_declaration::family_row` meets its contract. Assumes nothing.
-use borrow.Author.Rules.{rules}
 use mathlib.Core.Path.{refl, ap, ◌∙◌}
 use mathlib.Core.List.{[], ◌∷◌}
 use Prim.Native.Nat.{◌+◌, ◌*◌, ◌/◌, ◌≤◌, ◌<◌}
@@ -15,7 +14,6 @@ use Rattle.check_declaration.specs.Types.{checked_row}
 use Rattle.check_declaration.proofs.Tables.{number_size, number_kind, row_kind, in_use_later, in_use_set, in_use_upto}
 use Rattle.check_declaration.proofs.FamilyTypes.{both_right, counts_bad, plain_refused, plain_left, plain_all}
 use Rattle.check_declaration.proofs.Formals.{within_upto, plain_upto, after_stops, formals_refused, stays_none, stays_upper, stays_family, formals_family, family_takes}
-use borrow.Enum.Refused.{opened}
 use Rattle.check_declaration.proofs.family_row.Goals as goal
 
 pub plain_from-first-requires : goal.plain_from-first-requires

@@ -1,5 +1,4 @@
 -- `check_declaration::plain_type` meets its contract. Assumes nothing.
-use borrow.Author.Rules.{rules}
 use mathlib.Core.Path.{sym, ◌∙◌}
 use mathlib.Core.List.{[]}
 use native.Mathlib.Omega.{arith}
@@ -8,7 +7,6 @@ use Rattle.check_operand.specs.Tables.{scope_with}
 use Rattle.check_declaration.specs.Types.{checked_type}
 use Rattle.check_index.proofs.Answers.{passed}
 use Rattle.check_declaration.proofs.Types.{type_none, type_cut, type_seven, type_single, type_more, type_many, type_other, ends_kept, size_many, size_refused}
-use borrow.Enum.Refused.{opened}
 use Rattle.check_declaration.proofs.plain_type.Goals as goal
 
 pub overflow_add-from : goal.overflow_add-from

@@ -1,5 +1,4 @@
 -- `check_declaration::sized_type` meets its contract. Assumes nothing.
-use borrow.Author.Rules.{rules}
 use mathlib.Core.Path.{refl}
 use Prim.Native.Nat.{◌+◌}
 use native.Mathlib.Omega.{arith}
@@ -8,7 +7,6 @@ use Rattle.check_declaration.specs.Types.{checked_sized_type}
 use Rattle.check_index.proofs.Answers.{form_passes_upto, form_ends_stops}
 use Rattle.check_declaration.proofs.Types.{type_stops, type_long, type_not, type_good}
 use Rattle.check_operand.proofs.Tables.{no_rows}
-use borrow.Enum.Refused.{opened}
 use Rattle.check_declaration.proofs.sized_type.Goals as goal
 
 pub returns-in_default : goal.returns-in_default

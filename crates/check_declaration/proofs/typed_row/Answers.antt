@@ -1,5 +1,4 @@
 -- `check_declaration::typed_row` meets its contract. Assumes nothing.
-use borrow.Author.Rules.{rules}
 use mathlib.Core.Path.{sym, ◌∙◌}
 use mathlib.Core.List.{[]}
 use Prim.Native.Nat.{◌/◌, ◌<◌}
@@ -12,7 +11,6 @@ use Rattle.check_call.specs.Calls.{formal_at}
 use Rattle.check_declaration.proofs.Tables.{in_use_later}
 use Rattle.check_declaration.proofs.FamilyTypes.{type_family, type_plain}
 use Rattle.check_declaration.proofs.Formals.{stays_plain, plain_after, formals_after}
-use borrow.Enum.Refused.{opened}
 use Rattle.check_declaration.proofs.typed_row.Goals as goal
 
 pub family_row-requires : goal.family_row-requires
