@@ -12,7 +12,7 @@ use borrow.Author.Tests.{ne_eqb}
 use types.Run.{OneOf}
 use denote.Enum.Declared.{tag_of}
 use Rattle.language.specs.Limits.{most_variables, most_parameters}
-use Rattle.language.specs.Tree.{Ending, ended, number, missing, bad_type, plain}
+use Rattle.language.specs.Tree.{Ending, ended, bad_type, plain}
 use Rattle.language.specs.Read.{Field, fields, choose, due, ending, read_plain, parts_of, family_type_of, read_family_type, read_type}
 use Rattle.language.specs.Check.{Checked, good, refused, ◌>>=◌, ◌>>◌, require, no_leftover, check_number, Formal, Kind, formal, size_scope, plain_size, plain_kind, plain_kinds, check_counts, check_formal, kind_of}
 use Rattle.fields.specs.Header.{fields_at, header_of, tagged_in}

@@ -8,7 +8,7 @@ use native.Mathlib.Decide.{dec_le}
 use lib.IntN.{ℤ, pos, negsuc, ◌+ℤ◌, ◌*ℤ◌, *ℤ-zero}
 use lib.ListN.{get_or, set, length, drop}
 use Rattle.language.specs.Form.{Form, Built, built, out_of_range, build, zipped, sum_of, multiple_of, ◌then_build◌, is_zero, Loop, without, closed, closed_all, plainly}
-use Rattle.form_laws.specs.Settled.{coefficient, replaced, settled, Scan, ended, one_more, then_scan, scan, settling_of, settling, if_built, replacements, none_true, to_last, gone_through, AgreeLaw, Last, LastLaw, closed_to, SettledAfter, EndLaw, remaining, after, onward, NextLaw, Below, Scoped, none, inner, ScopeLaw}
+use Rattle.form_laws.specs.Settled.{coefficient, replaced, settled, Scan, ended, one_more, then_scan, scan, settling_of, settling, if_built, replacements, none_true, to_last, gone_through, AgreeLaw, Last, LastLaw, closed_to, SettledAfter, EndLaw, remaining, after, onward, NextLaw, Below, Scoped, inner, ScopeLaw}
 use Rattle.language.proofs.Integers.{and_both}
 use Rattle.language.proofs.FormLaws.{then_built, build_is}
 

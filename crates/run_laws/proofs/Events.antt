@@ -220,9 +220,9 @@ through_meanings p f (bad_argument n q ∷ more) = through_nothing
 through_layout : (values : List ℤ) (next : ℕ) (types : List ParameterType) → Passes (λ l r. M.layout values next types)
 unfolding M.layout M.lay_wire M.lay_register M.laid_then
 through_layout values next [] = through_give []
-through_layout values next (T.plain (qbit p e) ∷ types) = through_then (through_laid p _) (through_bind (through_layout values _ types) λ ms. through_give _)
+through_layout values next (T.plain (qbit p e) ∷ types) = through_then (through_laid p _) (through_bind (through_layout values (next + 1) types) λ ms. through_give _)
 through_layout values next (T.plain (qbits p i e) ∷ types) =
-    through_bind (through_index p values i) λ z. through_bind (through_natural z) λ n. through_then (through_laid p _) (through_bind (through_layout values _ types) λ ms. through_give _)
+    through_bind (through_index p values i) λ z. through_bind (through_natural z) λ n. through_then (through_laid p _) (through_bind (through_layout values (next + n) types) λ ms. through_give _)
 through_layout values next (T.plain (bad_type n p) ∷ types) = through_nothing
 through_layout values next (family_type p v n xs e ∷ types) = through_nothing
 

@@ -3,7 +3,7 @@
 use mathlib.Core.Path.{◌≡◌, refl, sym, ap, subst, ◌∙◌}
 use mathlib.Core.List.{List, [], ◌∷◌}
 use mathlib.Core.Bool.{Bool, true, false}
-use mathlib.Core.Option.{Option, some}
+use mathlib.Core.Option.{Option}
 use Prim.Native.Nat.{ℕ, ◌≤◌, ◌<◌}
 use native.Mathlib.Omega.{arith}
 use lib.Dec.{leb}
@@ -22,7 +22,7 @@ use Rattle.written_records.specs.Written.{run_records, instance_records, Wrote, 
 use Rattle.written_records.proofs.Written.{run_writes, instance_writes, Came, came_to, wrote_from, sound_listed}
 use Rattle.wire_map.specs.WireMap.{map_size, wires_named, among, touched_map, ones_over}
 use Rattle.wire_map.specs.Touching.{TouchedAnswer, TouchedConclusion, touched_finished, map_into, filled_map, with_map, too_short, unless_short, run_touching, instance_touching}
-use Rattle.wire_map.specs.TouchedSound.{Filled, Touched, LaidOut, SoundTouched, TouchedFinishes, RunTouchedTheorem, InstanceTouchedTheorem}
+use Rattle.wire_map.specs.TouchedSound.{Filled, LaidOut, SoundTouched, TouchedFinishes, RunTouchedTheorem, InstanceTouchedTheorem}
 use Rattle.wire_map.proofs.WireMaps.{some_names, named_below, map_length, map_bit, bit_is, bit_low, map_ones, map_few}
 
 -- ---- a map that is filled

@@ -14,10 +14,9 @@ use Rattle.language.specs.Tree.{Place, Refusal}
 use Rattle.language.specs.Read.{read}
 use Rattle.language.specs.Check.{Checked, good, refused}
 use Rattle.language.specs.Machine.{Condition, always, when_bit, Action, do_reset, Record, Outcome, going, ended, stuck, Family, has_family_type, all_declared, run_program, run_instance}
-use Rattle.language.specs.Result.{Answer, Conclusion, finished, got_stuck, bytes_of, condition_byte, condition_bit, op, first_number, second_number, halvings_of, record_bytes, output_bytes, written_into, result_of, untouched, conclusion_of, check_program, if_accepted, four_bytes, all_sizes_fit, instance_of, run_outcome, instance_outcome}
+use Rattle.language.specs.Result.{Answer, Conclusion, finished, bytes_of, condition_byte, condition_bit, op, first_number, second_number, halvings_of, record_bytes, output_bytes, written_into, result_of, untouched, conclusion_of, check_program, if_accepted, four_bytes, all_sizes_fit, instance_of, run_outcome, instance_outcome}
 use Rattle.language.specs.Sound.{AllName, Sound}
 use Rattle.language.proofs.Output.{record_size_lem}
-use Rattle.written_records.specs.RecordsIn.{records_in}
 use Rattle.written_records.specs.AnyBytes.{action_from, condition_from, record_from, records_from}
 use Rattle.written_records.specs.Written.{records_of, records_if, run_records, records_at, instance_records, Wrote, Writes, Listed, RunWrites, InstanceWrites}
 use Rattle.written_records.proofs.RecordsBack.{two_bytes_lem, action_back, records_written}

@@ -1,6 +1,6 @@
 -- Computed examples of records read back from bytes, and of the lists that calls write.
 use Rattle.std.specs.Prelude.{◌≡◌, refl, List, [], ◌∷◌, ◌++◌, ℕ, take}
-use Rattle.std.proofs.Math.Option.{Option, none, some}
+use Rattle.std.proofs.Math.Option.{none, some}
 use Rattle.language.specs.Calls.{computed, lit, h, cx, qreg, creg, L, size, lent, one, two}
 use Rattle.language.specs.Machine.{Record, do_h, do_cx, do_measure, always, when_bit}
 use Rattle.language.specs.Lookup as K

@@ -1,5 +1,4 @@
 -- `check_call::call_fits` meets its contract. Assumes nothing.
-use borrow.Author.Rules.{rules}
 use mathlib.Core.Path.{◌∙◌}
 use mathlib.Core.List.{[], map}
 use native.Mathlib.Omega.{arith}
@@ -13,7 +12,6 @@ use Rattle.check_call.specs.Calls.{formal_at, signature_in, signature_at, scope_
 use Rattle.check_call.proofs.Calls.{fits_stops, fits_good}
 use Rattle.check_index.proofs.Answers.{count_upto}
 use Rattle.check_call.proofs.Forms.{four_rows}
-use borrow.Enum.Refused.{opened}
 use Rattle.check_call.proofs.call_fits.Goals as goal
 
 pub offset_bounds-families-row : goal.offset_bounds-families-row
@@ -45,7 +43,7 @@ returns-in_default c =
     let fs = tabulated (signature_at a.families.now a.kinds.now a.sizes.now) a.s.families 0 in
     let ks = kinds_at (formal_at a.families.now a.kinds.now a.sizes.now) a.s.count a.s.first a.kinds.now a.sizes.now in
     let l = c.call_forms-r.new.forms in
-    fits_stops s a.at a.before a.from program a.next (signature_in (formal_at a.families.now a.kinds.now a.sizes.now) (get_or a.families.now a.row []) a.kinds.now a.sizes.now) c.call_forms-r.result l c.long-m.result c.long-m.ensures.0 (c.call_forms-r.ensures.forms_after fs ks) (opened c.in_default.in_default-own.keys2)
+    fits_stops s a.at a.before a.from program a.next (signature_in (formal_at a.families.now a.kinds.now a.sizes.now) (get_or a.families.now a.row []) a.kinds.now a.sizes.now) c.call_forms-r.result l c.long-m.result c.long-m.ensures.0 (c.call_forms-r.ensures.forms_after fs ks) c.in_default.in_default-own.keys2
 
 pub call_operands-requires : goal.call_operands-requires
 call_operands-requires c =

@@ -1,24 +1,21 @@
 -- `check_call::call_forms` meets its contract. Assumes nothing.
 use mathlib.Core.Path.{◌≡◌, sym, ap, ◌∙◌}
 use mathlib.Core.List.{List, map, ◌++◌}
-use Prim.Native.Nat.{ℕ, suc, ◌+◌, ◌-◌, ◌≤◌}
+use Prim.Native.Nat.{ℕ, suc, ◌+◌, ◌-◌}
 use native.Mathlib.Omega.{arith}
-use borrow.Author.Rules.{rules}
 use lib.ListN.{set}
 use Rattle.language.specs.Tree.{bad_index}
 use Rattle.language.specs.Read.{due, read_index, read_argument}
 use Rattle.language.specs.Form.{Form}
-use Rattle.language.specs.Check.{Checked, good, ◌>>=◌, Kind, Signature, call_forms}
+use Rattle.language.specs.Check.{Checked, good, ◌>>=◌, call_forms}
 use Rattle.fields.specs.Header.{fields_at}
-use Rattle.forms.specs.Rows.{Rows, loops_of, forms_of}
+use Rattle.forms.specs.Rows.{loops_of, forms_of}
 use Rattle.forms.proofs.Laws.{fewer}
 use Rattle.check_operand.specs.Tables.{scope_with}
-use Rattle.check_index.specs.Answers.{Beyond}
 use Rattle.check_call.specs.Calls.{checked_forms}
 use Rattle.check_index.proofs.Answers.{form_passes_upto, beyond_none, beyond_more, beyond_stops}
 use Rattle.check_operand.proofs.Tables.{scope_forms, rows_set}
 use Rattle.check_call.proofs.Forms.{form_none, show_none, show_good, list_stops, more_forms, all_forms, no_forms_lem}
-use borrow.Enum.Refused.{opened}
 use Rattle.check_call.proofs.call_forms.Goals as goal
 
 pub loop-i-init : goal.loop-i-init
@@ -50,11 +47,11 @@ returns-in_default c =
     let ls = loops_of a.s.loops a.lows.now a.highs.now in
     let e : a.m - i.i ≡ suc (a.m - (i.i + 1)) = (let h = c.loop-i-test.true in omega arith) in
     let x = due (read_index 16) (bad_index 4 a.parent) (fields_at program i.from a.to) in record {
-      forms_after = λ fs ks. list_stops c.index-r.result a.m i.forms (λ rest. good (forms_of i.i i.forms ++ rest)) (opened c.in_default.in_default-own.keys2)
-          ∙ ap (λ (c : Checked (List Form)). c >>= λ rest. good (forms_of i.i i.forms ++ rest)) (form_none (scope_with fs ks a.s.variables ls) a.parent (a.m - (i.i + 1)) a.m program i.from a.to c.requires.to_in_bounds c.index-r.result l (c.index-r.ensures.f_after ∙ scope_forms fs ks a.s.variables a.s.loops a.lows.now a.highs.now x) i.forms (opened c.in_default.in_default-own.keys2)
+      forms_after = λ fs ks. list_stops c.index-r.result a.m i.forms (λ rest. good (forms_of i.i i.forms ++ rest)) c.in_default.in_default-own.keys2
+          ∙ ap (λ (c : Checked (List Form)). c >>= λ rest. good (forms_of i.i i.forms ++ rest)) (form_none (scope_with fs ks a.s.variables ls) a.parent (a.m - (i.i + 1)) a.m program i.from a.to c.requires.to_in_bounds c.index-r.result l (c.index-r.ensures.f_after ∙ scope_forms fs ks a.s.variables a.s.loops a.lows.now a.highs.now x) i.forms c.in_default.in_default-own.keys2
           ∙ ap (λ (n : ℕ). call_forms (scope_with fs ks a.s.variables ls) a.parent n (map read_argument (fields_at program i.from a.to))) (sym e))
           ∙ sym (i.invariant.3 fs ks);
-      passes_count = beyond_stops program a.at a.to a.m c.index-r.result (opened c.in_default.in_default-own.keys2);
+      passes_count = beyond_stops program a.at a.to a.m c.index-r.result c.in_default.in_default-own.keys2;
       rows_2 = i.invariant.1;
     }
 
@@ -90,11 +87,11 @@ returns-in_default-t c =
     let next = c.in-Upto.next in
     let u = form_passes_upto program i.from a.to c.index-r.result l next c.in-Upto.is c.index-r.ensures.form_passes in
     let new = set i.forms i.i l in record {
-      forms_after = λ fs ks. list_stops c.must_show-t.result a.m new (λ rest. good (forms_of i.i i.forms ++ rest)) (opened c.in_default-t.in_default-t-own.keys2)
-          ∙ ap (λ (c : Checked (List Form)). c >>= λ rest. good (forms_of i.i i.forms ++ rest)) (show_none (scope_with fs ks a.s.variables ls) a.parent (a.m - (i.i + 1)) a.m program i.from a.to c.requires.to_in_bounds c.index-r.result l (c.index-r.ensures.f_after ∙ scope_forms fs ks a.s.variables a.s.loops a.lows.now a.highs.now x) next c.in-Upto.is u.0 c.must_show-t.result (c.must_show-t.ensures.result_value fs ks) new (opened c.in_default-t.in_default-t-own.keys2)
+      forms_after = λ fs ks. list_stops c.must_show-t.result a.m new (λ rest. good (forms_of i.i i.forms ++ rest)) c.in_default-t.in_default-t-own.keys2
+          ∙ ap (λ (c : Checked (List Form)). c >>= λ rest. good (forms_of i.i i.forms ++ rest)) (show_none (scope_with fs ks a.s.variables ls) a.parent (a.m - (i.i + 1)) a.m program i.from a.to c.requires.to_in_bounds c.index-r.result l (c.index-r.ensures.f_after ∙ scope_forms fs ks a.s.variables a.s.loops a.lows.now a.highs.now x) next c.in-Upto.is u.0 c.must_show-t.result (c.must_show-t.ensures.result_value fs ks) new c.in_default-t.in_default-t-own.keys2
           ∙ ap (λ (n : ℕ). call_forms (scope_with fs ks a.s.variables ls) a.parent n (map read_argument (fields_at program i.from a.to))) (sym e))
           ∙ sym (i.invariant.3 fs ks);
-      passes_count = beyond_stops program a.at a.to a.m c.must_show-t.result (opened c.in_default-t.in_default-t-own.keys2);
+      passes_count = beyond_stops program a.at a.to a.m c.must_show-t.result c.in_default-t.in_default-t-own.keys2;
       rows_2 = rows_set i.forms 4 i.i l i.invariant.1 u.1;
     }
 
@@ -117,7 +114,7 @@ loop-i-preserved c =
       beyond_more program a.at a.to i.i i.from next i.invariant.2 u.0,
       (λ fs ks. i.invariant.3 fs ks
           ∙ ap (λ (n : ℕ). call_forms (scope_with fs ks a.s.variables ls) a.parent n (map read_argument (fields_at program i.from a.to)) >>= λ rest. good (forms_of i.i i.forms ++ rest)) e
-          ∙ ap (λ (c : Checked (List Form)). c >>= λ rest. good (forms_of i.i i.forms ++ rest)) (show_good (scope_with fs ks a.s.variables ls) a.parent (a.m - (i.i + 1)) a.m program i.from a.to c.requires.to_in_bounds c.index-r.result l (c.index-r.ensures.f_after ∙ scope_forms fs ks a.s.variables a.s.loops a.lows.now a.highs.now x) next c.in-Upto.is u.0 c.must_show-t.result (c.must_show-t.ensures.result_value fs ks) (opened c.in-Upto-t.in-Upto-t-own.keys1))
+          ∙ ap (λ (c : Checked (List Form)). c >>= λ rest. good (forms_of i.i i.forms ++ rest)) (show_good (scope_with fs ks a.s.variables ls) a.parent (a.m - (i.i + 1)) a.m program i.from a.to c.requires.to_in_bounds c.index-r.result l (c.index-r.ensures.f_after ∙ scope_forms fs ks a.s.variables a.s.loops a.lows.now a.highs.now x) next c.in-Upto.is u.0 c.must_show-t.result (c.must_show-t.ensures.result_value fs ks) c.in-Upto-t.in-Upto-t-own.keys1)
           ∙ more_forms (call_forms (scope_with fs ks a.s.variables ls) a.parent (a.m - (i.i + 1)) (map read_argument (fields_at program next a.to))) i.i i.forms l (omega arith)),
     )
 

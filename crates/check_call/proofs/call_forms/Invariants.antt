@@ -1,24 +1,13 @@
 -- `check_call::call_forms` meets its contract. Assumes nothing.
-use mathlib.Core.Path.{◌≡◌, sym, ap, ◌∙◌}
+use mathlib.Core.Path.{◌≡◌}
 use mathlib.Core.List.{List, map, ◌++◌}
-use Prim.Native.Nat.{ℕ, suc, ◌+◌, ◌-◌, ◌≤◌}
-use native.Mathlib.Omega.{arith}
-use borrow.Author.Rules.{rules}
-use lib.ListN.{set}
-use Rattle.language.specs.Tree.{bad_index}
-use Rattle.language.specs.Read.{due, read_index, read_argument}
-use Rattle.language.specs.Form.{Form}
-use Rattle.language.specs.Check.{Checked, good, ◌>>=◌, Kind, Signature, call_forms}
+use Prim.Native.Nat.{◌-◌, ◌≤◌}
+use Rattle.language.specs.Read.{read_argument}
+use Rattle.language.specs.Check.{good, ◌>>=◌, Kind, Signature, call_forms}
 use Rattle.fields.specs.Header.{fields_at}
 use Rattle.forms.specs.Rows.{Rows, loops_of, forms_of}
-use Rattle.forms.proofs.Laws.{fewer}
 use Rattle.check_operand.specs.Tables.{scope_with}
 use Rattle.check_index.specs.Answers.{Beyond}
-use Rattle.check_call.specs.Calls.{checked_forms}
-use Rattle.check_index.proofs.Answers.{form_passes_upto, beyond_none, beyond_more, beyond_stops}
-use Rattle.check_operand.proofs.Tables.{scope_forms, rows_set}
-use Rattle.check_call.proofs.Forms.{form_none, show_none, show_good, list_stops, more_forms, all_forms, no_forms_lem}
-use borrow.Enum.Refused.{opened}
 use Rattle.check_call.proofs.call_forms.Given as goal
 
 abbrev pub invariant-loop-i : goal.invariant-loop-i

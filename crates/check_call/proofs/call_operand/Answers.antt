@@ -1,5 +1,4 @@
 -- `check_call::call_operand` meets its contract. Assumes nothing.
-use borrow.Author.Rules.{rules}
 use mathlib.Core.Path.{sym, ap, ◌∙◌}
 use mathlib.Core.List.{[]}
 use native.Mathlib.Omega.{arith}
@@ -15,7 +14,6 @@ use Rattle.check_index.proofs.Answers.{ends_passes}
 use Rattle.check_operand.specs.Tables.{kind_in, kind_by}
 use Rattle.check_call.specs.Calls.{formal_at, known_in, scope_full, call_operand}
 use Rattle.check_call.proofs.PassedFamilies.{plain_operand, no_family_lem, answerable, passed_due}
-use borrow.Enum.Refused.{opened}
 use Rattle.check_call.proofs.call_operand.Goals as goal
 
 pub passed-requires : goal.passed-requires
@@ -62,7 +60,7 @@ taken_by-wanted-requires c =
 pub operand-requires : goal.operand-requires
 operand-requires c =
     let a = c.args in
-    let none = no_family_lem a.program.now a.at a.to a.parent c.requires.to_in_bounds (sym c.with_tag.ensures ∙ tagged_not c.with_tag.result (opened c.in_default.in_default-own.keys2)) in
+    let none = no_family_lem a.program.now a.at a.to a.parent c.requires.to_in_bounds (sym c.with_tag.ensures ∙ tagged_not c.with_tag.result c.in_default.in_default-own.keys2) in
     record {
       to_in_bounds = c.requires.to_in_bounds;
       size_right = c.taken_by-wanted.ensures.size_right;
@@ -76,7 +74,7 @@ returns c =
     let program = a.program.now in
     let gs = forms_of a.m a.forms.now in
     let o = due read_operand (bad_operand 4 a.parent) (fields_at program a.at a.to) in
-    let none = no_family_lem program a.at a.to a.parent c.requires.to_in_bounds (sym c.with_tag.ensures ∙ tagged_not c.with_tag.result (opened c.in_default.in_default-own.keys2)) in record {
+    let none = no_family_lem program a.at a.to a.parent c.requires.to_in_bounds (sym c.with_tag.ensures ∙ tagged_not c.with_tag.result c.in_default.in_default-own.keys2) in record {
       result_value = c.operand.ensures.result_value (known_in a.families.now a.kinds.now a.sizes.now)
           ∙ ap (λ (d : Due). check_operand (scope_full a.s a.families.now a.kinds.now a.sizes.now a.lows.now a.highs.now) d o) (c.taken_by-wanted.ensures.size_after (known_in a.families.now a.kinds.now a.sizes.now) ∙ (λ z. taken gs (kind_in (c.kind_by-kind.ensures z) (as_form (widened (get_or a.sizes.now (c.size_by-own.ensures z) []))) (formal_at a.families.now a.kinds.now a.sizes.now (c.size_by-own.ensures z)))))
           ∙ plain_operand (scope_full a.s a.families.now a.kinds.now a.sizes.now a.lows.now a.highs.now) a.before gs (kind_by (formal_at a.families.now a.kinds.now a.sizes.now) a.number a.sizes.now) o none;

@@ -1,10 +1,9 @@
 -- `check_call::call_operands` meets its contract. Assumes nothing.
-use mathlib.Core.Path.{◌≡◌, refl, sym, ap, ◌∙◌}
+use mathlib.Core.Path.{refl, sym, ap, ◌∙◌}
 use mathlib.Core.List.{List, map}
-use Prim.Native.Nat.{ℕ, suc, ◌+◌, ◌-◌, ◌≤◌}
+use Prim.Native.Nat.{ℕ, suc, ◌+◌}
 use native.Mathlib.Omega.{arith}
 use native.Mathlib.Numerals.{add-one}
-use borrow.Author.Rules.{rules}
 use lib.ListN.{drop}
 use Rattle.language.specs.Tree.{bad_operand}
 use Rattle.language.specs.Read.{Field, due, read_operand, read_argument}
@@ -17,7 +16,6 @@ use Rattle.check_operand.proofs.Tables.{row_drop}
 use Rattle.check_index.proofs.Answers.{ends_stops, part_goes, part_stops, passes_upto}
 use Rattle.check_call.proofs.Calls.{operand_first, operands_over, operands_left, drop_end}
 use Rattle.check_call.specs.Calls.{formal_at, scope_full, call_operand}
-use borrow.Enum.Refused.{opened}
 use Rattle.check_call.proofs.call_operands.Goals as goal
 
 pub loop-j-init : goal.loop-j-init
@@ -72,11 +70,11 @@ returns-in_default c =
     let e = row_drop (λ (x : ℕ). kind_at (formal_at a.families.now a.kinds.now a.sizes.now) x a.kinds.now a.sizes.now) a.count a.first i.j c.loop-j-test.true in
     let x = call_operand s a.before gs k (due read_operand (bad_operand 4 a.parent) (fields_at program i.from a.to)) in
     let y = call_operands s a.parent a.before gs (drop (suc i.j) ks) (map read_argument (drop 1 (fields_at program i.from a.to))) in record {
-      result_value = part_stops c.call_operand-r.result x y c.call_operand-r.ensures.result_value (opened c.in_default.in_default-own.keys2)
+      result_value = part_stops c.call_operand-r.result x y c.call_operand-r.ensures.result_value c.in_default.in_default-own.keys2
           ∙ sym (operand_first s a.parent a.before gs k (drop (suc i.j) ks) program i.from a.to c.requires.to_in_bounds)
           ∙ ap (λ (l : List Kind). call_operands s a.parent a.before gs l (map read_argument (fields_at program i.from a.to))) (sym e)
           ∙ sym i.invariant.1;
-      ends_at = ends_stops c.call_operand-r.result a.to (opened c.in_default.in_default-own.keys2);
+      ends_at = ends_stops c.call_operand-r.result a.to c.in_default.in_default-own.keys2;
     }
 
 pub loop-j-preserved : goal.loop-j-preserved

@@ -1,5 +1,4 @@
 -- `check_call::parameter_call` meets its contract. Assumes nothing.
-use borrow.Author.Rules.{rules}
 use mathlib.Core.Path.{sym, ap, ◌∙◌}
 use mathlib.Core.List.{[], map}
 use mathlib.Core.Option.{some}
@@ -7,7 +6,7 @@ use Prim.Native.Nat.{ℕ, ◌+◌}
 use native.Mathlib.Omega.{arith}
 use lib.ListN.{get_or}
 use Rattle.language.specs.Read.{read_argument}
-use Rattle.language.specs.Check.{Kind, call_fits}
+use Rattle.language.specs.Check.{call_fits}
 use Rattle.fields.specs.Header.{fields_at}
 use Rattle.forms.specs.Flat.{widened, as_form}
 use Rattle.kinds.specs.declared.Kind as K

@@ -1,5 +1,4 @@
 -- `check_call::same_kind` meets its contract. Assumes nothing.
-use borrow.Author.Rules.{rules}
 use mathlib.Core.Path.{sym, ap, ◌∙◌}
 use Rattle.language.specs.Check.{same_kind}
 use Rattle.kinds.specs.declared.Kind.{Kind}

@@ -1,20 +1,12 @@
 -- `check_call::same_kinds` meets its contract. Assumes nothing.
-use borrow.Author.Rules.{rules}
-use mathlib.Core.Path.{◌≡◌, refl, sym, ◌∙◌}
-use mathlib.Core.List.{List, []}
-use Prim.Native.Nat.{ℕ, suc, ◌+◌, ◌-◌, ◌≤◌}
-use native.Mathlib.Omega.{arith}
-use native.Mathlib.Numerals.{add-one}
+use mathlib.Core.Path.{◌≡◌}
+use mathlib.Core.List.{List}
+use Prim.Native.Nat.{◌-◌, ◌≤◌}
 use lib.IntN.{ℤ}
-use lib.ListN.{drop, get_or}
-use Rattle.language.specs.Check.{same_kind, same_kinds}
-use Rattle.forms.specs.Flat.{widened, as_form}
-use Rattle.check_operand.specs.Tables.{Formals, kind_in, size_of_row, kind_at, kinds_at}
-use Rattle.check_operand.proofs.Tables.{row_drop}
-use Rattle.check_call.specs.Calls.{plain_in, plain_by, plains_at}
-use Rattle.check_call.proofs.Calls.{drop_end}
-use Rattle.check_call.proofs.PassedFamilies.{first_differs, first_same}
-use borrow.Author.Tests.{not-true, not-false}
+use lib.ListN.{drop}
+use Rattle.language.specs.Check.{same_kinds}
+use Rattle.check_operand.specs.Tables.{Formals, kinds_at}
+use Rattle.check_call.specs.Calls.{plains_at}
 use Rattle.check_call.proofs.same_kinds.Given as goal
 
 abbrev pub invariant-loop-i : goal.invariant-loop-i

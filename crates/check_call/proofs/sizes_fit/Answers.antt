@@ -1,18 +1,16 @@
 -- `check_call::sizes_fit` meets its contract. Assumes nothing.
-use borrow.Author.Rules.{rules}
-use mathlib.Core.Path.{◌≡◌, refl, sym, ◌∙◌}
-use Prim.Native.Nat.{ℕ, suc, ◌+◌, ◌-◌, ◌≤◌}
+use mathlib.Core.Path.{refl, sym, ◌∙◌}
+use Prim.Native.Nat.{ℕ, suc, ◌+◌}
 use native.Mathlib.Omega.{arith}
 use native.Mathlib.Numerals.{add-one}
 use lib.ListN.{drop, get_or}
 use Rattle.language.specs.Check.{plain_size, size_fits, sizes_fit}
 use Rattle.check_index.specs.Answers.{checked_part}
-use Rattle.check_operand.specs.Tables.{Formals, kind_at, kinds_at}
+use Rattle.check_operand.specs.Tables.{kind_at, kinds_at}
 use Rattle.check_operand.proofs.Tables.{row_drop}
 use Rattle.check_index.proofs.Answers.{part_goes, part_stops, ends_stops}
 use Rattle.check_call.specs.Calls.{plain_by, plains_at}
 use Rattle.check_call.proofs.Calls.{drop_end}
-use borrow.Enum.Refused.{opened}
 use Rattle.check_call.proofs.sizes_fit.Goals as goal
 
 pub loop-i-init : goal.loop-i-init
@@ -76,10 +74,10 @@ returns-in_default c =
     let ks = a.kinds.now in
     let sizes = a.sizes.now in
     let i = c.loop-i in record {
-      result_value = λ formals. part_stops c.size_fits-r.result (size_fits a.at a.m (plain_by (get_or ks (a.formal + i.i) 0) sizes) (plain_size (kind_at formals (a.actual + i.i) ks sizes))) (sizes_fit a.at a.m (drop (suc i.i) (plains_at a.count a.formal ks sizes)) (drop (suc i.i) (kinds_at formals a.count a.actual ks sizes))) (c.size_fits-r.ensures.result_value formals) (opened c.in_default.in_default-own.keys2)
+      result_value = λ formals. part_stops c.size_fits-r.result (size_fits a.at a.m (plain_by (get_or ks (a.formal + i.i) 0) sizes) (plain_size (kind_at formals (a.actual + i.i) ks sizes))) (sizes_fit a.at a.m (drop (suc i.i) (plains_at a.count a.formal ks sizes)) (drop (suc i.i) (kinds_at formals a.count a.actual ks sizes))) (c.size_fits-r.ensures.result_value formals) c.in_default.in_default-own.keys2
           ∙ sym (i.invariant.1 formals
           ∙ (λ z. sizes_fit a.at a.m (row_drop (λ (j : ℕ). plain_by (get_or ks j 0) sizes) a.count a.formal i.i c.loop-i-test.true z) (row_drop (λ (j : ℕ). kind_at formals j ks sizes) a.count a.actual i.i c.loop-i-test.true z)));
-      ends_at = ends_stops c.size_fits-r.result a.next (opened c.in_default.in_default-own.keys2);
+      ends_at = ends_stops c.size_fits-r.result a.next c.in_default.in_default-own.keys2;
     }
 
 pub loop-i-preserved : goal.loop-i-preserved

@@ -1,18 +1,10 @@
 -- `check_call::sizes_fit` meets its contract. Assumes nothing.
-use borrow.Author.Rules.{rules}
-use mathlib.Core.Path.{◌≡◌, refl, sym, ◌∙◌}
-use Prim.Native.Nat.{ℕ, suc, ◌+◌, ◌-◌, ◌≤◌}
-use native.Mathlib.Omega.{arith}
-use native.Mathlib.Numerals.{add-one}
-use lib.ListN.{drop, get_or}
-use Rattle.language.specs.Check.{plain_size, size_fits, sizes_fit}
-use Rattle.check_index.specs.Answers.{checked_part}
-use Rattle.check_operand.specs.Tables.{Formals, kind_at, kinds_at}
-use Rattle.check_operand.proofs.Tables.{row_drop}
-use Rattle.check_index.proofs.Answers.{part_goes, part_stops, ends_stops}
-use Rattle.check_call.specs.Calls.{plain_by, plains_at}
-use Rattle.check_call.proofs.Calls.{drop_end}
-use borrow.Enum.Refused.{opened}
+use mathlib.Core.Path.{◌≡◌}
+use Prim.Native.Nat.{◌-◌, ◌≤◌}
+use lib.ListN.{drop}
+use Rattle.language.specs.Check.{sizes_fit}
+use Rattle.check_operand.specs.Tables.{Formals, kinds_at}
+use Rattle.check_call.specs.Calls.{plains_at}
 use Rattle.check_call.proofs.sizes_fit.Given as goal
 
 abbrev pub invariant-loop-i : goal.invariant-loop-i

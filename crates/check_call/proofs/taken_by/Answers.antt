@@ -1,5 +1,4 @@
 -- `check_call::taken_by` meets its contract. Assumes nothing.
-use borrow.Author.Rules.{rules}
 use mathlib.Core.Path.{sym, ap, ◌∙◌}
 use Rattle.language.specs.Check.{register, taken}
 use Rattle.kinds.specs.declared.Kind.{Kind}

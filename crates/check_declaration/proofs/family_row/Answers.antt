@@ -1,5 +1,4 @@
 -- `check_declaration::family_row` meets its contract. Assumes nothing.
-use borrow.Author.Rules.{rules}
 use mathlib.Core.Path.{refl, ap, ◌∙◌}
 use mathlib.Core.List.{[], ◌∷◌}
 use Prim.Native.Nat.{◌+◌, ◌*◌, ◌/◌, ◌≤◌, ◌<◌}
@@ -15,7 +14,6 @@ use Rattle.check_declaration.specs.Types.{checked_row}
 use Rattle.check_declaration.proofs.Tables.{number_size, number_kind, row_kind, in_use_later, in_use_set, in_use_upto}
 use Rattle.check_declaration.proofs.FamilyTypes.{both_right, counts_bad, plain_refused, plain_left, plain_all}
 use Rattle.check_declaration.proofs.Formals.{within_upto, plain_upto, after_stops, formals_refused, stays_none, stays_upper, stays_family, formals_family, family_takes}
-use borrow.Enum.Refused.{opened}
 use Rattle.check_declaration.proofs.family_row.Goals as goal
 
 pub plain_from-first-requires : goal.plain_from-first-requires
@@ -80,10 +78,10 @@ returns-in_default c =
     let k₁ = c.plain_rows-r.new.kinds in
     let s₁ = c.plain_rows-r.new.sizes in
     record {
-      sizes_after = λ fs ks n. plain_refused (scope_with fs ks n []) program a.at a.next c.two_counts.result c.two_counts.ensures.result_value m count c.in-Both.is (formal_at families k₁ s₁) c.plain_rows-r.result first k₁ s₁ (c.plain_rows-r.ensures.sizes_after [] [] (formal_at families k₁ s₁)) (opened c.in_default.in_default-own.keys2) (formal_at families k₁ s₁) a.row k₁ s₁;
-      ends_at = ends_stops c.plain_rows-r.result a.next (opened c.in_default.in_default-own.keys2);
-      in_use_after = after_stops (a.row + 1) a.registers c.plain_rows-r.result k₁ (opened c.in_default.in_default-own.keys2);
-      formals_after = formals_refused c.plain_rows-r.result families k₁ (opened c.in_default.in_default-own.keys2);
+      sizes_after = λ fs ks n. plain_refused (scope_with fs ks n []) program a.at a.next c.two_counts.result c.two_counts.ensures.result_value m count c.in-Both.is (formal_at families k₁ s₁) c.plain_rows-r.result first k₁ s₁ (c.plain_rows-r.ensures.sizes_after [] [] (formal_at families k₁ s₁)) c.in_default.in_default-own.keys2 (formal_at families k₁ s₁) a.row k₁ s₁;
+      ends_at = ends_stops c.plain_rows-r.result a.next c.in_default.in_default-own.keys2;
+      in_use_after = after_stops (a.row + 1) a.registers c.plain_rows-r.result k₁ c.in_default.in_default-own.keys2;
+      formals_after = formals_refused c.plain_rows-r.result families k₁ c.in_default.in_default-own.keys2;
       stays = stays_upper bytes a.row first count a.at a.registers families c.requires.formals_in c.plain_rows-r.ensures.apart (omega arith) half;
     }
 

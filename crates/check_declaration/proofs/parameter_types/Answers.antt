@@ -1,22 +1,19 @@
 -- `check_declaration::parameter_types` meets its contract. Assumes nothing.
 use mathlib.Core.Path.{◌≡◌, sym, ap, ◌∙◌}
 use mathlib.Core.List.{List, [], ◌++◌}
-use Prim.Native.Nat.{ℕ, suc, ◌+◌, ◌-◌, ◌≤◌}
+use Prim.Native.Nat.{ℕ, suc, ◌+◌, ◌-◌}
 use native.Mathlib.Omega.{arith}
-use borrow.Author.Rules.{rules}
 use lib.ListN.{length}
 use Rattle.language.specs.Read.{types_of}
-use Rattle.language.specs.Check.{Checked, good, ◌>>=◌, Kind, Signature, kinds_of}
+use Rattle.language.specs.Check.{Checked, good, ◌>>=◌, Kind, kinds_of}
 use Rattle.fields.specs.Header.{fields_at}
 use Rattle.check_operand.specs.Tables.{scope_with, kinds_at}
 use Rattle.check_call.specs.Calls.{formal_at}
-use Rattle.check_index.specs.Answers.{Beyond}
 use Rattle.check_index.proofs.Answers.{beyond_none, beyond_more, beyond_stops, passes_upto}
-use Rattle.check_declaration.specs.Types.{FormalsIn, Stays, InUse, checked_rows}
+use Rattle.check_declaration.specs.Types.{checked_rows}
 use Rattle.check_declaration.proofs.Tables.{in_use_later, in_use_stops, in_use_upto}
 use Rattle.check_declaration.proofs.Types.{type_level, rows_stop, types_stop, types_go, more_kinds, no_kinds, all_kinds}
 use Rattle.check_declaration.proofs.Formals.{stays_none, stays_more, kinds_stay, formals_later, formals_upto, formals_stop}
-use borrow.Enum.Refused.{opened}
 use Rattle.check_declaration.proofs.parameter_types.Goals as goal
 
 pub loop-j-init : goal.loop-j-init
@@ -71,13 +68,13 @@ returns-in_default c =
     let before = formal_at i.families i.kinds i.sizes in
     let sofar : List Kind → Checked (List Kind) = λ rest. good (kinds_at before i.j a.first i.kinds i.sizes ++ rest) in
     let along = i.invariant.2.low in record {
-      sizes_after = λ fs ks. rows_stop g c.typed_row-r.result a.count a.first kinds sizes sofar (opened c.in_default.in_default-own.keys2)
-          ∙ ap (λ (c : Checked (List Kind)). c >>= sofar) (types_stop (type_level (scope_with fs ks a.m []) a.parent) (a.count - (i.j + 1)) program i.from a.to g c.typed_row-r.result (a.first + i.j) kinds sizes (c.typed_row-r.ensures.sizes_after fs ks) a.count a.first (opened c.in_default.in_default-own.keys2)
+      sizes_after = λ fs ks. rows_stop g c.typed_row-r.result a.count a.first kinds sizes sofar c.in_default.in_default-own.keys2
+          ∙ ap (λ (c : Checked (List Kind)). c >>= sofar) (types_stop (type_level (scope_with fs ks a.m []) a.parent) (a.count - (i.j + 1)) program i.from a.to g c.typed_row-r.result (a.first + i.j) kinds sizes (c.typed_row-r.ensures.sizes_after fs ks) a.count a.first c.in_default.in_default-own.keys2
           ∙ ap (λ (n : ℕ). kinds_of (scope_with fs ks a.m []) (types_of a.parent n (fields_at program i.from a.to))) (sym e))
           ∙ sym (i.invariant.6 fs ks);
-      passes_count = beyond_stops program a.at a.to a.count c.typed_row-r.result (opened c.in_default.in_default-own.keys2);
-      in_use_before = in_use_stops (a.first + a.count) a.registers a.to c.typed_row-r.result kinds (opened c.in_default.in_default-own.keys2);
-      formals_before = formals_stop a.to c.typed_row-r.result families kinds (opened c.in_default.in_default-own.keys2);
+      passes_count = beyond_stops program a.at a.to a.count c.typed_row-r.result c.in_default.in_default-own.keys2;
+      in_use_before = in_use_stops (a.first + a.count) a.registers a.to c.typed_row-r.result kinds c.in_default.in_default-own.keys2;
+      formals_before = formals_stop a.to c.typed_row-r.result families kinds c.in_default.in_default-own.keys2;
       stays = stays_more (length program) a.first a.at i.from a.registers i.j along i.invariant.1 c.typed_row-r.ensures.stays;
     }
 

@@ -1,22 +1,15 @@
 -- `check_declaration::parameter_types` meets its contract. Assumes nothing.
-use mathlib.Core.Path.{◌≡◌, sym, ap, ◌∙◌}
+use mathlib.Core.Path.{◌≡◌}
 use mathlib.Core.List.{List, [], ◌++◌}
-use Prim.Native.Nat.{ℕ, suc, ◌+◌, ◌-◌, ◌≤◌}
-use native.Mathlib.Omega.{arith}
-use borrow.Author.Rules.{rules}
+use Prim.Native.Nat.{◌+◌, ◌-◌, ◌≤◌}
 use lib.ListN.{length}
 use Rattle.language.specs.Read.{types_of}
-use Rattle.language.specs.Check.{Checked, good, ◌>>=◌, Kind, Signature, kinds_of}
+use Rattle.language.specs.Check.{good, ◌>>=◌, Kind, Signature, kinds_of}
 use Rattle.fields.specs.Header.{fields_at}
 use Rattle.check_operand.specs.Tables.{scope_with, kinds_at}
 use Rattle.check_call.specs.Calls.{formal_at}
 use Rattle.check_index.specs.Answers.{Beyond}
-use Rattle.check_index.proofs.Answers.{beyond_none, beyond_more, beyond_stops, passes_upto}
-use Rattle.check_declaration.specs.Types.{FormalsIn, Stays, InUse, checked_rows}
-use Rattle.check_declaration.proofs.Tables.{in_use_later, in_use_stops, in_use_upto}
-use Rattle.check_declaration.proofs.Types.{type_level, rows_stop, types_stop, types_go, more_kinds, no_kinds, all_kinds}
-use Rattle.check_declaration.proofs.Formals.{stays_none, stays_more, kinds_stay, formals_later, formals_upto, formals_stop}
-use borrow.Enum.Refused.{opened}
+use Rattle.check_declaration.specs.Types.{FormalsIn, Stays, InUse}
 use Rattle.check_declaration.proofs.parameter_types.Given as goal
 
 abbrev pub invariant-loop-j : goal.invariant-loop-j

@@ -1,22 +1,19 @@
 -- `check_declaration::plain_rows` meets its contract. Assumes nothing.
 use mathlib.Core.Path.{◌≡◌, sym, ap, ◌∙◌}
 use mathlib.Core.List.{List, [], ◌++◌}
-use Prim.Native.Nat.{ℕ, suc, ◌+◌, ◌*◌, ◌-◌, ◌≤◌}
+use Prim.Native.Nat.{ℕ, suc, ◌+◌, ◌-◌}
 use native.Mathlib.Omega.{arith}
-use borrow.Author.Rules.{rules}
 use lib.ListN.{length}
 use Rattle.language.specs.Tree.{bad_type}
 use Rattle.language.specs.Read.{read_plain, parts_of}
-use Rattle.language.specs.Check.{Checked, good, ◌>>=◌, Kind, Signature, plain_kinds}
+use Rattle.language.specs.Check.{Checked, good, ◌>>=◌, Kind, plain_kinds}
 use Rattle.fields.specs.Header.{fields_at}
 use Rattle.check_operand.specs.Tables.{Formals, scope_with, kinds_at}
-use Rattle.check_index.specs.Answers.{Beyond}
 use Rattle.check_index.proofs.Answers.{beyond_none, beyond_more, beyond_stops, passes_upto}
-use Rattle.check_declaration.specs.Types.{Apart, InUse, PlainRows, checked_rows}
+use Rattle.check_declaration.specs.Types.{checked_rows}
 use Rattle.check_declaration.proofs.Tables.{apart_none, apart_more, in_use_upto, rows_below}
 use Rattle.check_declaration.proofs.Types.{plain_level, rows_stop, types_stop, types_go, more_kinds, no_kinds, all_kinds}
 use Rattle.check_declaration.proofs.Formals.{no_plain, more_plain, plain_upto, within_stops, after_stops, plain_stops}
-use borrow.Enum.Refused.{opened}
 use Rattle.check_declaration.proofs.plain_rows.Goals as goal
 
 pub loop-j-init : goal.loop-j-init
@@ -61,14 +58,14 @@ returns-in_default c =
     let e : a.count - i.j ≡ suc (a.count - (i.j + 1)) = (let h = c.loop-j-test.true in omega arith) in
     let sofar : Formals → List Kind → Checked (List Kind) = λ g rest. good (kinds_at g i.j a.first i.kinds i.sizes ++ rest) in
     let last = apart_more (length program) a.first a.count i.j c.loop-j-test.true i.invariant.1 c.plain_row-r.ensures.apart in record {
-      sizes_after = λ fs ks g. rows_stop g c.plain_row-r.result a.count a.first kinds sizes (sofar g) (opened c.in_default.in_default-own.keys2)
-          ∙ ap (λ (c : Checked (List Kind)). c >>= sofar g) (types_stop (plain_level (scope_with fs ks a.m []) a.parent) (a.count - (i.j + 1)) program i.from a.to g c.plain_row-r.result (a.first + i.j) kinds sizes (c.plain_row-r.ensures.sizes_after fs ks g) a.count a.first (opened c.in_default.in_default-own.keys2)
+      sizes_after = λ fs ks g. rows_stop g c.plain_row-r.result a.count a.first kinds sizes (sofar g) c.in_default.in_default-own.keys2
+          ∙ ap (λ (c : Checked (List Kind)). c >>= sofar g) (types_stop (plain_level (scope_with fs ks a.m []) a.parent) (a.count - (i.j + 1)) program i.from a.to g c.plain_row-r.result (a.first + i.j) kinds sizes (c.plain_row-r.ensures.sizes_after fs ks g) a.count a.first c.in_default.in_default-own.keys2
           ∙ ap (λ (n : ℕ). plain_kinds (scope_with fs ks a.m []) (parts_of read_plain (bad_type 4 a.parent) n (fields_at program i.from a.to))) (sym e))
           ∙ sym (i.invariant.7 fs ks g);
-      passes_count = beyond_stops program a.at a.to a.count c.plain_row-r.result (opened c.in_default.in_default-own.keys2);
-      types_within = within_stops a.at a.to a.count c.plain_row-r.result (opened c.in_default.in_default-own.keys2);
-      in_use_after = after_stops 0 a.registers c.plain_row-r.result kinds (opened c.in_default.in_default-own.keys2);
-      plain_after = plain_stops c.plain_row-r.result a.count a.first kinds (opened c.in_default.in_default-own.keys2);
+      passes_count = beyond_stops program a.at a.to a.count c.plain_row-r.result c.in_default.in_default-own.keys2;
+      types_within = within_stops a.at a.to a.count c.plain_row-r.result c.in_default.in_default-own.keys2;
+      in_use_after = after_stops 0 a.registers c.plain_row-r.result kinds c.in_default.in_default-own.keys2;
+      plain_after = plain_stops c.plain_row-r.result a.count a.first kinds c.in_default.in_default-own.keys2;
       apart = last;
     }
 

@@ -1,22 +1,15 @@
 -- `check_declaration::plain_rows` meets its contract. Assumes nothing.
-use mathlib.Core.Path.{◌≡◌, sym, ap, ◌∙◌}
+use mathlib.Core.Path.{◌≡◌}
 use mathlib.Core.List.{List, [], ◌++◌}
-use Prim.Native.Nat.{ℕ, suc, ◌+◌, ◌*◌, ◌-◌, ◌≤◌}
-use native.Mathlib.Omega.{arith}
-use borrow.Author.Rules.{rules}
+use Prim.Native.Nat.{◌+◌, ◌*◌, ◌-◌, ◌≤◌}
 use lib.ListN.{length}
 use Rattle.language.specs.Tree.{bad_type}
 use Rattle.language.specs.Read.{read_plain, parts_of}
-use Rattle.language.specs.Check.{Checked, good, ◌>>=◌, Kind, Signature, plain_kinds}
+use Rattle.language.specs.Check.{good, ◌>>=◌, Kind, Signature, plain_kinds}
 use Rattle.fields.specs.Header.{fields_at}
 use Rattle.check_operand.specs.Tables.{Formals, scope_with, kinds_at}
 use Rattle.check_index.specs.Answers.{Beyond}
-use Rattle.check_index.proofs.Answers.{beyond_none, beyond_more, beyond_stops, passes_upto}
-use Rattle.check_declaration.specs.Types.{Apart, InUse, PlainRows, checked_rows}
-use Rattle.check_declaration.proofs.Tables.{apart_none, apart_more, in_use_upto, rows_below}
-use Rattle.check_declaration.proofs.Types.{plain_level, rows_stop, types_stop, types_go, more_kinds, no_kinds, all_kinds}
-use Rattle.check_declaration.proofs.Formals.{no_plain, more_plain, plain_upto, within_stops, after_stops, plain_stops}
-use borrow.Enum.Refused.{opened}
+use Rattle.check_declaration.specs.Types.{Apart, InUse, PlainRows}
 use Rattle.check_declaration.proofs.plain_rows.Given as goal
 
 abbrev pub invariant-loop-j : goal.invariant-loop-j

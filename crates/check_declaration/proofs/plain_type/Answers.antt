@@ -1,5 +1,4 @@
 -- `check_declaration::plain_type` meets its contract. Assumes nothing.
-use borrow.Author.Rules.{rules}
 use mathlib.Core.Path.{sym, ◌∙◌}
 use mathlib.Core.List.{[]}
 use native.Mathlib.Omega.{arith}
@@ -8,7 +7,6 @@ use Rattle.check_operand.specs.Tables.{scope_with}
 use Rattle.check_declaration.specs.Types.{checked_type}
 use Rattle.check_index.proofs.Answers.{passed}
 use Rattle.check_declaration.proofs.Types.{type_none, type_cut, type_seven, type_single, type_more, type_many, type_other, ends_kept, size_many, size_refused}
-use borrow.Enum.Refused.{opened}
 use Rattle.check_declaration.proofs.plain_type.Goals as goal
 
 pub overflow_add-from : goal.overflow_add-from
@@ -103,8 +101,8 @@ returns-in-Upto c =
     let k = c.requires.to_in_bounds in
     let l = c.sized_type.new.f in
     record {
-      f_after = λ fs ks. size_many next c.sized_type.result l (opened c.in-Upto.in-Upto-own.keys1) ∙ c.sized_type.ensures.f_after fs ks ∙ type_many (scope_with fs ks a.m []) program a.at a.to a.parent tag next w c.in-17.is;
-      type_passes = (passed program a.at a.to tag next w, ends_kept next c.sized_type.result l (opened c.in-Upto.in-Upto-own.keys1) c.sized_type.ensures.form_ends_at, type_seven (scope_with [] [] a.m []) program a.at next _ (omega arith) (sym (size_many next c.sized_type.result l (opened c.in-Upto.in-Upto-own.keys1) ∙ c.sized_type.ensures.f_after [] [])));
+      f_after = λ fs ks. size_many next c.sized_type.result l c.in-Upto.in-Upto-own.keys1 ∙ c.sized_type.ensures.f_after fs ks ∙ type_many (scope_with fs ks a.m []) program a.at a.to a.parent tag next w c.in-17.is;
+      type_passes = (passed program a.at a.to tag next w, ends_kept next c.sized_type.result l c.in-Upto.in-Upto-own.keys1 c.sized_type.ensures.form_ends_at, type_seven (scope_with [] [] a.m []) program a.at next _ (omega arith) (sym (size_many next c.sized_type.result l c.in-Upto.in-Upto-own.keys1 ∙ c.sized_type.ensures.f_after [] [])));
     }
 
 pub returns-in-Refused : goal.returns-in-Refused

@@ -15,7 +15,6 @@ use Rattle.check_declaration.specs.Types.{size_row}
 use Rattle.check_declaration.specs.Registers.{checked_register}
 use Rattle.check_declaration.proofs.Registers.{size_fits_lem, size_two, register_stops}
 use Rattle.check_declaration.proofs.Tables.{apart_both, row_both, in_use_set, number_size}
-use borrow.Enum.Refused.{opened}
 use Rattle.check_declaration.proofs.register.Goals as goal
 
 pub returns-in_default : goal.returns-in_default

@@ -1,5 +1,4 @@
 -- `check_declaration::row_number` meets its contract. Assumes nothing.
-use borrow.Author.Rules.{rules}
 use native.Mathlib.Omega.{arith}
 use Rattle.check_declaration.proofs.Tables.{number_few}
 use Rattle.check_declaration.proofs.row_number.Goals as goal

@@ -1,5 +1,4 @@
 -- `check_declaration::sized_type` meets its contract. Assumes nothing.
-use borrow.Author.Rules.{rules}
 use mathlib.Core.Path.{refl}
 use Prim.Native.Nat.{◌+◌}
 use native.Mathlib.Omega.{arith}
@@ -8,7 +7,6 @@ use Rattle.check_declaration.specs.Types.{checked_sized_type}
 use Rattle.check_index.proofs.Answers.{form_passes_upto, form_ends_stops}
 use Rattle.check_declaration.proofs.Types.{type_stops, type_long, type_not, type_good}
 use Rattle.check_operand.proofs.Tables.{no_rows}
-use borrow.Enum.Refused.{opened}
 use Rattle.check_declaration.proofs.sized_type.Goals as goal
 
 pub returns-in_default : goal.returns-in_default
@@ -17,8 +15,8 @@ returns-in_default c =
     let program = a.program.now in
     let l = c.index-r.new.f in
     record {
-      f_after = λ fs ks. type_stops fs ks a.m program a.at a.next c.index-r.result l c.index-r.ensures.f_after l (opened c.in_default.in_default-own.keys2);
-      form_ends_at = form_ends_stops a.next c.index-r.result l (opened c.in_default.in_default-own.keys2);
+      f_after = λ fs ks. type_stops fs ks a.m program a.at a.next c.index-r.result l c.index-r.ensures.f_after l c.in_default.in_default-own.keys2;
+      form_ends_at = form_ends_stops a.next c.index-r.result l c.in_default.in_default-own.keys2;
     }
 
 pub returns-then-end-next : goal.returns-then-end-next
@@ -57,8 +55,8 @@ returns-in_default-t c =
     let end = c.in-Upto.end in
     let v = form_passes_upto program (a.at + 3) a.next c.index-r.result l end c.in-Upto.is c.index-r.ensures.form_passes in
     record {
-      f_after = λ fs ks. type_not fs ks a.m program a.at a.next c.index-r.result l c.index-r.ensures.f_after end c.in-Upto.is v.0 c.if-end-next.false c.must_show-t.result (c.must_show-t.ensures.result_value fs ks) l (opened c.in_default-t.in_default-t-own.keys2);
-      form_ends_at = form_ends_stops a.next c.must_show-t.result l (opened c.in_default-t.in_default-t-own.keys2);
+      f_after = λ fs ks. type_not fs ks a.m program a.at a.next c.index-r.result l c.index-r.ensures.f_after end c.in-Upto.is v.0 c.if-end-next.false c.must_show-t.result (c.must_show-t.ensures.result_value fs ks) l c.in_default-t.in_default-t-own.keys2;
+      form_ends_at = form_ends_stops a.next c.must_show-t.result l c.in_default-t.in_default-t-own.keys2;
     }
 
 pub returns : goal.returns
@@ -70,6 +68,6 @@ returns c =
     let end = c.in-Upto.end in
     let v = form_passes_upto program (a.at + 3) a.next c.index-r.result l end c.in-Upto.is c.index-r.ensures.form_passes in
     record {
-      f_after = λ fs ks. type_good fs ks a.m program a.at a.next c.index-r.result l c.index-r.ensures.f_after end c.in-Upto.is v.0 c.if-end-next.false c.must_show-t.result (c.must_show-t.ensures.result_value fs ks) (opened c.in-Upto-t.in-Upto-t-own.keys1);
+      f_after = λ fs ks. type_good fs ks a.m program a.at a.next c.index-r.result l c.index-r.ensures.f_after end c.in-Upto.is v.0 c.if-end-next.false c.must_show-t.result (c.must_show-t.ensures.result_value fs ks) c.in-Upto-t.in-Upto-t-own.keys1;
       form_ends_at = (refl, v.1);
     }

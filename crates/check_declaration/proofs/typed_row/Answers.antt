@@ -1,5 +1,4 @@
 -- `check_declaration::typed_row` meets its contract. Assumes nothing.
-use borrow.Author.Rules.{rules}
 use mathlib.Core.Path.{sym, ◌∙◌}
 use mathlib.Core.List.{[]}
 use Prim.Native.Nat.{◌/◌, ◌<◌}
@@ -12,7 +11,6 @@ use Rattle.check_call.specs.Calls.{formal_at}
 use Rattle.check_declaration.proofs.Tables.{in_use_later}
 use Rattle.check_declaration.proofs.FamilyTypes.{type_family, type_plain}
 use Rattle.check_declaration.proofs.Formals.{stays_plain, plain_after, formals_after}
-use borrow.Enum.Refused.{opened}
 use Rattle.check_declaration.proofs.typed_row.Goals as goal
 
 pub family_row-requires : goal.family_row-requires
@@ -68,7 +66,7 @@ returns c =
     let sizes = c.plain_row.new.sizes in
     let half : a.row < length kinds / 2 = omega (arith, u.few, t.kinds_long, c.requires.at_le_to.0, c.requires.at_le_to.1) in
     record {
-      sizes_after = λ fs ks. c.plain_row.ensures.sizes_after fs ks (formal_at families later sizes) ∙ type_plain (scope_with fs ks a.m []) program a.at a.to a.parent c.requires.at_le_to.1 (sym c.with_tag.ensures ∙ tagged_not c.with_tag.result (opened c.in_default.in_default-own.keys2));
+      sizes_after = λ fs ks. c.plain_row.ensures.sizes_after fs ks (formal_at families later sizes) ∙ type_plain (scope_with fs ks a.m []) program a.at a.to a.parent c.requires.at_le_to.1 (sym c.with_tag.ensures ∙ tagged_not c.with_tag.result c.in_default.in_default-own.keys2);
       passes = c.plain_row.ensures.passes;
       in_use_after = plain_after program a.at a.to a.row a.registers c.plain_row.result kinds later u c.plain_row.ensures.passes c.plain_row.ensures.in_use_after;
       formals_after = formals_after program (length program) a.row a.at a.to c.plain_row.result families c.requires.formals_in c.plain_row.ensures.apart half c.plain_row.ensures.passes;

@@ -1,5 +1,4 @@
 -- `check_index::combine` meets its contract. Assumes nothing.
-use borrow.Author.Rules.{rules}
 use mathlib.Core.Path.{refl, sym, ap, ◌∙◌}
 use Rattle.language.specs.Check.{combined}
 use Rattle.forms.specs.Flat.{as_form}

@@ -1,5 +1,4 @@
 -- `check_index::product` meets its contract. Assumes nothing.
-use borrow.Author.Rules.{rules}
 use mathlib.Core.Path.{refl}
 use Rattle.forms.specs.Products.{product_of}
 use Rattle.check_index.specs.Answers.{checked_form}

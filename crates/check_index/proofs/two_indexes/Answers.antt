@@ -1,9 +1,7 @@
 -- `check_index::two_indexes` meets its contract. Assumes nothing.
-use borrow.Author.Rules.{rules}
 use Rattle.check_index.specs.Indexes.{scope_of}
 use Rattle.check_index.proofs.Answers.{form_passes_upto, beyond_none, beyond_more}
 use Rattle.check_index.proofs.TwoBounds.{low_stops, high_stops, high_good, bounds_stop}
-use borrow.Enum.Refused.{opened}
 use Rattle.check_index.proofs.two_indexes.Goals as goal
 
 pub returns-in_default : goal.returns-in_default

@@ -1,5 +1,4 @@
 -- `check_operand::answered` meets its contract. Assumes nothing.
-use borrow.Author.Rules.{rules}
 use mathlib.Core.Path.{refl, sym, ap}
 use Rattle.language.specs.Check.{by_showing}
 use Rattle.forms.specs.Flat.{shown_of}

@@ -1,5 +1,4 @@
 -- `check_operand::at_least` meets its contract. Assumes nothing.
-use borrow.Author.Rules.{rules}
 use mathlib.Core.Path.{ap, ◌∙◌}
 use native.Mathlib.Omega.{arith}
 use Rattle.language.specs.Form.{difference_of, ◌then_build◌}

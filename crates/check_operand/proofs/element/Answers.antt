@@ -1,5 +1,4 @@
 -- `check_operand::element` meets its contract. Assumes nothing.
-use borrow.Author.Rules.{rules}
 use mathlib.Core.Path.{◌≡◌, ap, ◌∙◌}
 use mathlib.Core.List.{List, []}
 use Prim.Native.Nat.{ℕ, ◌+◌}
@@ -24,7 +23,6 @@ use Rattle.check_operand.proofs.Operands.{element_none, element_beyond, element_
 use Rattle.check_operand.proofs.Tables.{scope_forms, kinds_get, kinds_none}
 use Rattle.language.specs.Check as C
 use Rattle.check_operand.proofs.Wires.{leaves_form, leaves_stops, element_form, form_is}
-use borrow.Enum.Refused.{opened}
 use Rattle.check_operand.proofs.element.Goals as goal
 
 pub returns-then-next-from : goal.returns-then-next-from
@@ -76,9 +74,9 @@ returns-in_default c =
     let l = c.index-r.new.f in
     let i = due (read_index 16) (bad_index 4 a.at) (fields_at program (a.at + 4) a.next) in
     record {
-      result_value = λ fs z. element_stops (scope_at fs a.s a.kinds.now a.sizes.now a.lows.now a.highs.now) (d fs z) a.at (slice from a.next program) n program a.next e (k fs) (kinds_get fs.formals a.s.count a.s.first n a.kinds.now a.sizes.now (let q = c.if-s-n.false in omega arith)) c.index-r.result l (c.index-r.ensures.f_after ∙ scope_forms (tabulated fs.declared a.s.families 0) (ks fs) a.s.variables a.s.loops a.lows.now a.highs.now i) (opened c.in_default.in_default-own.keys2);
-      ends_at = ends_stops c.index-r.result a.next (opened c.in_default.in_default-own.keys2);
-      leaves = λ fs. leaves_stops _ _ c.index-r.result l (opened c.in_default.in_default-own.keys2);
+      result_value = λ fs z. element_stops (scope_at fs a.s a.kinds.now a.sizes.now a.lows.now a.highs.now) (d fs z) a.at (slice from a.next program) n program a.next e (k fs) (kinds_get fs.formals a.s.count a.s.first n a.kinds.now a.sizes.now (let q = c.if-s-n.false in omega arith)) c.index-r.result l (c.index-r.ensures.f_after ∙ scope_forms (tabulated fs.declared a.s.families 0) (ks fs) a.s.variables a.s.loops a.lows.now a.highs.now i) c.in_default.in_default-own.keys2;
+      ends_at = ends_stops c.index-r.result a.next c.in_default.in_default-own.keys2;
+      leaves = λ fs. leaves_stops _ _ c.index-r.result l c.in_default.in_default-own.keys2;
     }
 
 pub returns-then-end-next : goal.returns-then-end-next
@@ -137,9 +135,9 @@ returns-in_default-fits c =
     let size = as_form (widened (get_or a.sizes.now (size_of_row (get_or a.kinds.now row 0)) [])) in
     let good : (fs : Known) (z : List ℤ) → (element_size a.at (d fs z) (k fs) >>= λ size. check_within a.at (scope_at fs a.s a.kinds.now a.sizes.now a.lows.now a.highs.now) size (as_form l)) ≡ check_operand (scope_at fs a.s a.kinds.now a.sizes.now a.lows.now a.highs.now) (d fs z) (read_element a.at (slice from a.next program)) = λ fs z. element_good (scope_at fs a.s a.kinds.now a.sizes.now a.lows.now a.highs.now) (d fs z) a.at (slice from a.next program) n program a.next e (k fs) (kinds_get fs.formals a.s.count a.s.first n a.kinds.now a.sizes.now (let q = c.if-s-n.false in omega arith)) c.index-r.result l (c.index-r.ensures.f_after ∙ scope_forms (tabulated fs.declared a.s.families 0) (ks fs) a.s.variables a.s.loops a.lows.now a.highs.now i) end c.in-Upto.is u.0 c.if-end-next.false in
     record {
-      result_value = λ fs z. kind_stops (element_size a.at (d fs z) (k fs)) (λ m. check_within a.at (scope_at fs a.s a.kinds.now a.sizes.now a.lows.now a.highs.now) m (as_form l)) size c.element_kind-fits.result (c.element_kind-fits.ensures.f_value size z fs (fs.formals (size_of_row (get_or a.kinds.now row 0))) ∙ ap (λ (k : Kind). element_size a.at (d fs z) (kind_in k size (fs.formals (size_of_row (get_or a.kinds.now row 0))))) (c.kind_by-kind.ensures ∙ ap (λ (j : ℕ). kind_of_row (get_or a.kinds.now (a.s.first + j) 0)) v)) (opened c.in_default-fits.in_default-fits-own.keys2) ∙ good fs z;
-      ends_at = ends_stops c.element_kind-fits.result a.next (opened c.in_default-fits.in_default-fits-own.keys2);
-      leaves = λ fs. leaves_stops _ _ c.element_kind-fits.result l (opened c.in_default-fits.in_default-fits-own.keys2);
+      result_value = λ fs z. kind_stops (element_size a.at (d fs z) (k fs)) (λ m. check_within a.at (scope_at fs a.s a.kinds.now a.sizes.now a.lows.now a.highs.now) m (as_form l)) size c.element_kind-fits.result (c.element_kind-fits.ensures.f_value size z fs (fs.formals (size_of_row (get_or a.kinds.now row 0))) ∙ ap (λ (k : Kind). element_size a.at (d fs z) (kind_in k size (fs.formals (size_of_row (get_or a.kinds.now row 0))))) (c.kind_by-kind.ensures ∙ ap (λ (j : ℕ). kind_of_row (get_or a.kinds.now (a.s.first + j) 0)) v)) c.in_default-fits.in_default-fits-own.keys2 ∙ good fs z;
+      ends_at = ends_stops c.element_kind-fits.result a.next c.in_default-fits.in_default-fits-own.keys2;
+      leaves = λ fs. leaves_stops _ _ c.element_kind-fits.result l c.in_default-fits.in_default-fits-own.keys2;
     }
 
 pub offset_bounds-sizes-own : goal.offset_bounds-sizes-own
@@ -200,7 +198,7 @@ returns c =
       result_value = λ fs z. c.answered.ensures.result_value
           ∙ c.within-v.ensures a.at (tabulated fs.declared a.s.families 0) (ks fs)
           ∙ ap (λ (j : ℕ). check_within a.at (scope_at fs a.s a.kinds.now a.sizes.now a.lows.now a.highs.now) (as_form (widened (get_or a.sizes.now j []))) (as_form l)) (c.size_by-own.ensures ∙ ap (λ (j : ℕ). size_of_row (get_or a.kinds.now (a.s.first + j) 0)) v)
-          ∙ kind_goes (element_size a.at (d fs z) (k fs)) (λ m. check_within a.at (scope_at fs a.s a.kinds.now a.sizes.now a.lows.now a.highs.now) m (as_form l)) size c.element_kind-fits.result (c.element_kind-fits.ensures.f_value size z fs (fs.formals (size_of_row (get_or a.kinds.now row 0))) ∙ ap (λ (k : Kind). element_size a.at (d fs z) (kind_in k size (fs.formals (size_of_row (get_or a.kinds.now row 0))))) (c.kind_by-kind.ensures ∙ ap (λ (j : ℕ). kind_of_row (get_or a.kinds.now (a.s.first + j) 0)) v)) (opened c.in-Upto-fits.in-Upto-fits-own.keys1)
+          ∙ kind_goes (element_size a.at (d fs z) (k fs)) (λ m. check_within a.at (scope_at fs a.s a.kinds.now a.sizes.now a.lows.now a.highs.now) m (as_form l)) size c.element_kind-fits.result (c.element_kind-fits.ensures.f_value size z fs (fs.formals (size_of_row (get_or a.kinds.now row 0))) ∙ ap (λ (k : Kind). element_size a.at (d fs z) (kind_in k size (fs.formals (size_of_row (get_or a.kinds.now row 0))))) (c.kind_by-kind.ensures ∙ ap (λ (j : ℕ). kind_of_row (get_or a.kinds.now (a.s.first + j) 0)) v)) c.in-Upto-fits.in-Upto-fits-own.keys1
           ∙ good fs z;
       ends_at = c.answered.ensures.ends_at;
       leaves = λ fs. leaves_form (scope_at fs a.s a.kinds.now a.sizes.now a.lows.now a.highs.now) (read_element a.at (slice from a.next program)) c.answered.result l

@@ -1,5 +1,4 @@
 -- `check_operand::element_kind` meets its contract. Assumes nothing.
-use borrow.Author.Rules.{rules}
 use mathlib.Core.Path.{refl, sym, ap, ◌∙◌}
 use Rattle.language.specs.Check.{element_size}
 use Rattle.check_operand.specs.declared.Wanted.{Wanted}

@@ -1,5 +1,4 @@
 -- `check_operand::kind_by` meets its contract. Assumes nothing.
-use borrow.Author.Rules.{rules}
 use Rattle.check_operand.specs.Tables.{kind_of_row}
 use Rattle.check_operand.proofs.kind_by.Goals as goal
 

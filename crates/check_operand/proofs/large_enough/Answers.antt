@@ -17,7 +17,12 @@ subtract-requires c =
 
 pub show-requires : goal.show-requires
 show-requires c =
-    (c.subtract.ensures.kept_3 c.if-subtract.true, c.requires.1.1)
+    record {
+      kept = c.subtract.ensures.kept_3 c.if-subtract.true;
+      loops_bound = c.requires.loops_bound;
+      rows = c.requires.rows;
+      rows_2 = c.requires.rows_2;
+    }
 
 pub returns-then-subtract : goal.returns-then-subtract
 unfolding ◌then_build◌

@@ -1,5 +1,4 @@
 -- `check_operand::must_show` meets its contract. Assumes nothing.
-use borrow.Author.Rules.{rules}
 use mathlib.Core.Path.{ap, ◌∙◌}
 use Rattle.language.specs.Check.{by_showing, must_show}
 use Rattle.check_operand.proofs.must_show.Goals as goal

@@ -1,5 +1,4 @@
 -- `check_operand::one_wire` meets its contract. Assumes nothing.
-use borrow.Author.Rules.{rules}
 use mathlib.Core.Path.{refl, sym, ◌∙◌}
 use lib.ListN.{drop}
 use Rattle.language.specs.Tree.{bad_operand}
@@ -10,7 +9,6 @@ use Rattle.check_index.specs.Answers.{checked_part}
 use Rattle.check_operand.specs.Tables.{Known, scope_at}
 use Rattle.check_operand.specs.Operands.{wanted_of}
 use Rattle.check_index.proofs.Answers.{ends_stops, part_goes, part_stops, passes_upto, left_some, left_none}
-use borrow.Enum.Refused.{opened}
 use Rattle.check_operand.proofs.one_wire.Goals as goal
 
 pub operand-r-requires : goal.operand-r-requires
@@ -30,8 +28,8 @@ returns-in_default c =
     let x : Known → Checked (Unit {0}) = λ fs. check_operand (scope_at fs a.s a.kinds.now a.sizes.now a.lows.now a.highs.now) wire (due read_operand (bad_operand 4 a.at) (fields_at program a.from a.next)) in
     let y = no_leftover a.at (ending (drop 1 (fields_at program a.from a.next))) in
     record {
-      result_value = λ fs. part_stops c.operand-r.result (x fs) y (c.operand-r.ensures.result_value fs) (opened c.in_default.in_default-own.keys2);
-      ends_at = ends_stops c.operand-r.result a.next (opened c.in_default.in_default-own.keys2);
+      result_value = λ fs. part_stops c.operand-r.result (x fs) y (c.operand-r.ensures.result_value fs) c.in_default.in_default-own.keys2;
+      ends_at = ends_stops c.operand-r.result a.next c.in_default.in_default-own.keys2;
     }
 
 pub returns-then-end-next : goal.returns-then-end-next

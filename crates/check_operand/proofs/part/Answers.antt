@@ -1,5 +1,4 @@
 -- `check_operand::part` meets its contract. Assumes nothing.
-use borrow.Author.Rules.{rules}
 use mathlib.Core.Path.{◌≡◌, ap, ◌∙◌}
 use mathlib.Core.List.{[], List}
 use Prim.Native.Nat.{ℕ, ◌+◌}
@@ -18,7 +17,6 @@ use Rattle.check_index.proofs.Answers.{ends_stops}
 use Rattle.check_index.proofs.TwoBounds.{bounds_upto}
 use Rattle.check_operand.proofs.Slices.{slice_empty, slice_beyond, slice_stops, slice_long, slice_good}
 use Rattle.check_operand.proofs.Tables.{bounds_same, kinds_get, kinds_none}
-use borrow.Enum.Refused.{opened}
 use Rattle.check_operand.proofs.part.Goals as goal
 
 pub returns-then-next-from : goal.returns-then-next-from
@@ -62,8 +60,8 @@ returns-in_default c =
     let h = c.two_indexes-r.new.high in
     let inside = fields_at program (a.at + 4) a.next in
     record {
-      result_value = λ fs. slice_stops (scope_at fs a.s a.kinds.now a.sizes.now a.lows.now a.highs.now) (d fs) a.at (slice from a.next program) n program a.next e (k fs) (kinds_get fs.formals a.s.count a.s.first n a.kinds.now a.sizes.now (let q = c.if-s-n.false in omega arith)) c.two_indexes-r.result l h (c.two_indexes-r.ensures.high_after ∙ bounds_same (tabulated fs.declared a.s.families 0) (ks fs) a.s.variables a.s.loops a.lows.now a.highs.now a.at inside) (opened c.in_default.in_default-own.keys2);
-      ends_at = ends_stops c.two_indexes-r.result a.next (opened c.in_default.in_default-own.keys2);
+      result_value = λ fs. slice_stops (scope_at fs a.s a.kinds.now a.sizes.now a.lows.now a.highs.now) (d fs) a.at (slice from a.next program) n program a.next e (k fs) (kinds_get fs.formals a.s.count a.s.first n a.kinds.now a.sizes.now (let q = c.if-s-n.false in omega arith)) c.two_indexes-r.result l h (c.two_indexes-r.ensures.high_after ∙ bounds_same (tabulated fs.declared a.s.families 0) (ks fs) a.s.variables a.s.loops a.lows.now a.highs.now a.at inside) c.in_default.in_default-own.keys2;
+      ends_at = ends_stops c.two_indexes-r.result a.next c.in_default.in_default-own.keys2;
     }
 
 pub returns-then-end-next : goal.returns-then-end-next

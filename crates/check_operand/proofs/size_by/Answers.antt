@@ -1,5 +1,4 @@
 -- `check_operand::size_by` meets its contract. Assumes nothing.
-use borrow.Author.Rules.{rules}
 use Rattle.check_operand.specs.Tables.{size_of_row}
 use Rattle.check_operand.proofs.size_by.Goals as goal
 

@@ -1,5 +1,4 @@
 -- `check_operand::slice_fits_lem` meets its contract. Assumes nothing.
-use borrow.Author.Rules.{rules}
 use mathlib.Core.Path.{sym, ap, ◌∙◌}
 use mathlib.Core.List.{List}
 use Rattle.language.specs.Check.{Checked, Kind, Signature, Scope, by_showing, must_show, slice_fits, Formal}
@@ -49,7 +48,14 @@ returns-in_default-kind c =
 
 pub slice_within-v-requires : goal.slice_within-v-requires
 slice_within-v-requires c =
-    (c.requires.kept, (c.requires.kept_2, (c.requires.short, c.requires.1.1.1.1)))
+    record {
+      kept = c.requires.kept;
+      kept_2 = c.requires.kept_2;
+      short = c.requires.short;
+      loops_bound = c.requires.loops_bound;
+      rows = c.requires.rows;
+      rows_2 = c.requires.rows_2;
+    }
 
 pub returns-in_default-v : goal.returns-in_default-v
 unfolding shown_form
@@ -70,7 +76,13 @@ returns-in_default-v c =
 
 pub large_enough-w-requires : goal.large_enough-w-requires
 large_enough-w-requires c =
-    (rw c.in-Register.is at c.requires.size_right, (c.slice_within-v.ensures.kept_3 (is_shown_lem c.slice_within-v.result (opened c.in-Shown.in-Shown-own.keys1)), c.requires.1.1.1.1))
+    record {
+      kept = rw c.in-Register.is at c.requires.size_right;
+      kept_2 = c.slice_within-v.ensures.kept_3 (is_shown_lem c.slice_within-v.result c.in-Shown.in-Shown-own.keys1);
+      loops_bound = c.requires.loops_bound;
+      rows = c.requires.rows;
+      rows_2 = c.requires.rows_2;
+    }
 
 pub returns : goal.returns
 unfolding must_show shown_form
@@ -85,6 +97,6 @@ returns c =
     let fits : List Signature → List Kind → Known → Formal → Wanted → K.Kind → Checked (Unit {0}) = λ fs ks known g w k. slice_fits a.at (s fs ks) (wanted_of known w m) (kind_in k size g) first last in
     let l = c.slice_within-v.new.last in
     record {
-      result_value = λ fs ks known g. c.answered-2.ensures.result_value ∙ ap (by_showing a.at) c.large_enough-w.ensures ∙ register_good a.at (s fs ks) (as_form l) m known g c.in-Register.known ∙ lies_goes a.at (s fs ks) m size first last known g c.in-Register.known (shown_of c.slice_within-v.result) l (c.slice_within-v.ensures.last_after a.at fs ks) (is_shown_lem c.slice_within-v.result (opened c.in-Shown.in-Shown-own.keys1)) ∙ (λ i. fits fs ks known g (sym c.in-Register.is i) (sym c.in-Quantum.is i));
+      result_value = λ fs ks known g. c.answered-2.ensures.result_value ∙ ap (by_showing a.at) c.large_enough-w.ensures ∙ register_good a.at (s fs ks) (as_form l) m known g c.in-Register.known ∙ lies_goes a.at (s fs ks) m size first last known g c.in-Register.known (shown_of c.slice_within-v.result) l (c.slice_within-v.ensures.last_after a.at fs ks) (is_shown_lem c.slice_within-v.result c.in-Shown.in-Shown-own.keys1) ∙ (λ i. fits fs ks known g (sym c.in-Register.is i) (sym c.in-Quantum.is i));
       ends_at = c.answered-2.ensures.ends_at;
     }

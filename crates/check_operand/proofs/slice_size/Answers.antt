@@ -1,5 +1,4 @@
 -- `check_operand::slice_size` meets its contract. Assumes nothing.
-use borrow.Author.Rules.{rules}
 use mathlib.Core.Path.{refl, sym, ◌∙◌}
 use lib.IntN.{pos}
 use Rattle.language.specs.Form.{in_range, constant_form, sum_of}

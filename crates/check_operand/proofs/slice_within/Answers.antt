@@ -20,7 +20,7 @@ pub returns-in_default-w : goal.returns-in_default-w
 unfolding shown_form
 returns-in_default-w c =
     record {
-      last_after = λ p fs ks. last_stops p _ _ _ _ c.show-v.ensures (is_shown_lem c.show-v.result (opened c.in-Shown.in-Shown-own.keys1)) c.room_after-w.ensures c.args.last.now (not_shown_lem c.room_after-w.result (opened c.in_default-w.in_default-w-own.keys2));
+      last_after = λ p fs ks. last_stops p _ _ _ _ c.show-v.ensures (is_shown_lem c.show-v.result c.in-Shown.in-Shown-own.keys1) c.room_after-w.ensures c.args.last.now (not_shown_lem c.room_after-w.result (opened c.in_default-w.in_default-w-own.keys2));
       kept_3 = λ e. c.requires.kept_2;
     }
 
@@ -39,7 +39,7 @@ unfolding shown_form
 returns-then-slice_size c =
     let l = c.slice_size.new.last in
     record {
-      last_after = λ p fs ks. size_shown_lem p _ _ _ _ c.show-v.ensures (is_shown_lem c.show-v.result (opened c.in-Shown.in-Shown-own.keys1)) c.room_after-w.ensures (is_shown_lem c.room_after-w.result (opened c.in-Shown-w.in-Shown-w-own.keys1)) l (is_made l c.slice_size.ensures.last_after c.if-slice_size.true) c.show.ensures;
+      last_after = λ p fs ks. size_shown_lem p _ _ _ _ c.show-v.ensures (is_shown_lem c.show-v.result c.in-Shown.in-Shown-own.keys1) c.room_after-w.ensures (is_shown_lem c.room_after-w.result c.in-Shown-w.in-Shown-w-own.keys1) l (is_made l c.slice_size.ensures.last_after c.if-slice_size.true) c.show.ensures;
       kept_3 = λ e. c.slice_size.ensures.kept_3 c.if-slice_size.true;
     }
 
@@ -48,6 +48,6 @@ unfolding shown_form shown_of
 returns c =
     let l = c.slice_size.new.last in
     record {
-      last_after = λ p fs ks. size_outside p _ _ _ _ c.show-v.ensures (is_shown_lem c.show-v.result (opened c.in-Shown.in-Shown-own.keys1)) c.room_after-w.ensures (is_shown_lem c.room_after-w.result (opened c.in-Shown-w.in-Shown-w-own.keys1)) l (not_made l c.slice_size.ensures.last_after c.if-slice_size.false);
+      last_after = λ p fs ks. size_outside p _ _ _ _ c.show-v.ensures (is_shown_lem c.show-v.result c.in-Shown.in-Shown-own.keys1) c.room_after-w.ensures (is_shown_lem c.room_after-w.result c.in-Shown-w.in-Shown-w-own.keys1) l (not_made l c.slice_size.ensures.last_after c.if-slice_size.false);
       kept_3 = λ e. absurd (shown_not e);
     }

@@ -1,5 +1,4 @@
 -- `check_operand::two_operands_lem` meets its contract. Assumes nothing.
-use borrow.Author.Rules.{rules}
 use mathlib.Core.Path.{◌≡◌, refl, sym, ap, ◌∙◌}
 use mathlib.Core.Bool.{Bool, not}
 use lib.IntN.{pos}
@@ -38,8 +37,8 @@ returns-in_default c =
     let y : Known → Checked (Unit {0}) = λ fs. (check_operand (s fs) (d fs) (operand_due a.at 1 all) >> no_leftover a.at (ending (drop 2 all))) in
     let t : Known → Checked (Unit {0}) = λ fs. last_test a.at (s fs) (d fs) (operand_due a.at 0 all) (operand_due a.at 1 all) in
     record {
-      result_value = λ fs. part_stops c.operand-r.result (x fs >> y fs) (t fs) (part_stops c.operand-r.result (x fs) (y fs) (c.operand-r.ensures.result_value fs) (opened c.in_default.in_default-own.keys2)) (opened c.in_default.in_default-own.keys2) ∙ two_then a.at (s fs) (d fs) (operand_due a.at 0 all) (operand_due a.at 1 all) (ending (drop 2 all));
-      ends_at = ends_stops c.operand-r.result a.next (opened c.in_default.in_default-own.keys2);
+      result_value = λ fs. part_stops c.operand-r.result (x fs >> y fs) (t fs) (part_stops c.operand-r.result (x fs) (y fs) (c.operand-r.ensures.result_value fs) c.in_default.in_default-own.keys2) c.in_default.in_default-own.keys2 ∙ two_then a.at (s fs) (d fs) (operand_due a.at 0 all) (operand_due a.at 1 all) (ending (drop 2 all));
+      ends_at = ends_stops c.operand-r.result a.next c.in_default.in_default-own.keys2;
     }
 
 pub operand-t-requires : goal.operand-t-requires
@@ -69,8 +68,8 @@ returns-in_default-t c =
     let l = no_leftover a.at (ending (drop 1 (fields_at program mid a.next))) in
     let first : (fs : Known) → (x fs >> y fs) ≡ (z fs >> l) = λ fs. part_goes c.operand-r.result (x fs) (c.operand-r.ensures.result_value fs) mid (y fs) c.in-Upto.is ∙ second_is (s fs) (d fs) program a.at from a.next mid v in
     record {
-      result_value = λ fs. part_stops c.operand-t.result (x fs >> y fs) (t fs) (part_stops c.operand-t.result (z fs) l (c.operand-t.ensures.result_value fs) (opened c.in_default-t.in_default-t-own.keys2) ∙ sym (first fs)) (opened c.in_default-t.in_default-t-own.keys2) ∙ two_then a.at (s fs) (d fs) (operand_due a.at 0 all) (operand_due a.at 1 all) (ending (drop 2 all));
-      ends_at = ends_stops c.operand-t.result a.next (opened c.in_default-t.in_default-t-own.keys2);
+      result_value = λ fs. part_stops c.operand-t.result (x fs >> y fs) (t fs) (part_stops c.operand-t.result (z fs) l (c.operand-t.ensures.result_value fs) c.in_default-t.in_default-t-own.keys2 ∙ sym (first fs)) c.in_default-t.in_default-t-own.keys2 ∙ two_then a.at (s fs) (d fs) (operand_due a.at 0 all) (operand_due a.at 1 all) (ending (drop 2 all));
+      ends_at = ends_stops c.operand-t.result a.next c.in_default-t.in_default-t-own.keys2;
     }
 
 pub returns-then-end-next : goal.returns-then-end-next
@@ -144,7 +143,7 @@ same_wire-requires c =
     let end = c.in-Upto-t.end in
     let w = passes_upto program mid a.next c.operand-t.result end c.in-Upto-t.is c.operand-t.ensures.passes in
     let second : (fs : Known) → (x fs >> y fs) ≡ l = λ fs. first fs ∙ part_goes c.operand-t.result (z fs) (c.operand-t.ensures.result_value fs) end l c.in-Upto-t.is in
-    let is : (fs : Known) → d fs ≡ wire = λ fs. second_wire fs a.second _ (opened c.in-Wire.in-Wire-own.keys1) in
+    let is : (fs : Known) → d fs ≡ wire = λ fs. second_wire fs a.second _ c.in-Wire.in-Wire-own.keys1 in
     let f : (fs : Known) → FormOf (s fs) (operand_due a.at 0 all) _ = λ fs. leaves_upto (s fs) _ c.operand-r.result _ mid c.in-Upto.is (c.operand-r.ensures.leaves fs) in
     let g : (fs : Known) → FormOf (s fs) (operand_due a.at 0 (fields_at program mid a.next)) _ = λ fs. leaves_upto (s fs) _ c.operand-t.result _ end c.in-Upto-t.is (c.operand-t.ensures.leaves fs) in
     let p : (fs : Known) → x fs ≡ fine = λ fs. fine_upto c.operand-r.result mid (x fs) (c.operand-r.ensures.result_value fs) c.in-Upto.is in
@@ -176,7 +175,7 @@ returns-then-same_wire c =
     let w = passes_upto program mid a.next c.operand-t.result end c.in-Upto-t.is c.operand-t.ensures.passes in
     let second : (fs : Known) → (x fs >> y fs) ≡ l = λ fs. first fs ∙ part_goes c.operand-t.result (z fs) (c.operand-t.ensures.result_value fs) end l c.in-Upto-t.is in
     let good : (fs : Known) → (x fs >> y fs) ≡ fine = λ fs. second fs ∙ left_none program a.at mid a.next end w c.if-end-next.false in
-    let is : (fs : Known) → d fs ≡ wire = λ fs. second_wire fs a.second _ (opened c.in-Wire.in-Wire-own.keys1) in
+    let is : (fs : Known) → d fs ≡ wire = λ fs. second_wire fs a.second _ c.in-Wire.in-Wire-own.keys1 in
     let f : (fs : Known) → FormOf (s fs) (operand_due a.at 0 all) _ = λ fs. leaves_upto (s fs) _ c.operand-r.result _ mid c.in-Upto.is (c.operand-r.ensures.leaves fs) in
     let g : (fs : Known) → FormOf (s fs) (operand_due a.at 0 (fields_at program mid a.next)) _ = λ fs. leaves_upto (s fs) _ c.operand-t.result _ end c.in-Upto-t.is (c.operand-t.ensures.leaves fs) in
     let p : (fs : Known) → x fs ≡ fine = λ fs. fine_upto c.operand-r.result mid (x fs) (c.operand-r.ensures.result_value fs) c.in-Upto.is in
@@ -209,7 +208,7 @@ returns c =
     let w = passes_upto program mid a.next c.operand-t.result end c.in-Upto-t.is c.operand-t.ensures.passes in
     let second : (fs : Known) → (x fs >> y fs) ≡ l = λ fs. first fs ∙ part_goes c.operand-t.result (z fs) (c.operand-t.ensures.result_value fs) end l c.in-Upto-t.is in
     let good : (fs : Known) → (x fs >> y fs) ≡ fine = λ fs. second fs ∙ left_none program a.at mid a.next end w c.if-end-next.false in
-    let is : (fs : Known) → d fs ≡ wire = λ fs. second_wire fs a.second _ (opened c.in-Wire.in-Wire-own.keys1) in
+    let is : (fs : Known) → d fs ≡ wire = λ fs. second_wire fs a.second _ c.in-Wire.in-Wire-own.keys1 in
     let f : (fs : Known) → FormOf (s fs) (operand_due a.at 0 all) _ = λ fs. leaves_upto (s fs) _ c.operand-r.result _ mid c.in-Upto.is (c.operand-r.ensures.leaves fs) in
     let g : (fs : Known) → FormOf (s fs) (operand_due a.at 0 (fields_at program mid a.next)) _ = λ fs. leaves_upto (s fs) _ c.operand-t.result _ end c.in-Upto-t.is (c.operand-t.ensures.leaves fs) in
     let p : (fs : Known) → x fs ≡ fine = λ fs. fine_upto c.operand-r.result mid (x fs) (c.operand-r.ensures.result_value fs) c.in-Upto.is in

@@ -1,5 +1,4 @@
 -- `check_operand::whole_fits` meets its contract. Assumes nothing.
-use borrow.Author.Rules.{rules}
 use mathlib.Core.Path.{refl, sym, ap, ◌∙◌}
 use mathlib.Core.List.{List}
 use lib.IntN.{ℤ}
@@ -17,7 +16,13 @@ use Rattle.check_operand.proofs.whole_fits.Goals as goal
 
 pub large_enough-v-requires : goal.large_enough-v-requires
 large_enough-v-requires c =
-    (rw c.in-Register.is at c.requires.size_right, (c.load.ensures.kept, c.requires.1.1))
+    record {
+      kept = rw c.in-Register.is at c.requires.size_right;
+      kept_2 = c.load.ensures.kept;
+      loops_bound = c.requires.loops_bound;
+      rows = c.requires.rows;
+      rows_2 = c.requires.rows_2;
+    }
 
 pub returns-in-Qubit : goal.returns-in-Qubit
 unfolding checked_part

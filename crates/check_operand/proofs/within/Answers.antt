@@ -1,5 +1,4 @@
 -- `check_operand::within` meets its contract. Assumes nothing.
-use borrow.Author.Rules.{rules}
 use Rattle.check_operand.proofs.Shown.{within_stops, within_goes}
 use Rattle.forms.proofs.Verdicts.{is_shown_lem, not_shown_lem}
 use borrow.Enum.Refused.{opened}
@@ -11,4 +10,4 @@ returns-in_default c =
 
 pub returns : goal.returns
 returns c =
-    λ p fs ks. within_goes p _ _ _ c.show-v.ensures (is_shown_lem c.show-v.result (opened c.in-Shown.in-Shown-own.keys1)) c.room_after.ensures
+    λ p fs ks. within_goes p _ _ _ c.show-v.ensures (is_shown_lem c.show-v.result c.in-Shown.in-Shown-own.keys1) c.room_after.ensures

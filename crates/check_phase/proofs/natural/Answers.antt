@@ -33,8 +33,8 @@ returns-in_default c =
     let ls = loops_of a.s.loops a.lows.now a.highs.now in
     let i = due outer_index (bad_index 4 a.at) (fields_at program a.from a.next) in
     record {
-      result_value = (λ fs ks. natural_stops (scope_with fs ks a.s.variables ls) program a.from a.next a.at c.index-r.result l (c.index-r.ensures.f_after ∙ scope_forms fs ks a.s.variables a.s.loops a.lows.now a.highs.now i) (opened c.in_default.in_default-own.keys2));
-      passes = passes_stops program a.from a.next c.index-r.result (opened c.in_default.in_default-own.keys2);
+      result_value = (λ fs ks. natural_stops (scope_with fs ks a.s.variables ls) program a.from a.next a.at c.index-r.result l (c.index-r.ensures.f_after ∙ scope_forms fs ks a.s.variables a.s.loops a.lows.now a.highs.now i) c.in_default.in_default-own.keys2);
+      passes = passes_stops program a.from a.next c.index-r.result c.in_default.in_default-own.keys2;
     }
 
 pub must_show-requires : goal.must_show-requires

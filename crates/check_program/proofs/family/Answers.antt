@@ -308,6 +308,6 @@ returns-in-Upto c =
     let g = formal_at families kinds sizes in
     let b = c.family_body.ensures.sizes_after in
     record {
-      sizes_after = ap good (with_family_lem bytes a.at (a.at + 5) a.next a.t m p c.requires.declared_right (omega arith) c.family_body.ensures.stays room w.0) ∙ family_goes a.t x a.kinds.now a.sizes.now program a.at a.next room c.two_counts.result e m p u g c.family_body.result kinds sizes b (opened c.in-Upto.in-Upto-own.keys2);
-      step_right = holds_family bytes a.at (a.at + 5) a.next a.t m p c.requires.declared_right (omega arith) c.family_body.ensures.stays room w.0 (in_use_goes (a.t.rows + p) a.t.registers a.next c.family_body.result kinds (opened c.in-Upto.in-Upto-own.keys2) c.family_body.ensures.in_use_before) (formals_goes a.next c.family_body.result families kinds (opened c.in-Upto.in-Upto-own.keys2) c.family_body.ensures.formals_before) c.requires.at_bound.1;
+      sizes_after = ap good (with_family_lem bytes a.at (a.at + 5) a.next a.t m p c.requires.declared_right (omega arith) c.family_body.ensures.stays room w.0) ∙ family_goes a.t x a.kinds.now a.sizes.now program a.at a.next room c.two_counts.result e m p u g c.family_body.result kinds sizes b c.in-Upto.in-Upto-own.keys2;
+      step_right = holds_family bytes a.at (a.at + 5) a.next a.t m p c.requires.declared_right (omega arith) c.family_body.ensures.stays room w.0 (in_use_goes (a.t.rows + p) a.t.registers a.next c.family_body.result kinds c.in-Upto.in-Upto-own.keys2 c.family_body.ensures.in_use_before) (formals_goes a.next c.family_body.result families kinds c.in-Upto.in-Upto-own.keys2 c.family_body.ensures.formals_before) c.requires.at_bound.1;
     }

@@ -53,6 +53,6 @@ returns-in-Upto c =
     let d = declared_in a.t a.families.now a.kinds.now a.sizes.now in
     let e = top_scope_lem a.t a.families.now a.kinds.now a.sizes.now none none in
     record {
-      sizes_value = kept_going c.action.result a.t a.families.now a.kinds.now a.sizes.now (opened c.in-Upto.in-Upto-own.keys2) ∙ c.action.ensures d e;
+      sizes_value = kept_going c.action.result a.t a.families.now a.kinds.now a.sizes.now c.in-Upto.in-Upto-own.keys2 ∙ c.action.ensures d e;
       step_right = declared_later bytes a.at a.next a.t a.families.now a.kinds.now a.sizes.now (omega (arith, c.requires.at_bound.0)) h;
     }

@@ -58,7 +58,7 @@ returns-in_default c =
     let known = known_in a.families.now a.kinds.now a.sizes.now in
     let v = c.wide-value.result in
     let e = one_byte from a.next program c.if-next-from.false c.requires.at_bound.1 ∙ ap (λ (x : ℕ). x ∷ slice (from + 1) a.next program) (sym c.wide-value.ensures.0) in
-    λ d q. kept_stops c.operand-r.result d (bit d a.at content v program a.next e) (rest d a.at content v program a.next e (drop 1 (fields_at program (a.at + 4) a.next))) (c.operand-r.ensures.result_value known ∙ ap (λ (s : C.Scope). check_operand s C.bit (due read_operand (bad_operand 4 a.at) (fields_at program (a.at + 4) a.next))) (sym q)) (opened c.in_default.in_default-own.keys2)
+    λ d q. kept_stops c.operand-r.result d (bit d a.at content v program a.next e) (rest d a.at content v program a.next e (drop 1 (fields_at program (a.at + 4) a.next))) (c.operand-r.ensures.result_value known ∙ ap (λ (s : C.Scope). check_operand s C.bit (due read_operand (bad_operand 4 a.at) (fields_at program (a.at + 4) a.next))) (sym q)) c.in_default.in_default-own.keys2
     ∙ if_bit d a.at content v program a.next e c.if-value-gt1.false
 
 pub returns : goal.returns

@@ -1,5 +1,4 @@
 -- `fields::called_number` meets its contract. Assumes nothing.
-use borrow.Author.Rules.{rules}
 use mathlib.Core.Path.{sym, ◌∙◌}
 use native.Mathlib.Omega.{arith}
 use Rattle.fields.proofs.CallNumbers.{long_cut, long_small, long_names, short_cut, short_names}

@@ -1,12 +1,10 @@
 -- `fields::families` meets its contract. Assumes nothing.
-use Prim.Native.Nat.{◌-◌, ◌≤◌}
-use mathlib.Core.Path.{◌≡◌, refl, sym, ap, ◌∙◌}
+use mathlib.Core.Path.{refl, sym, ap, ◌∙◌}
 use native.Mathlib.Omega.{arith}
-use borrow.Author.Rules.{rules}
 use lib.ListN.{length, length-set}
 use Rattle.fields.specs.declared.Header.TheVariants.{Whole}
 use Rattle.fields.proofs.Headers.{when_whole}
-use Rattle.fields.proofs.FamilyScan.{Scanned, scan_start, scan_ends, scan_full, scan_other, scan_family}
+use Rattle.fields.proofs.FamilyScan.{scan_start, scan_ends, scan_full, scan_other, scan_family}
 use borrow.Enum.Refused.{opened}
 use Rattle.fields.proofs.families.Goals as goal
 

@@ -1,5 +1,4 @@
 -- `fields::with_tag` meets its contract. Assumes nothing.
-use borrow.Author.Rules.{rules}
 use mathlib.Core.Path.{sym, ap, ◌∙◌}
 use native.Mathlib.Omega.{arith}
 use Rattle.fields.specs.Header.{header_of, tagged_in}

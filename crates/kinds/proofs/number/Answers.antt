@@ -1,5 +1,4 @@
 -- `kinds::number` meets its contract. Assumes nothing.
-use borrow.Author.Rules.{rules}
 use mathlib.Core.Path.{refl}
 use Rattle.kinds.specs.Numbers.{number_of}
 use Rattle.kinds.proofs.number.Goals as goal

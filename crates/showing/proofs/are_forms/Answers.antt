@@ -1,6 +1,4 @@
 -- `showing::are_forms` meets its contract. Assumes nothing.
-use borrow.Author.Rules.{rules}
-use borrow.Author.Tests.{not-true, not-false}
 use mathlib.Core.Path.{sym, ◌∙◌}
 use Rattle.language.proofs.Integers.{clash}
 use Rattle.showing.proofs.Forms.{too_many_lem, form_out, low_out, up_to_high}
@@ -15,7 +13,7 @@ returns-then-all-gt-ALL_VARIABLES c =
 
 pub returns-then-not-kept : goal.returns-then-not-kept
 returns-then-not-kept c =
-    let e = sym c.kept.ensures.value ∙ not-true _ c.if-not-kept.true-raw in
+    let e = sym c.kept.ensures.value ∙ c.if-not-kept.true in
     record {
       value = sym (form_out _ _ _ _ _ c.if-all-gt-ALL_VARIABLES.false e);
       are_forms = λ t. absurd (clash (sym t));
@@ -23,8 +21,8 @@ returns-then-not-kept c =
 
 pub returns-then-not-rows_kept : goal.returns-then-not-rows_kept
 returns-then-not-rows_kept c =
-    let e = sym c.kept.ensures.value ∙ not-false _ c.if-not-kept.false-raw in
-    let g = sym c.rows_kept.ensures.value ∙ not-true _ c.if-not-rows_kept.true-raw in
+    let e = sym c.kept.ensures.value ∙ c.if-not-kept.false in
+    let g = sym c.rows_kept.ensures.value ∙ c.if-not-rows_kept.true in
     record {
       value = sym (low_out _ _ _ _ _ c.if-all-gt-ALL_VARIABLES.false e g);
       are_forms = λ t. absurd (clash (sym t));
@@ -32,8 +30,8 @@ returns-then-not-rows_kept c =
 
 pub returns : goal.returns
 returns c =
-    let k = not-false _ c.if-not-kept.false-raw in
-    let l = not-false _ c.if-not-rows_kept.false-raw in
+    let k = c.if-not-kept.false in
+    let l = c.if-not-rows_kept.false in
     let e = sym c.kept.ensures.value ∙ k in
     let g = sym c.rows_kept.ensures.value ∙ l in
     record {

@@ -1,28 +1,16 @@
 -- `showing::kept` meets its contract. The invariant: the answer is the answer for what is left of the list. Assumes nothing.
 use borrow.Author.Rules.{rules}
-use borrow.Author.Tests.{not-true, not-false}
 use native.Mathlib.Omega.{arith}
 use native.Mathlib.Numerals.{add-one}
 use mathlib.Core.Path.{◌≡◌, refl, sym, ap, ◌∙◌}
-use Prim.Native.Nat.{◌≤◌, ◌-◌}
 use lib.IntN.{pos}
-use lib.ListN.{length, drop, get_or}
+use lib.ListN.{get_or}
 use mir.Syntax.{w64}
-use mir.Val.{SFits}
-use mir.ValLaws.{to_z-of_z}
-use Rattle.language.specs.Form.{in_range, all_in_range}
+use mir.Val.{to_z, of_z}
+use Rattle.language.specs.Form.{in_range}
 use Rattle.language.proofs.Integers.{clash}
 use Rattle.forms.proofs.Lists.{rest_good, rest_bad, rest_none, ranges}
 use Rattle.showing.proofs.kept.Goals as goal
-
-read : (a : tie.After-in-range invariant-loop decreases-loop) →
-    let s = a.before.before.before in
-    in_range (get_or s.before.before.before.args.f.now s.loop.i (pos 0)) ≡ a.in-range.result
-read a =
-    let s = a.before.before.before in
-    let z = get_or s.before.before.before.args.f.now s.loop.i (pos 0) in
-    let f : SFits w64 z = record { sfits = a.before.x.given } in
-    ap in_range (sym (to_z-of_z w64 z f)) ∙ sym a.in-range.ensures
 
 pub loop-i-init : goal.loop-i-init
 loop-i-init c = (c.tell.ensures, omega arith, refl)
@@ -31,8 +19,9 @@ pub returns-then-not-in_range : goal.returns-then-not-in_range
 returns-then-not-in_range c =
     let f = c.args.f.now in
     let i = c.loop-i.i in
+    let back : to_z w64 (of_z w64 (get_or f i (pos 0))) ≡ get_or f i (pos 0) = search rules in
     let l = c.loop-i.invariant.0 in
-    let e = c.loop-i.invariant.2 ∙ rest_bad ranges f i (omega arith) (read c.before ∙ not-true _ c.if-not-in_range.true-raw) in
+    let e = c.loop-i.invariant.2 ∙ rest_bad ranges f i (omega arith) (ap in_range (sym back) ∙ sym c.in_range.ensures ∙ c.if-not-in_range.true) in
     record {
       value = sym e;
       kept = λ t. absurd (clash (sym t));
@@ -42,8 +31,9 @@ pub loop-i-preserved : goal.loop-i-preserved
 loop-i-preserved c =
     let f = c.args.f.now in
     let i = c.loop-i.i in
+    let back : to_z w64 (of_z w64 (get_or f i (pos 0))) ≡ get_or f i (pos 0) = search rules in
     let l = c.loop-i.invariant.0 in
-    (l, omega arith, c.loop-i.invariant.2 ∙ rw add-one (rest_good ranges f i (omega arith) (read c.before ∙ not-false _ c.if-not-in_range.false-raw)))
+    (l, omega arith, c.loop-i.invariant.2 ∙ rw add-one (rest_good ranges f i (omega arith) (ap in_range (sym back) ∙ sym c.in_range.ensures ∙ c.if-not-in_range.false)))
 
 pub returns : goal.returns
 returns c =

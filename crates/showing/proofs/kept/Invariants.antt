@@ -1,18 +1,8 @@
 -- `showing::kept` meets its contract. The invariant: the answer is the answer for what is left of the list. Assumes nothing.
-use borrow.Author.Rules.{rules}
-use borrow.Author.Tests.{not-true, not-false}
-use native.Mathlib.Omega.{arith}
-use native.Mathlib.Numerals.{add-one}
-use mathlib.Core.Path.{◌≡◌, refl, sym, ap, ◌∙◌}
+use mathlib.Core.Path.{◌≡◌}
 use Prim.Native.Nat.{◌≤◌, ◌-◌}
-use lib.IntN.{pos}
-use lib.ListN.{length, drop, get_or}
-use mir.Syntax.{w64}
-use mir.Val.{SFits}
-use mir.ValLaws.{to_z-of_z}
-use Rattle.language.specs.Form.{in_range, all_in_range}
-use Rattle.language.proofs.Integers.{clash}
-use Rattle.forms.proofs.Lists.{rest_good, rest_bad, rest_none, ranges}
+use lib.ListN.{length, drop}
+use Rattle.language.specs.Form.{all_in_range}
 use Rattle.showing.proofs.kept.Given as goal
 
 abbrev pub invariant-loop-i : goal.invariant-loop-i

@@ -1,6 +1,4 @@
 -- `showing::metaqasm_showing` meets its contract. Assumes nothing.
-use borrow.Author.Rules.{rules}
-use borrow.Author.Tests.{not-true, not-false}
 use native.Mathlib.Omega.{arith}
 use mathlib.Core.Path.{sym, ap, ◌∙◌}
 use Rattle.forms.proofs.Laws.{gone_few, trials_few}
@@ -10,11 +8,11 @@ use Rattle.showing.proofs.metaqasm_showing.Goals as goal
 
 pub returns-then-not-are_forms : goal.returns-then-not-are_forms
 returns-then-not-are_forms c =
-    sym (no_forms_lem _ _ _ _ _ (sym c.are_forms.ensures.value ∙ not-true _ c.if-not-are_forms.true-raw))
+    sym (no_forms_lem _ _ _ _ _ (sym c.are_forms.ensures.value ∙ c.if-not-are_forms.true))
 
 pub show-s-requires : goal.show-s-requires
 show-s-requires c =
-    let a = c.are_forms.ensures.are_forms (not-false _ c.if-not-are_forms.false-raw) in
+    let a = c.are_forms.ensures.are_forms c.if-not-are_forms.false in
     record {
       kept = a.form;
       loops_bound = a.few;
@@ -24,17 +22,17 @@ show-s-requires c =
 
 pub overflow_cast-through : goal.overflow_cast-through
 overflow_cast-through c =
-    let few = (c.are_forms.ensures.are_forms (not-false _ c.if-not-are_forms.false-raw)).few in
+    let few = (c.are_forms.ensures.are_forms c.if-not-are_forms.false).few in
     let g = gone_few _ _ _ _ _ c.show-s.ensures.through_value in
     record { fits = omega arith }
 
 pub overflow_cast-trials : goal.overflow_cast-trials
 overflow_cast-trials c =
-    let few = (c.are_forms.ensures.are_forms (not-false _ c.if-not-are_forms.false-raw)).few in
+    let few = (c.are_forms.ensures.are_forms c.if-not-are_forms.false).few in
     let g = trials_few _ _ _ _ _ c.show-s.ensures.trials_value in
     record { fits = omega arith }
 
 pub returns : goal.returns
 returns c =
-    let a = sym c.are_forms.ensures.value ∙ not-false _ c.if-not-are_forms.false-raw in
+    let a = sym c.are_forms.ensures.value ∙ c.if-not-are_forms.false in
     sym (forms_given _ _ _ _ _ a (c.number.ensures ∙ ap number_of c.show-s.ensures.verdict_value) c.show-s.ensures.through_value c.show-s.ensures.trials_value)

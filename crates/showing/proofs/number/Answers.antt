@@ -1,5 +1,4 @@
 -- `showing::number` meets its contract. Assumes nothing.
-use borrow.Author.Rules.{rules}
 use mathlib.Core.Path.{sym, ap}
 use Rattle.forms.specs.Flat.{shown_of}
 use Rattle.showing.specs.Answers.{number_of}

@@ -1,10 +1,6 @@
 -- `showing::rows_kept` meets its contract. The invariant: the rows passed are right. Assumes nothing.
-use borrow.Author.Rules.{rules}
-use borrow.Author.Tests.{not-true, not-false}
 use native.Mathlib.Omega.{arith}
 use mathlib.Core.Path.{◌≡◌, sym, ◌∙◌, subst}
-use Prim.Native.Nat.{◌≤◌, ◌-◌}
-use lib.ListN.{length}
 use Rattle.language.proofs.Integers.{clash}
 use Rattle.forms.specs.Rows.{Rows}
 use Rattle.showing.proofs.Forms.{none, too_few, one_out, all_in, one_more_lem}
@@ -23,14 +19,14 @@ loop-row-init c = (none _, omega arith, c.if-rows-n.false)
 pub returns-then-not-kept : goal.returns-then-not-kept
 returns-then-not-kept c =
     record {
-      value = sym (one_out _ _ _ c.loop-row-test.true (sym c.kept.ensures.value ∙ not-true _ c.if-not-kept.true-raw));
+      value = sym (one_out _ _ _ c.loop-row-test.true (sym c.kept.ensures.value ∙ c.if-not-kept.true));
       rows = λ t. absurd (clash (sym t));
     }
 
 pub loop-row-preserved : goal.loop-row-preserved
 loop-row-preserved c =
     let l = c.loop-row.invariant.2 in
-    (one_more_lem _ _ c.loop-row.invariant.0 (omega arith) (c.kept.ensures.kept (not-false _ c.if-not-kept.false-raw)), omega arith, l)
+    (one_more_lem _ _ c.loop-row.invariant.0 (omega arith) (c.kept.ensures.kept c.if-not-kept.false), omega arith, l)
 
 pub returns : goal.returns
 returns c =

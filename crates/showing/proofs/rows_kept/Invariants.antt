@@ -1,13 +1,7 @@
 -- `showing::rows_kept` meets its contract. The invariant: the rows passed are right. Assumes nothing.
-use borrow.Author.Rules.{rules}
-use borrow.Author.Tests.{not-true, not-false}
-use native.Mathlib.Omega.{arith}
-use mathlib.Core.Path.{◌≡◌, sym, ◌∙◌, subst}
 use Prim.Native.Nat.{◌≤◌, ◌-◌}
 use lib.ListN.{length}
-use Rattle.language.proofs.Integers.{clash}
 use Rattle.forms.specs.Rows.{Rows}
-use Rattle.showing.proofs.Forms.{none, too_few, one_out, all_in, one_more_lem}
 use Rattle.showing.proofs.rows_kept.Given as goal
 
 abbrev pub invariant-loop-row : goal.invariant-loop-row

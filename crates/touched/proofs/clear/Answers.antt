@@ -1,5 +1,4 @@
 -- `touched::clear` meets its contract. The loop's invariant: the first `i` bytes are 0, and the others are as they were. Assumes nothing.
-use Prim.Native.Nat.{◌-◌, ◌≤◌}
 use mathlib.Core.Path.{◌≡◌, refl, ap, ◌∙◌}
 use mathlib.Core.List.{◌++◌}
 use native.Mathlib.Omega.{arith}

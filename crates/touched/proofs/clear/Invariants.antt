@@ -1,11 +1,9 @@
 -- `touched::clear` meets its contract. The loop's invariant: the first `i` bytes are 0, and the others are as they were. Assumes nothing.
 use Prim.Native.Nat.{◌-◌, ◌≤◌}
-use mathlib.Core.Path.{◌≡◌, refl, ap, ◌∙◌}
+use mathlib.Core.Path.{◌≡◌}
 use mathlib.Core.List.{◌++◌}
-use native.Mathlib.Omega.{arith}
-use lib.ListN.{length, drop, replicate, set}
+use lib.ListN.{drop, replicate}
 use Rattle.wire_map.specs.WireMap.{map_size}
-use Rattle.wire_map.proofs.Marking.{clear_next, clear_length, clear_whole}
 use Rattle.touched.proofs.clear.Given as goal
 
 abbrev pub invariant-loop-i : goal.invariant-loop-i

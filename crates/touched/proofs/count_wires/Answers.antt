@@ -1,5 +1,4 @@
 -- `touched::count_wires` meets its contract. The loop's invariant: the total is the count of ones over the first `i` bytes. Assumes nothing.
-use Prim.Native.Nat.{◌-◌, ◌*◌, ◌≤◌}
 use mathlib.Core.Path.{◌≡◌, refl, ap, ◌∙◌}
 use native.Mathlib.Omega.{arith}
 use lib.Count.{ones-le}

@@ -1,11 +1,8 @@
 -- `touched::count_wires` meets its contract. The loop's invariant: the total is the count of ones over the first `i` bytes. Assumes nothing.
 use Prim.Native.Nat.{◌-◌, ◌*◌, ◌≤◌}
-use mathlib.Core.Path.{◌≡◌, refl, ap, ◌∙◌}
-use native.Mathlib.Omega.{arith}
-use lib.Count.{ones-le}
-use lib.ListN.{get_or, take}
+use mathlib.Core.Path.{◌≡◌}
+use lib.ListN.{take}
 use Rattle.wire_map.specs.WireMap.{map_size, ones_over}
-use Rattle.wire_map.proofs.Marking.{ones_more}
 use Rattle.touched.proofs.count_wires.Given as goal
 
 abbrev pub invariant-loop-i : goal.invariant-loop-i

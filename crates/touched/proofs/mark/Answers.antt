@@ -1,5 +1,4 @@
 -- `touched::mark` meets its contract. Assumes nothing.
-use borrow.Author.Rules.{rules}
 use Rattle.wire_map.specs.Marking.{marked}
 use Rattle.touched.proofs.Named.{bit_fits, already_marked}
 use Rattle.touched.proofs.mark.Goals as goal

@@ -1,5 +1,4 @@
 -- `touched::mark_after` meets its contract. Assumes nothing.
-use borrow.Author.Rules.{rules}
 use Rattle.touched.proofs.Named.{last_marked}
 use Rattle.touched.proofs.mark_after.Goals as goal
 

@@ -1,10 +1,9 @@
 -- `touched::mark_records` meets its contract. The loop's invariant: the wires of the first `i` records are marked, and the bit of `last` is set. Assumes nothing.
-use Prim.Native.Nat.{◌-◌, ◌≤◌}
 use mathlib.Core.Path.{◌≡◌, subst}
 use native.Mathlib.Omega.{arith}
 use Rattle.written_records.specs.AnyBytes.{records_from}
 use Rattle.wire_map.specs.WireMap.{wires_named}
-use Rattle.wire_map.specs.Marking.{Marks, BitSet}
+use Rattle.wire_map.specs.Marking.{Marks}
 use Rattle.wire_map.proofs.Marking.{marks_none, marks_length}
 use Rattle.touched.proofs.Named.{record_marked}
 use Rattle.touched.proofs.mark_records.Goals as goal
