@@ -10,9 +10,8 @@ pub fn fail(rt: &HostRuntime, what: &str, error: Error) {
         Some((words, _)) => words,
         None => whole,
     };
-    let stderr = rt.stderr();
     // Where standard error takes nothing, nobody can be told.
-    let _ = eprintln!(stderr; "{what}: {why}");
+    let _ = eprintln!(rt; "{what}: {why}");
 }
 
 // Writes bytes to standard output, and answers whether all were written. Where not, a message says so.
