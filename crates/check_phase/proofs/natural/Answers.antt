@@ -11,7 +11,6 @@ use Rattle.check_index.proofs.Answers.{form_passes_upto}
 use Rattle.check_operand.specs.Tables.{scope_with}
 use Rattle.check_operand.proofs.Tables.{scope_forms}
 use Rattle.check_phase.proofs.Naturals.{passes_stops, passes_ends, natural_stops, natural_shows}
-use borrow.Enum.Refused.{opened}
 use Rattle.check_phase.proofs.natural.Goals as goal
 
 pub overflow_add-variables : goal.overflow_add-variables
@@ -33,8 +32,8 @@ returns-in_default c =
     let ls = loops_of a.s.loops a.lows.now a.highs.now in
     let i = due outer_index (bad_index 4 a.at) (fields_at program a.from a.next) in
     record {
-      result_value = (λ fs ks. natural_stops (scope_with fs ks a.s.variables ls) program a.from a.next a.at c.index-r.result l (c.index-r.ensures.f_after ∙ scope_forms fs ks a.s.variables a.s.loops a.lows.now a.highs.now i) (opened c.in_default.in_default-own.keys2));
-      passes = passes_stops program a.from a.next c.index-r.result (opened c.in_default.in_default-own.keys2);
+      result_value = (λ fs ks. natural_stops (scope_with fs ks a.s.variables ls) program a.from a.next a.at c.index-r.result l (c.index-r.ensures.f_after ∙ scope_forms fs ks a.s.variables a.s.loops a.lows.now a.highs.now i) c.in_default.in_default-own.keys2);
+      passes = passes_stops program a.from a.next c.index-r.result c.in_default.in_default-own.keys2;
     }
 
 pub must_show-requires : goal.must_show-requires

@@ -11,7 +11,6 @@ use Rattle.check_index.proofs.Answers.{part_goes, part_stops, passes_upto}
 use Rattle.check_operand.specs.Tables.{Known, tabulated, kinds_at, scope_at}
 use Rattle.check_operand.specs.Operands.{one_wire}
 use Rattle.check_phase.proofs.Naturals.{phase_is}
-use borrow.Enum.Refused.{opened}
 use Rattle.check_phase.proofs.phase.Goals as goal
 
 pub natural-r-requires : goal.natural-r-requires
@@ -29,7 +28,7 @@ returns-in_default c =
     let gs = fields_at program a.from a.next in
     let fs : Known → List Signature = λ k. tabulated k.declared a.s.families 0 in
     let ks : Known → List Kind = λ k. kinds_at k.formals a.s.count a.s.first a.kinds.now a.sizes.now in
-    λ k. part_stops c.natural-r.result (check_natural (s k) (due outer_index (bad_index 4 a.at) gs)) (one_wire (s k) a.at (drop 1 gs)) (c.natural-r.ensures.result_value (fs k) (ks k)) (opened c.in_default.in_default-own.keys2) ∙ phase_is (s k) a.at gs (drop 1 gs) refl
+    λ k. part_stops c.natural-r.result (check_natural (s k) (due outer_index (bad_index 4 a.at) gs)) (one_wire (s k) a.at (drop 1 gs)) (c.natural-r.ensures.result_value (fs k) (ks k)) c.in_default.in_default-own.keys2 ∙ phase_is (s k) a.at gs (drop 1 gs) refl
 
 pub returns : goal.returns
 returns c =

@@ -11,7 +11,6 @@ use Rattle.check_call.specs.Calls.{formal_at}
 use Rattle.check_declaration.proofs.FamilyTypes.{both_right}
 use Rattle.check_program.specs.Declarations.{checked_step}
 use Rattle.check_program.proofs.Families.{family_many, family_bad, family_stops, family_goes, with_family_lem, holds_family, in_use_goes, formals_goes}
-use borrow.Enum.Refused.{opened}
 use Rattle.check_program.proofs.family.Goals as goal
 
 pub returns-then-n-ge-MOST_FAMILIES : goal.returns-then-n-ge-MOST_FAMILIES
@@ -308,6 +307,6 @@ returns-in-Upto c =
     let g = formal_at families kinds sizes in
     let b = c.family_body.ensures.sizes_after in
     record {
-      sizes_after = ap good (with_family_lem bytes a.at (a.at + 5) a.next a.t m p c.requires.declared_right (omega arith) c.family_body.ensures.stays room w.0) ∙ family_goes a.t x a.kinds.now a.sizes.now program a.at a.next room c.two_counts.result e m p u g c.family_body.result kinds sizes b (opened c.in-Upto.in-Upto-own.keys2);
-      step_right = holds_family bytes a.at (a.at + 5) a.next a.t m p c.requires.declared_right (omega arith) c.family_body.ensures.stays room w.0 (in_use_goes (a.t.rows + p) a.t.registers a.next c.family_body.result kinds (opened c.in-Upto.in-Upto-own.keys2) c.family_body.ensures.in_use_before) (formals_goes a.next c.family_body.result families kinds (opened c.in-Upto.in-Upto-own.keys2) c.family_body.ensures.formals_before) c.requires.at_bound.1;
+      sizes_after = ap good (with_family_lem bytes a.at (a.at + 5) a.next a.t m p c.requires.declared_right (omega arith) c.family_body.ensures.stays room w.0) ∙ family_goes a.t x a.kinds.now a.sizes.now program a.at a.next room c.two_counts.result e m p u g c.family_body.result kinds sizes b c.in-Upto.in-Upto-own.keys2;
+      step_right = holds_family bytes a.at (a.at + 5) a.next a.t m p c.requires.declared_right (omega arith) c.family_body.ensures.stays room w.0 (in_use_goes (a.t.rows + p) a.t.registers a.next c.family_body.result kinds c.in-Upto.in-Upto-own.keys2 c.family_body.ensures.in_use_before) (formals_goes a.next c.family_body.result families kinds c.in-Upto.in-Upto-own.keys2 c.family_body.ensures.formals_before) c.requires.at_bound.1;
     }

@@ -12,7 +12,6 @@ use Rattle.check_program.proofs.Scopes.{eight_rows, scope_right, scope_declares}
 use Rattle.check_program.proofs.Families.{family_rows, body_stops, body_goes, before_upto, before_kept, formals_upto, formals_kept}
 use Rattle.check_declaration.proofs.Tables.{in_use_later, in_use_stops}
 use Rattle.check_declaration.proofs.Formals.{formals_later, formals_stop}
-use borrow.Enum.Refused.{opened}
 use Rattle.check_program.proofs.family_body.Goals as goal
 
 pub parameter_types-r-requires : goal.parameter_types-r-requires
@@ -47,9 +46,9 @@ returns-in_default c =
     let sizes = c.parameter_types-r.new.sizes in
     let d = declared_in a.t a.families.now a.kinds.now a.sizes.now in
     record {
-      sizes_after = body_stops bytes a.t a.at a.m a.parameters program (a.at + 5) a.next c.requires.declared_right (omega arith) c.parameter_types-r.ensures.stays c.parameter_types-r.result (c.parameter_types-r.ensures.sizes_after d.families []) (opened c.in_default.in_default-own.keys2);
-      in_use_before = in_use_stops (a.t.rows + a.parameters) a.t.registers a.next c.parameter_types-r.result kinds (opened c.in_default.in_default-own.keys2);
-      formals_before = formals_stop a.next c.parameter_types-r.result families kinds (opened c.in_default.in_default-own.keys2);
+      sizes_after = body_stops bytes a.t a.at a.m a.parameters program (a.at + 5) a.next c.requires.declared_right (omega arith) c.parameter_types-r.ensures.stays c.parameter_types-r.result (c.parameter_types-r.ensures.sizes_after d.families []) c.in_default.in_default-own.keys2;
+      in_use_before = in_use_stops (a.t.rows + a.parameters) a.t.registers a.next c.parameter_types-r.result kinds c.in_default.in_default-own.keys2;
+      formals_before = formals_stop a.next c.parameter_types-r.result families kinds c.in_default.in_default-own.keys2;
       stays = c.parameter_types-r.ensures.stays;
     }
 

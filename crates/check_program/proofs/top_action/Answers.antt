@@ -7,7 +7,6 @@ use lib.ListN.{length, replicate}
 use Rattle.check_program.specs.Declarations.{declared_in}
 use Rattle.check_program.proofs.Scopes.{eight_rows, scope_right, scope_declares, top_rows, top_scope_lem}
 use Rattle.check_program.proofs.TopFields.{kept_refused, kept_going, declared_later}
-use borrow.Enum.Refused.{opened}
 use Rattle.check_program.proofs.top_action.Goals as goal
 
 pub action-requires : goal.action-requires
@@ -53,6 +52,6 @@ returns-in-Upto c =
     let d = declared_in a.t a.families.now a.kinds.now a.sizes.now in
     let e = top_scope_lem a.t a.families.now a.kinds.now a.sizes.now none none in
     record {
-      sizes_value = kept_going c.action.result a.t a.families.now a.kinds.now a.sizes.now (opened c.in-Upto.in-Upto-own.keys2) ∙ c.action.ensures d e;
+      sizes_value = kept_going c.action.result a.t a.families.now a.kinds.now a.sizes.now c.in-Upto.in-Upto-own.keys2 ∙ c.action.ensures d e;
       step_right = declared_later bytes a.at a.next a.t a.families.now a.kinds.now a.sizes.now (omega (arith, c.requires.at_bound.0)) h;
     }

@@ -11,7 +11,6 @@ use Rattle.check_index.specs.Answers.{checked_part}
 use Rattle.check_call.specs.Calls.{scope_full, known_in}
 use Rattle.check_statement.proofs.Statements.{stated, list_end, list_cut, list_next, statement_deep, statement_acts}
 use Rattle.check_index.proofs.Answers.{part_stops, part_went}
-use borrow.Enum.Refused.{opened}
 use Rattle.check_statement.specs.declared.StatementTag.TheVariants.{Gate, Cx, Phase, Cphase, Call, Reverse, For}
 use lib.Seq.{slice}
 use Rattle.check_statement.specs.declared.StatementTag.TheVariants as S
@@ -76,7 +75,7 @@ list-returns-in_default t c =
     let k = w.low in
     let q = c.requires.to_in_bounds in
     let rest = check_statements (statements_by (read_statement a.levels) (fields_at program next a.to)) s in
-    part_stops c.one_statement-r.result (stated a.levels c.loop-tag.at tag next program s) rest c.one_statement-r.ensures (opened c.in_default.in_default-own.keys2) ∙ sym (list_next a.levels program c.loop-tag.at a.to s tag next w) ∙ sym c.loop-tag.invariant
+    part_stops c.one_statement-r.result (stated a.levels c.loop-tag.at tag next program s) rest c.one_statement-r.ensures c.in_default.in_default-own.keys2 ∙ sym (list_next a.levels program c.loop-tag.at a.to s tag next w) ∙ sym c.loop-tag.invariant
 
 pub list-loop-tag-smaller : goal.list-loop-tag-smaller
 list-loop-tag-smaller t c =
@@ -103,7 +102,7 @@ list-loop-tag-preserved t c =
     let k = w.low in
     let q = c.requires.to_in_bounds in
     let rest = check_statements (statements_by (read_statement a.levels) (fields_at program next a.to)) s in
-    c.loop-tag.invariant ∙ list_next a.levels program c.loop-tag.at a.to s tag next w ∙ part_went c.one_statement-r.result (stated a.levels c.loop-tag.at tag next program s) rest c.one_statement-r.ensures (opened c.in-Upto.in-Upto-own.keys1)
+    c.loop-tag.invariant ∙ list_next a.levels program c.loop-tag.at a.to s tag next w ∙ part_went c.one_statement-r.result (stated a.levels c.loop-tag.at tag next program s) rest c.one_statement-r.ensures c.in-Upto.in-Upto-own.keys1
 
 pub one_statement-returns-then-levels-eq0 : goal.one_statement-returns-then-levels-eq0
 unfolding checked_part
@@ -269,7 +268,7 @@ repeated-returns-in_default t c =
     let h = c.two_indexes-r.new.high in
     let e = c.two_indexes-r.ensures.high_after ∙ bounds_same fs ks a.s.variables n a.lows.now a.highs.now a.at (fields_at program (a.at + 3) a.next) in
     let few : length (loops_of n a.lows.now a.highs.now) < 8 = (let z = c.if-n-ge-MOST_LOOPS.false in omega arith) in
-    for_stops (read_statement a.levels) s program a.at (a.at + 3) a.next few c.two_indexes-r.result l h e (opened c.in_default.in_default-own.keys2)
+    for_stops (read_statement a.levels) s program a.at (a.at + 3) a.next few c.two_indexes-r.result l h e c.in_default.in_default-own.keys2
 
 pub repeated-list-requires : goal.repeated-list-requires
 repeated-list-requires t c =

@@ -16,7 +16,6 @@ use Rattle.check_call.specs.Calls.{known_in}
 use Rattle.check_statement.specs.Statements.{checked_declared}
 use Rattle.check_index.proofs.Answers.{part_goes, passes_upto}
 use Rattle.check_statement.proofs.Actions.{kept_is, kept_stops, if_none, if_large, if_bit, bit, rest}
-use borrow.Enum.Refused.{opened}
 use Rattle.check_statement.proofs.conditional.Goals as goal
 
 pub returns-then-next-from : goal.returns-then-next-from
@@ -58,7 +57,7 @@ returns-in_default c =
     let known = known_in a.families.now a.kinds.now a.sizes.now in
     let v = c.wide-value.result in
     let e = one_byte from a.next program c.if-next-from.false c.requires.at_bound.1 ∙ ap (λ (x : ℕ). x ∷ slice (from + 1) a.next program) (sym c.wide-value.ensures.0) in
-    λ d q. kept_stops c.operand-r.result d (bit d a.at content v program a.next e) (rest d a.at content v program a.next e (drop 1 (fields_at program (a.at + 4) a.next))) (c.operand-r.ensures.result_value known ∙ ap (λ (s : C.Scope). check_operand s C.bit (due read_operand (bad_operand 4 a.at) (fields_at program (a.at + 4) a.next))) (sym q)) (opened c.in_default.in_default-own.keys2)
+    λ d q. kept_stops c.operand-r.result d (bit d a.at content v program a.next e) (rest d a.at content v program a.next e (drop 1 (fields_at program (a.at + 4) a.next))) (c.operand-r.ensures.result_value known ∙ ap (λ (s : C.Scope). check_operand s C.bit (due read_operand (bad_operand 4 a.at) (fields_at program (a.at + 4) a.next))) (sym q)) c.in_default.in_default-own.keys2
     ∙ if_bit d a.at content v program a.next e c.if-value-gt1.false
 
 pub returns : goal.returns
