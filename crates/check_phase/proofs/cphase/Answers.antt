@@ -11,7 +11,6 @@ use Rattle.check_index.proofs.Answers.{part_goes, part_stops, passes_upto}
 use Rattle.check_operand.specs.Tables.{Known, tabulated, kinds_at, scope_at}
 use Rattle.check_operand.specs.Operands.{two_operands}
 use Rattle.check_phase.proofs.Naturals.{cphase_is}
-use borrow.Enum.Refused.{opened}
 use Rattle.check_phase.proofs.cphase.Goals as goal
 
 pub natural-r-requires : goal.natural-r-requires

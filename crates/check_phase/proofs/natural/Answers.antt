@@ -11,7 +11,6 @@ use Rattle.check_index.proofs.Answers.{form_passes_upto}
 use Rattle.check_operand.specs.Tables.{scope_with}
 use Rattle.check_operand.proofs.Tables.{scope_forms}
 use Rattle.check_phase.proofs.Naturals.{passes_stops, passes_ends, natural_stops, natural_shows}
-use borrow.Enum.Refused.{opened}
 use Rattle.check_phase.proofs.natural.Goals as goal
 
 pub overflow_add-variables : goal.overflow_add-variables

@@ -11,7 +11,6 @@ use Rattle.check_call.specs.Calls.{formal_at}
 use Rattle.check_declaration.proofs.FamilyTypes.{both_right}
 use Rattle.check_program.specs.Declarations.{checked_step}
 use Rattle.check_program.proofs.Families.{family_many, family_bad, family_stops, family_goes, with_family_lem, holds_family, in_use_goes, formals_goes}
-use borrow.Enum.Refused.{opened}
 use Rattle.check_program.proofs.family.Goals as goal
 
 pub returns-then-n-ge-MOST_FAMILIES : goal.returns-then-n-ge-MOST_FAMILIES

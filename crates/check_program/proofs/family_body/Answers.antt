@@ -12,7 +12,6 @@ use Rattle.check_program.proofs.Scopes.{eight_rows, scope_right, scope_declares}
 use Rattle.check_program.proofs.Families.{family_rows, body_stops, body_goes, before_upto, before_kept, formals_upto, formals_kept}
 use Rattle.check_declaration.proofs.Tables.{in_use_later, in_use_stops}
 use Rattle.check_declaration.proofs.Formals.{formals_later, formals_stop}
-use borrow.Enum.Refused.{opened}
 use Rattle.check_program.proofs.family_body.Goals as goal
 
 pub parameter_types-r-requires : goal.parameter_types-r-requires

@@ -7,7 +7,6 @@ use lib.ListN.{length, replicate}
 use Rattle.check_program.specs.Declarations.{declared_in}
 use Rattle.check_program.proofs.Scopes.{eight_rows, scope_right, scope_declares, top_rows, top_scope_lem}
 use Rattle.check_program.proofs.TopFields.{kept_refused, kept_going, declared_later}
-use borrow.Enum.Refused.{opened}
 use Rattle.check_program.proofs.top_action.Goals as goal
 
 pub action-requires : goal.action-requires

@@ -11,7 +11,6 @@ use Rattle.check_index.specs.Answers.{checked_part}
 use Rattle.check_call.specs.Calls.{scope_full, known_in}
 use Rattle.check_statement.proofs.Statements.{stated, list_end, list_cut, list_next, statement_deep, statement_acts}
 use Rattle.check_index.proofs.Answers.{part_stops, part_went}
-use borrow.Enum.Refused.{opened}
 use Rattle.check_statement.specs.declared.StatementTag.TheVariants.{Gate, Cx, Phase, Cphase, Call, Reverse, For}
 use lib.Seq.{slice}
 use Rattle.check_statement.specs.declared.StatementTag.TheVariants as S

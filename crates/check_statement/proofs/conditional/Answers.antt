@@ -16,7 +16,6 @@ use Rattle.check_call.specs.Calls.{known_in}
 use Rattle.check_statement.specs.Statements.{checked_declared}
 use Rattle.check_index.proofs.Answers.{part_goes, passes_upto}
 use Rattle.check_statement.proofs.Actions.{kept_is, kept_stops, if_none, if_large, if_bit, bit, rest}
-use borrow.Enum.Refused.{opened}
 use Rattle.check_statement.proofs.conditional.Goals as goal
 
 pub returns-then-next-from : goal.returns-then-next-from
