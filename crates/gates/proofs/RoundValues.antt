@@ -1,5 +1,5 @@
 -- A loop's rounds and values. Assumes nothing.
-use Prim.Native.Nat.{ℕ, suc, ◌+◌, ◌-◌, ◌<◌, ◌≤◌}
+use Prim.Native.Nat.{ℕ, suc, ◌+◌, ◌<◌, ◌≤◌}
 use mathlib.Core.Path.{◌≡◌, refl, ap, ◌∙◌}
 use mathlib.Core.List.{List}
 use mathlib.Core.Bool.{Bool, true, false, not}
@@ -14,7 +14,7 @@ use mir.Val.{Fits, SFits}
 use Rattle.language.specs.Limits.{furthest}
 use Rattle.language.specs.Form.{in_range}
 use Rattle.language.specs.Machine.{rounds_of, start_of, step_of}
-use Rattle.language.proofs.Integers.{integers, eq_by, minus, plus, next, last, fits, up, dn}
+use Rattle.language.proofs.Integers.{integers, eq_by, minus, plus, next, last, up, dn}
 use Rattle.gates.specs.declared.Mode.{Mode}
 use Rattle.indexes.specs.Bounds.{Behind}
 use Rattle.indexes.proofs.TwoBounds.{bounds_behind}

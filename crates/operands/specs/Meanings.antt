@@ -10,7 +10,6 @@ use Rattle.kinds.specs.declared.Kind.{Kind}
 use Rattle.kinds.specs.declared.Kind.TheVariants.{Qubit, Quantum, Classical, Family as family_kind}
 use Rattle.kinds.specs.Numbers.{kind_with}
 use Rattle.operands.specs.declared.Wire.{Wire}
-use Rattle.operands.specs.declared.Bit.{Bit}
 use Rattle.operands.specs.declared.Operand.{Operand}
 use Rattle.operands.specs.declared.Operand.TheVariants.{Single, Register, Family}
 use Rattle.operands.specs.declared.Parameter.{Parameter}

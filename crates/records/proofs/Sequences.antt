@@ -1,5 +1,5 @@
 -- Parts of a run one after the other. Assumes nothing.
-use Prim.Native.Nat.{ℕ, suc, ◌+◌, ◌*◌, ◌-◌, ◌<◌, ◌≤◌}
+use Prim.Native.Nat.{ℕ, suc, ◌+◌, ◌*◌, ◌<◌, ◌≤◌}
 use mathlib.Core.Path.{◌≡◌, refl, sym, ap, ◌∙◌}
 use mathlib.Core.List.{List, [], ◌∷◌}
 use mathlib.Core.Logic.{⊎_elim}
@@ -16,7 +16,7 @@ use Rattle.language.specs.Result.{written_into}
 use Rattle.records.specs.declared.State.{State}
 use Rattle.records.specs.declared.Answer.{Answer}
 use Rattle.records.specs.declared.Answer.TheVariants.{Going, Ended, Stuck}
-use Rattle.records.specs.Outcomes.{going, ended, stuck, answer_told, flat_outcome, Does, OneStep, Stepped, state_of}
+use Rattle.records.specs.Outcomes.{answer_told, flat_outcome, Does, OneStep, Stepped, state_of}
 use Rattle.records.specs.contracts.Answer.{the_type}
 
 pub not_first : OneOf (1 ∷ 2 ∷ []) 0 → ⊥

@@ -1,6 +1,4 @@
 -- `field_walk::begin` meets its contract. Assumes nothing.
-use borrow.Author.Rules.{rules}
-use Prim.Native.Nat.{◌-◌}
 use native.Mathlib.Omega.{arith}
 use Rattle.field_walk.proofs.Positions.{kept_first, begin_forward, begin_empty, begin_broken, begin_found}
 use Rattle.field_walk.proofs.begin.Goals as goal

@@ -1,5 +1,4 @@
 -- `field_walk::keep_last` meets its contract. Assumes nothing.
-use borrow.Author.Rules.{rules}
 use mathlib.Core.Path.{sym, ◌∙◌}
 use Rattle.field_walk.proofs.Search.{last_of_all, last_already, last_above, last_instead}
 use Rattle.field_walk.proofs.keep_last.Goals as goal

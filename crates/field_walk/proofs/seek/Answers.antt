@@ -1,6 +1,5 @@
 -- `field_walk::seek` meets its contract. Assumes nothing.
-use borrow.Author.Rules.{rules}
-use Prim.Native.Nat.{◌≤◌, ◌-◌}
+use Prim.Native.Nat.{◌≤◌}
 use native.Mathlib.Omega.{arith}
 use mathlib.Core.Path.{refl}
 use Rattle.field_walk.specs.Walks.{Walking, NextField, Backward, Forward}

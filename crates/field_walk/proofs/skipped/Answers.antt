@@ -1,5 +1,4 @@
 -- `field_walk::skipped` meets its contract. Assumes nothing.
-use borrow.Author.Rules.{rules}
 use mathlib.Core.Path.{sym}
 use Rattle.language.proofs.Integers.{clash}
 use Rattle.field_walk.proofs.skipped.Goals as goal

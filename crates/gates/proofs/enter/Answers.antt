@@ -1,6 +1,5 @@
 -- `gates::enter` meets its contract. Assumes nothing.
 -- what taking the step answers, once the statement may be entered
-use borrow.Author.Rules.{rules}
 use mathlib.Core.Path.{sym, ◌∙◌}
 use mathlib.Core.List.{List}
 use Prim.Native.Nat.{ℕ}

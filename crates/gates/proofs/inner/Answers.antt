@@ -1,5 +1,4 @@
 -- `gates::inner` meets its contract. Assumes nothing.
-use borrow.Author.Rules.{rules}
 use borrow.Author.Tests.{eq-eqb, ne_eqb}
 use Rattle.gates.proofs.inner.Goals as goal
 

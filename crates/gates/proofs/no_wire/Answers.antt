@@ -1,5 +1,4 @@
 -- `gates::no_wire` meets its contract. Assumes nothing.
-use borrow.Author.Rules.{rules}
 use Rattle.gates.specs.Gates.{no_wire_of}
 use Rattle.gates.proofs.no_wire.Goals as goal
 

@@ -1,5 +1,4 @@
 -- `gates::on_wires` meets its contract. Assumes nothing.
-use borrow.Author.Rules.{rules}
 use Prim.Native.Nat.{ℕ}
 use mathlib.Core.Path.{refl, ◌∙◌, sym, subst}
 use native.Mathlib.Omega.{arith}

@@ -1,5 +1,4 @@
 -- `gates::turn` meets its contract. Assumes nothing.
-use Prim.Native.Nat.{◌+◌}
 use mathlib.Core.Path.{◌≡◌, ◌∙◌, ap, sym}
 use mathlib.Core.Bool.{true}
 use native.Mathlib.Omega.{arith}

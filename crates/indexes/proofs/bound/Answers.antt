@@ -1,5 +1,4 @@
 -- `indexes::bound` meets its contract. Assumes nothing.
-use borrow.Author.Rules.{rules}
 use Rattle.indexes.specs.Bounds.{bound_of}
 use Rattle.indexes.proofs.bound.Goals as goal
 

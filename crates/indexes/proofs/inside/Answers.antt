@@ -1,5 +1,4 @@
 -- `indexes::inside` meets its contract. Assumes nothing.
-use borrow.Author.Rules.{rules}
 use mir.ValLaws.{to_z-of_z}
 use mathlib.Core.Path.{◌≡◌, sym, ◌∙◌}
 use mathlib.Core.Bool.{true, false}

@@ -1,5 +1,4 @@
 -- `indexes::literal` meets its contract. Assumes nothing.
-use borrow.Author.Rules.{rules}
 use native.Mathlib.Omega.{arith}
 use lib.Seq.{slice, length-slice}
 use Rattle.indexes.proofs.Leaves.{literal_two, literal_none}

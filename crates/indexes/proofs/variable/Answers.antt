@@ -1,5 +1,4 @@
 -- `indexes::variable` meets its contract. Assumes nothing.
-use borrow.Author.Rules.{rules}
 use lib.ListN.{get_or, take}
 use lib.Seq.{slice}
 use lib.IntN.{pos}

@@ -1,11 +1,9 @@
 -- `layout::lay_out` meets its contract. Assumes nothing.
-use borrow.Author.Rules.{rules}
-use Prim.Native.Nat.{◌-◌}
 use mathlib.Core.Path.{refl, ◌∙◌, sym}
 use native.Mathlib.Omega.{arith}
 use lib.ListN.{take}
 use Rattle.fields.proofs.Between.{in_whole}
-use Rattle.layout.proofs.Parameters.{Laying, laying_start, laying_none, laying_next, laying_past, laying_over, laying_stuck, laying_done}
+use Rattle.layout.proofs.Parameters.{laying_start, laying_none, laying_next, laying_past, laying_over, laying_stuck, laying_done}
 use borrow.Enum.Refused.{opened}
 use Rattle.layout.proofs.lay_out.Goals as goal
 

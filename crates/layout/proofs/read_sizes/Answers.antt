@@ -1,10 +1,9 @@
 -- `layout::read_sizes` meets its contract. Assumes nothing.
-use Prim.Native.Nat.{◌-◌}
 use mathlib.Core.Path.{refl}
 use native.Mathlib.Omega.{arith}
 use mir.Syntax.{w32}
 use mir.ValLaws.{to_z_pos}
-use Rattle.layout.proofs.SizeBytes.{Sizing, sizing_start, wrong_length_lem, sizing_done, too_large_lem, sizing_next}
+use Rattle.layout.proofs.SizeBytes.{sizing_start, wrong_length_lem, sizing_done, too_large_lem, sizing_next}
 use Rattle.layout.proofs.read_sizes.Goals as goal
 
 pub overflow_mul-wanted : goal.overflow_mul-wanted

@@ -1,5 +1,4 @@
 -- `layout::register_from` meets its contract: a value that is not below 0 is its own size. Assumes nothing.
-use borrow.Author.Rules.{rules}
 use mathlib.Core.Path.{◌≡◌, refl}
 use mathlib.Core.Bool.{true, false}
 use native.Mathlib.Omega.{arith}

@@ -1,5 +1,4 @@
 -- `layout::size_at` meets its contract: two numbers of two bytes each. Assumes nothing.
-use borrow.Author.Rules.{rules}
 use Prim.Native.Nat.{◌+◌}
 use mathlib.Core.Path.{◌≡◌}
 use native.Mathlib.Omega.{arith}

@@ -1,10 +1,8 @@
 -- `layout::takes_family` meets its contract. Assumes nothing.
-use borrow.Author.Rules.{rules}
-use Prim.Native.Nat.{◌-◌, ◌≤◌}
 use mathlib.Core.Path.{◌∙◌, sym}
 use native.Mathlib.Omega.{arith}
 use Rattle.fields.proofs.Between.{in_whole}
-use Rattle.layout.proofs.FamilyTypes.{FamilyLeft, left_start, left_done, left_none, left_family, left_next}
+use Rattle.layout.proofs.FamilyTypes.{left_start, left_done, left_none, left_family, left_next}
 use borrow.Enum.Refused.{opened}
 use Rattle.layout.proofs.takes_family.Goals as goal
 

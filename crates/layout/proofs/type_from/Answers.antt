@@ -1,5 +1,4 @@
 -- `layout::type_from` meets its contract. Assumes nothing.
-use borrow.Author.Rules.{rules}
 use lib.ListN.{take}
 use lib.Seq.{slice}
 use Rattle.language.proofs.Integers.{range_back}

@@ -1,5 +1,4 @@
 -- `layout::wire_from` meets its contract. Assumes nothing.
-use borrow.Author.Rules.{rules}
 use mathlib.Core.Path.{refl}
 use native.Mathlib.Omega.{arith}
 use Rattle.layout.proofs.Parameters.{wire_past, wire_fits}

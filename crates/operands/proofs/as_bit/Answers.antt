@@ -1,5 +1,4 @@
 -- `operands::as_bit` meets its contract. Assumes nothing.
-use borrow.Author.Rules.{rules}
 use Rattle.language.specs.Machine.{◌>>=◌, after, as_bit}
 use Rattle.operands.specs.Meanings.{meaning_told, bit_told}
 use Rattle.operands.proofs.as_bit.Goals as goal

@@ -1,5 +1,4 @@
 -- `operands::as_wire` meets its contract. Assumes nothing.
-use borrow.Author.Rules.{rules}
 use Rattle.language.specs.Machine.{◌>>=◌, after, as_wire}
 use Rattle.operands.specs.Meanings.{meaning_told, wire_told}
 use Rattle.operands.proofs.as_wire.Goals as goal

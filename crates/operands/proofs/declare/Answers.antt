@@ -1,5 +1,4 @@
 -- `operands::declare` meets its contract. Assumes nothing.
-use borrow.Author.Rules.{rules}
 use mathlib.Core.Path.{◌∙◌}
 use native.Mathlib.Omega.{arith}
 use Rattle.operands.proofs.RegisterTable.{one_declared}

@@ -1,5 +1,4 @@
 -- `operands::element` meets its contract. Assumes nothing.
-use borrow.Author.Rules.{rules}
 use mathlib.Core.Path.{◌∙◌, ap, sym}
 use Rattle.language.specs.Machine.{◌>>=◌, after, element_at}
 use Rattle.language.proofs.Integers.{range_back}

@@ -1,5 +1,4 @@
 -- `operands::family_of` meets its contract. Assumes nothing.
-use borrow.Author.Rules.{rules}
 use Rattle.operands.specs.Meanings.{operands_of}
 use Rattle.operands.proofs.OperandFields.{family_named, family_none}
 use borrow.Enum.Refused.{opened}

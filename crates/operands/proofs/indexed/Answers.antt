@@ -1,5 +1,4 @@
 -- `operands::indexed` meets its contract. Assumes nothing.
-use borrow.Author.Rules.{rules}
 use mathlib.Core.Path.{◌≡◌, ◌∙◌, ap}
 use mathlib.Core.Bool.{true, false}
 use lib.Signed.{lt_z}

@@ -1,5 +1,4 @@
 -- `operands::operand_meaning` meets its contract. Assumes nothing.
-use borrow.Author.Rules.{rules}
 use mathlib.Core.Path.{◌∙◌}
 use Rattle.operands.specs.Meanings.{operands_of}
 use Rattle.operands.proofs.operand_meaning.Goals as goal

@@ -1,5 +1,4 @@
 -- `operands::over` meets its contract. Assumes nothing.
-use borrow.Author.Rules.{rules}
 use Rattle.language.specs.Machine.{◌>>=◌, after}
 use Rattle.operands.specs.Meanings.{meaning_told}
 use Rattle.operands.proofs.OperandFields.{over_told}

@@ -1,5 +1,4 @@
 -- `operands::parameter_meaning` meets its contract. Assumes nothing.
-use borrow.Author.Rules.{rules}
 use native.Mathlib.Omega.{arith}
 use Rattle.operands.proofs.Meanings.{parameter_at, parameter_past, parameter_none, nothing, parameter_answer_lem}
 use mathlib.Core.Path.{◌∙◌, ap, sym}

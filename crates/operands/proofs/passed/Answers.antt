@@ -1,5 +1,4 @@
 -- `operands::passed` meets its contract. Assumes nothing.
-use borrow.Author.Rules.{rules}
 use native.Mathlib.Omega.{arith}
 use lib.Seq.{slice, length-slice}
 use Rattle.operands.proofs.OperandFields.{passed_short, passed_number}

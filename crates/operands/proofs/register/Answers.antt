@@ -1,5 +1,4 @@
 -- `operands::register` meets its contract. Assumes nothing.
-use borrow.Author.Rules.{rules}
 use Rattle.kinds.specs.declared.Kind.{Kind}
 use Rattle.kinds.specs.Numbers.{kind_with}
 use Prim.Native.Nat.{◌+◌, ◌*◌}

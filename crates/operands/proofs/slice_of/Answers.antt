@@ -1,5 +1,4 @@
 -- `operands::slice_of` meets its contract. Assumes nothing.
-use borrow.Author.Rules.{rules}
 use lib.ListN.{take}
 use Rattle.language.proofs.Integers.{range_back}
 use Rattle.indexes.specs.Bounds.{Bounded}

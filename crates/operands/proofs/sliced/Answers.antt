@@ -1,5 +1,4 @@
 -- `operands::sliced` meets its contract. Assumes nothing.
-use borrow.Author.Rules.{rules}
 use Rattle.language.specs.Machine.{wires, ◌>>=◌, after, slice_at}
 use mathlib.Core.Path.{◌∙◌}
 use Rattle.language.proofs.Integers.{range_back}

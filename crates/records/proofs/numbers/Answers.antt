@@ -1,5 +1,4 @@
 -- `records::numbers` meets its contract. Assumes nothing.
-use borrow.Author.Rules.{rules}
 use mathlib.Core.Path.{refl}
 use Rattle.language.specs.Result.{condition_byte, condition_bit}
 use Rattle.records.specs.Outcomes.{condition_of}

@@ -1,5 +1,4 @@
 -- `records::put_numbers` meets its contract. Assumes nothing.
-use borrow.Author.Rules.{rules}
 use mathlib.Core.List.{◌∷◌, []}
 use mathlib.Core.Path.{◌∙◌}
 use native.Mathlib.Omega.{arith}

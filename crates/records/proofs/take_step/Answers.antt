@@ -1,5 +1,4 @@
 -- `records::take_step` meets its contract. Assumes nothing.
-use borrow.Author.Rules.{rules}
 use mathlib.Core.Path.{refl}
 use native.Mathlib.Omega.{arith}
 use Rattle.records.specs.Outcomes.{Stepped}
