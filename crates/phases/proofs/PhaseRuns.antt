@@ -15,7 +15,6 @@ use denote.Enum.Declared.{tag_of}
 use Rattle.language.specs.Tree.{Place, bad_index, bad_operand}
 use Rattle.language.specs.Read.{Field, fields, due, operand_due, read_operand, outer_index}
 use Rattle.language.specs.Machine.{Run, Frame, Direction, written, do_cx, end_at, no_meaning, after, ◌>>=◌, evaluate, natural_of, halvings, do_phase, do_cphase, run_phase, run_cphase}
-use Rattle.language.specs.Machine as machine
 use Rattle.language.specs.Result.{op, first_number, second_number, halvings_of}
 use Rattle.language.proofs.Integers.{integers}
 use Rattle.fields.specs.declared.Header.TheVariants.{Whole}

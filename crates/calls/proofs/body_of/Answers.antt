@@ -1,5 +1,4 @@
 -- `calls::body_of` meets its contract. Assumes nothing.
-use borrow.Author.Rules.{rules}
 use mathlib.Core.Path.{sym}
 use Rattle.fields.specs.Table.{past_of}
 use Rattle.fields.proofs.Parts.{part_is}

@@ -1,5 +1,4 @@
 -- `calls::body_start` meets its contract. Assumes nothing.
-use borrow.Author.Rules.{rules}
 use Rattle.calls.proofs.body_start.Goals as goal
 
 pub returns : goal.returns

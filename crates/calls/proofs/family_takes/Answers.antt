@@ -1,5 +1,4 @@
 -- `calls::family_takes` meets its contract. Assumes nothing.
-use borrow.Author.Rules.{rules}
 use mathlib.Core.Path.{◌∙◌, sym}
 use Rattle.calls.proofs.Types.{family_sizes, family_count, family_types}
 use Rattle.calls.proofs.family_takes.Goals as goal

@@ -1,5 +1,4 @@
 -- `calls::gather` meets its contract. Assumes nothing.
-use borrow.Author.Rules.{rules}
 use Rattle.kinds.specs.declared.Kind.TheVariants.{Qubit, Quantum, Family}
 use native.Mathlib.Omega.{arith}
 use mathlib.Core.Path.{refl, ap}

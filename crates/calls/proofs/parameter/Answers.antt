@@ -1,5 +1,4 @@
 -- `calls::parameter` meets its contract. Assumes nothing.
-use borrow.Author.Rules.{rules}
 use Prim.Native.Nat.{◌+◌}
 use mathlib.Core.Path.{ap, sym, ◌∙◌}
 use Rattle.kinds.specs.declared.Kind.{Kind}
@@ -8,7 +7,6 @@ use Rattle.calls.proofs.Types.{single_is}
 use lib.ListN.{get_or}
 use Rattle.operands.specs.Meanings.{parameter_of}
 use Rattle.calls.specs.Arguments.{gathered_operand}
-use borrow.Enum.Refused.{opened}
 use Rattle.calls.proofs.parameter.Goals as goal
 
 pub returns-in-Quantum : goal.returns-in-Quantum

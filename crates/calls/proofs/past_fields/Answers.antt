@@ -1,10 +1,9 @@
 -- `calls::past_fields` meets its contract. Assumes nothing.
-use borrow.Author.Rules.{rules}
-use Prim.Native.Nat.{◌-◌, ◌≤◌, ◌+◌}
+use Prim.Native.Nat.{◌-◌, ◌+◌}
 use mathlib.Core.Path.{◌≡◌, ◌∙◌, sym}
 use native.Mathlib.Omega.{arith}
 use Rattle.fields.proofs.Between.{in_whole}
-use Rattle.calls.proofs.FamilyBodies.{Passing, passing_start, passing_next, passing_done, passing_stops}
+use Rattle.calls.proofs.FamilyBodies.{passing_start, passing_next, passing_done, passing_stops}
 use borrow.Enum.Refused.{opened}
 use Rattle.calls.proofs.past_fields.Goals as goal
 

@@ -1,11 +1,6 @@
 -- `calls::past_fields` meets its contract. Assumes nothing.
-use borrow.Author.Rules.{rules}
-use Prim.Native.Nat.{◌-◌, ◌≤◌, ◌+◌}
-use mathlib.Core.Path.{◌≡◌, ◌∙◌, sym}
-use native.Mathlib.Omega.{arith}
-use Rattle.fields.proofs.Between.{in_whole}
-use Rattle.calls.proofs.FamilyBodies.{Passing, passing_start, passing_next, passing_done, passing_stops}
-use borrow.Enum.Refused.{opened}
+use Prim.Native.Nat.{◌-◌, ◌≤◌}
+use Rattle.calls.proofs.FamilyBodies.{Passing}
 use Rattle.calls.proofs.past_fields.Given as goal
 
 abbrev pub invariant-loop-i : goal.invariant-loop-i

@@ -1,5 +1,4 @@
 -- `calls::put` meets its contract. Assumes nothing.
-use borrow.Author.Rules.{rules}
 use mathlib.Core.Path.{◌∙◌}
 use native.Mathlib.Omega.{arith}
 use Rattle.calls.proofs.CallOperands.{gathered_kind}

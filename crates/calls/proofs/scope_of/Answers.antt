@@ -1,5 +1,4 @@
 -- `calls::scope_of` meets its contract. Assumes nothing.
-use borrow.Author.Rules.{rules}
 use mathlib.Core.Path.{refl}
 use mathlib.Core.List.{[], ◌∷◌}
 use Rattle.calls.proofs.CallOutcomes.{scopes}

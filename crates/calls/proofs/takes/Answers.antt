@@ -1,5 +1,4 @@
 -- `calls::takes` meets its contract. Assumes nothing.
-use borrow.Author.Rules.{rules}
 use Rattle.calls.proofs.Types.{takes_quantum, takes_family_lem, takes_single}
 use borrow.Enum.Refused.{opened}
 use Rattle.calls.proofs.takes.Goals as goal

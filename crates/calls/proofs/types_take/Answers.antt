@@ -1,12 +1,11 @@
 -- `calls::types_take` meets its contract. Assumes nothing.
-use borrow.Author.Rules.{rules}
-use Prim.Native.Nat.{◌-◌, ◌≤◌, ◌+◌}
+use Prim.Native.Nat.{◌-◌, ◌+◌}
 use mathlib.Core.Path.{◌≡◌, ◌∙◌, sym}
 use native.Mathlib.Omega.{arith}
 use borrow.Author.Tests.{not-true, not-false}
 use Rattle.fields.proofs.Between.{in_whole}
-use Rattle.calls.proofs.FamilyBodies.{Passing, passing_start, passing_next, passing_done}
-use Rattle.calls.proofs.Types.{TypesSoFar, types_start, types_done, types_stop, types_next, types_not}
+use Rattle.calls.proofs.FamilyBodies.{passing_start, passing_next, passing_done}
+use Rattle.calls.proofs.Types.{types_start, types_done, types_stop, types_next, types_not}
 use borrow.Enum.Refused.{opened}
 use Rattle.calls.proofs.types_take.Goals as goal
 

@@ -1,11 +1,9 @@
 -- `laid_out_lem::declared` meets its contract. Assumes nothing.
-use Prim.Native.Nat.{◌-◌}
 use mathlib.Core.Path.{sym, ◌∙◌}
 use native.Mathlib.Omega.{arith}
-use borrow.Author.Rules.{rules}
 use lib.ListN.{length}
 use Rattle.fields.proofs.Headers.{when_whole}
-use Rattle.laid_out.proofs.RegisterSums.{Summed, summed_start, summed_end, summed_qreg, summed_creg, summed_other}
+use Rattle.laid_out.proofs.RegisterSums.{summed_start, summed_end, summed_qreg, summed_creg, summed_other}
 use borrow.Enum.Refused.{opened}
 use Rattle.laid_out.proofs.declared.Goals as goal
 

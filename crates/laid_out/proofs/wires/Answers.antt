@@ -1,5 +1,4 @@
 -- `laid_out_lem::wires` meets its contract. Assumes nothing.
-use borrow.Author.Rules.{rules}
 use native.Mathlib.Omega.{arith}
 use Rattle.laid_out.proofs.InstanceWires.{wires_none, head_there, wires_there}
 use Rattle.laid_out.proofs.wires.Goals as goal

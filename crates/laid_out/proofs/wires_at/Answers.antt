@@ -1,5 +1,4 @@
 -- `laid_out_lem::wires_at` meets its contract. Assumes nothing.
-use borrow.Author.Rules.{rules}
 use mathlib.Core.Path.{ap, ◌∙◌}
 use mathlib.Core.Option.{some}
 use Rattle.language.specs.Sound.{wires_of}

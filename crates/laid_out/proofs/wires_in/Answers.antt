@@ -1,8 +1,6 @@
 -- `laid_out_lem::wires_in` meets its contract. Assumes nothing.
-use Prim.Native.Nat.{◌-◌, ◌≤◌}
 use native.Mathlib.Omega.{arith}
-use borrow.Author.Rules.{rules}
-use Rattle.laid_out.proofs.WireSums.{WiresSummed, wires_start, wires_end, wires_next}
+use Rattle.laid_out.proofs.WireSums.{wires_start, wires_end, wires_next}
 use Rattle.laid_out.proofs.wires_in.Goals as goal
 
 pub loop-i-init : goal.loop-i-init

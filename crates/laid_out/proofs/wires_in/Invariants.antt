@@ -1,8 +1,6 @@
 -- `laid_out_lem::wires_in` meets its contract. Assumes nothing.
 use Prim.Native.Nat.{◌-◌, ◌≤◌}
-use native.Mathlib.Omega.{arith}
-use borrow.Author.Rules.{rules}
-use Rattle.laid_out.proofs.WireSums.{WiresSummed, wires_start, wires_end, wires_next}
+use Rattle.laid_out.proofs.WireSums.{WiresSummed}
 use Rattle.laid_out.proofs.wires_in.Given as goal
 
 abbrev pub invariant-loop-i : goal.invariant-loop-i

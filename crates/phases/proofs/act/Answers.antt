@@ -1,5 +1,4 @@
 -- `phases::act` meets its contract. Assumes nothing.
-use borrow.Author.Rules.{rules}
 use mathlib.Core.Path.{refl, subst}
 use lib.ListN.{length, take}
 use lib.Seq.{slice}

@@ -1,5 +1,4 @@
 -- `phases::halvings_of` meets its contract. Assumes nothing.
-use borrow.Author.Rules.{rules}
 use mathlib.Core.Path.{◌≡◌, ◌∙◌, sym}
 use mathlib.Core.Bool.{false}
 use lib.ListN.{take}

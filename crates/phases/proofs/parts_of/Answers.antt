@@ -1,5 +1,4 @@
 -- `phases::parts_of` meets its contract. Assumes nothing.
-use borrow.Author.Rules.{rules}
 use lib.ListN.{take}
 use Rattle.phases.proofs.PhaseRuns.{parts_cx, parts_gate, parts_over, parts_stuck, parts_phase, parts_cphase}
 use Rattle.phases.proofs.parts_of.Goals as goal

@@ -1,5 +1,4 @@
 -- `phases::without` meets its contract. Assumes nothing.
-use borrow.Author.Rules.{rules}
 use Rattle.phases.specs.Phases.{without_of}
 use Rattle.phases.proofs.without.Goals as goal
 

@@ -1,5 +1,4 @@
 -- `reset_measure::measure` meets its contract. Assumes nothing.
-use borrow.Author.Rules.{rules}
 use Prim.Native.Nat.{ℕ}
 use mathlib.Core.Path.{refl, ◌∙◌, sym, subst}
 use lib.ListN.{length, take}

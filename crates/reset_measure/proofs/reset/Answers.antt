@@ -1,5 +1,4 @@
 -- `reset_measure::reset` meets its contract. Assumes nothing.
-use borrow.Author.Rules.{rules}
 use Prim.Native.Nat.{ℕ}
 use mathlib.Core.Path.{refl, subst}
 use lib.ListN.{length, take}

@@ -1,5 +1,4 @@
 -- `runs::run` meets its contract. Assumes nothing.
-use borrow.Author.Rules.{rules}
 use lib.ListN.{length}
 use Rattle.language.specs.Read.{read}
 use Rattle.language.specs.Machine.{run_tops, run_program, nothing_yet}

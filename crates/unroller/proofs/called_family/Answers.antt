@@ -1,5 +1,4 @@
 -- `unroller::called_family` meets its contract. Assumes nothing.
-use borrow.Author.Rules.{rules}
 use mathlib.Core.Path.{sym, ◌∙◌}
 use lib.Seq.{slice}
 use Rattle.operands.specs.Meanings.{operands_of}
