@@ -1,5 +1,4 @@
 -- `check_phase::natural` meets its contract. Assumes nothing.
-use borrow.Author.Rules.{rules}
 use mathlib.Core.Path.{◌∙◌}
 use native.Mathlib.Omega.{arith}
 use Rattle.language.specs.Tree.{bad_index}

@@ -1,5 +1,4 @@
 -- `check_phase::phase` meets its contract. Assumes nothing.
-use borrow.Author.Rules.{rules}
 use mathlib.Core.Path.{refl, ◌∙◌, sym}
 use lib.ListN.{drop}
 use Rattle.language.specs.Tree.{bad_index}

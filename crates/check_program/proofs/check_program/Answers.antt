@@ -1,5 +1,4 @@
 -- `check_program::check_program` meets its contract. Assumes nothing.
-use borrow.Author.Rules.{rules}
 use mathlib.Core.Path.{◌∙◌}
 use Rattle.check_program.proofs.TopFields.{program_long, program_short}
 use Rattle.check_program.proofs.check_program.Goals as goal

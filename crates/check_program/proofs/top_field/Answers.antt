@@ -1,5 +1,4 @@
 -- `check_program::top_field` meets its contract. Assumes nothing.
-use borrow.Author.Rules.{rules}
 use mathlib.Core.Path.{◌∙◌}
 use Rattle.check_program.specs.Declarations.{declared_in}
 use Rattle.check_program.proofs.TopFields.{top_family, top_qreg, top_creg}

@@ -1,15 +1,11 @@
 -- `check_program::top_fields` meets its contract. Assumes nothing.
-use mathlib.Core.Path.{◌≡◌, refl, sym, ap, ◌∙◌}
-use Prim.Native.Nat.{◌-◌, ◌≤◌}
-use native.Mathlib.Omega.{arith}
-use borrow.Author.Rules.{rules}
+use mathlib.Core.Path.{◌≡◌}
+use Prim.Native.Nat.{◌-◌}
 use lib.ListN.{length}
 use Rattle.language.specs.Read.{read}
 use Rattle.language.specs.Check.{check}
-use Rattle.language.specs.Result.{verdict}
-use Rattle.fields.proofs.Headers.{when_whole, when_end, when_cut}
 use Rattle.check_program.specs.Declarations.{declared_in, DeclaredRight}
-use Rattle.check_program.proofs.TopFields.{tops_at, tops_end, tops_cut, tops_stop, tops_go, tops_all, step_holds}
+use Rattle.check_program.proofs.TopFields.{tops_at}
 use Rattle.check_program.proofs.top_fields.Given as goal
 
 abbrev pub invariant-loop-tag : goal.invariant-loop-tag

@@ -1,8 +1,7 @@
 -- The cycle of calls meets its contracts. Assumes nothing.
-use Prim.Native.Nat.{ℕ, ◌-◌, ◌+◌, ◌<◌}
-use mathlib.Core.Path.{◌≡◌, refl, sym, ◌∙◌, ap}
+use Prim.Native.Nat.{◌+◌, ◌<◌}
+use mathlib.Core.Path.{refl, sym, ◌∙◌, ap}
 use native.Mathlib.Omega.{arith}
-use borrow.Author.Rules.{rules}
 use Rattle.language.specs.Read.{read_statement, statements_by, gate_of, cx_of}
 use Rattle.language.specs.Check.{check_statements, check_statement, in_loop}
 use Rattle.fields.specs.Header.{fields_at}

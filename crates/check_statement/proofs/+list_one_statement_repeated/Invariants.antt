@@ -1,28 +1,10 @@
 -- The cycle of calls meets its contracts. Assumes nothing.
-use Prim.Native.Nat.{ℕ, ◌-◌, ◌+◌, ◌<◌, ◌*◌}
-use mathlib.Core.Path.{◌≡◌, refl, sym, ◌∙◌, ap}
-use native.Mathlib.Omega.{arith}
-use borrow.Author.Rules.{rules}
-use Rattle.language.specs.Read.{read_statement, statements_by, gate_of, cx_of}
-use Rattle.language.specs.Check.{check_statements, check_statement, in_loop}
+use Prim.Native.Nat.{◌-◌, ◌+◌, ◌*◌}
+use mathlib.Core.Path.{◌≡◌}
+use Rattle.language.specs.Read.{read_statement, statements_by}
+use Rattle.language.specs.Check.{check_statements}
 use Rattle.fields.specs.Header.{fields_at}
-use Rattle.fields.proofs.Headers.{when_whole, when_end, when_cut}
-use Rattle.check_index.specs.Answers.{checked_part}
-use Rattle.check_call.specs.Calls.{scope_full, known_in}
-use Rattle.check_statement.proofs.Statements.{stated, list_end, list_cut, list_next, statement_deep, statement_acts}
-use Rattle.check_index.proofs.Answers.{part_stops, part_went}
-use borrow.Enum.Refused.{opened}
-use Rattle.check_statement.specs.declared.StatementTag.TheVariants.{Gate, Cx, Phase, Cphase, Call, Reverse, For}
-use lib.Seq.{slice}
-use Rattle.check_statement.specs.declared.StatementTag.TheVariants as S
-use Rattle.check_operand.specs.Tables.{tabulated, kinds_at, scope_with}
-use mathlib.Core.List.{List}
-use lib.ListN.{length}
-use Rattle.language.specs.Form.{Loop}
-use Rattle.forms.specs.Rows.{loops_of}
-use Rattle.check_index.proofs.TwoBounds.{bounds_upto}
-use Rattle.check_operand.proofs.Tables.{length_loops, bounds_same, rows_set}
-use Rattle.check_statement.proofs.Loops.{for_many, for_stops, for_good, loops_more}
+use Rattle.check_call.specs.Calls.{scope_full}
 use Rattle.check_statement.proofs.+list_one_statement_repeated.Given as goal
 
 abbrev pub decreases-list : goal.decreases-list

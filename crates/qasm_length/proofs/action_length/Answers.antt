@@ -1,5 +1,4 @@
 -- `qasm_length::action_length` meets its contract, operation by operation. Assumes nothing.
-use borrow.Author.Rules.{rules}
 use native.Mathlib.Omega.{arith}
 use Rattle.language.specs.Read.{choose}
 use Rattle.qasm_text.specs.RecordsIn.{action_of}

@@ -1,5 +1,4 @@
 -- `qasm_length::condition_length` meets its contract: nothing where there is no condition. Assumes nothing.
-use borrow.Author.Rules.{rules}
 use Prim.Native.Nat.{ℕ, ◌-◌}
 use mathlib.Core.Path.{ap}
 use native.Mathlib.Omega.{arith}

@@ -1,5 +1,4 @@
 -- `qasm_length::cregs_length` meets its contract. The loop's invariant: the total is the length of the lines of the first `k` bits. Assumes nothing.
-use Prim.Native.Nat.{◌*◌, ◌-◌, ◌≤◌}
 use mathlib.Core.Path.{◌≡◌, refl, ap}
 use native.Mathlib.Omega.{arith}
 use lib.ListN.{length}

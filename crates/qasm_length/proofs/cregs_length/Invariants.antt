@@ -1,10 +1,8 @@
 -- `qasm_length::cregs_length` meets its contract. The loop's invariant: the total is the length of the lines of the first `k` bits. Assumes nothing.
 use Prim.Native.Nat.{◌*◌, ◌-◌, ◌≤◌}
-use mathlib.Core.Path.{◌≡◌, refl, ap}
-use native.Mathlib.Omega.{arith}
+use mathlib.Core.Path.{◌≡◌}
 use lib.ListN.{length}
 use Rattle.qasm_text.specs.Text.{creg_lines}
-use Rattle.qasm_length.proofs.Parts.{bits_more}
 use Rattle.qasm_length.proofs.cregs_length.Given as goal
 
 abbrev pub invariant-loop-k : goal.invariant-loop-k

@@ -1,5 +1,4 @@
 -- `qasm_length::line_length` meets its contract: the condition, the operation, and two bytes. Assumes nothing.
-use borrow.Author.Rules.{rules}
 use native.Mathlib.Omega.{arith}
 use Rattle.qasm_length.proofs.Parts.{line_read}
 use Rattle.qasm_length.proofs.line_length.Goals as goal

@@ -1,5 +1,5 @@
 -- `qasm_length::lines_length` meets its contract. The loop's invariant: the total is the length of the lines of the first `i` records, and it fits. Assumes nothing.
-use Prim.Native.Nat.{◌+◌, ◌-◌, ◌≤◌}
+use Prim.Native.Nat.{◌+◌}
 use mathlib.Core.Path.{◌≡◌, refl, ap}
 use native.Mathlib.Omega.{arith}
 use lib.ListN.{length}

@@ -1,5 +1,4 @@
 -- `qasm_length::power_digits` meets its contract: the width by a product. Assumes nothing.
-use borrow.Author.Rules.{rules}
 use native.Mathlib.Omega.{arith}
 use Rattle.text_bytes.proofs.Powers.{power_width}
 use Rattle.qasm_length.proofs.power_digits.Goals as goal

@@ -1,5 +1,4 @@
 -- `qasm_length::qreg_length` meets its contract: nothing where there is no wire. Assumes nothing.
-use borrow.Author.Rules.{rules}
 use native.Mathlib.Omega.{arith}
 use Rattle.qasm_text.specs.Text.{qreg_line}
 use Rattle.qasm_length.proofs.Parts.{some_wires}

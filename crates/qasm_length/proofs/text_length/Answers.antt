@@ -1,5 +1,4 @@
 -- `qasm_length::text_length` meets its contract: the lines before the records, and the records' lines in what is left of the room. Assumes nothing.
-use borrow.Author.Rules.{rules}
 use native.Mathlib.Omega.{arith}
 use Rattle.qasm_text.proofs.TextLength.{text_length}
 use Rattle.qasm_length.proofs.text_length.Goals as goal

@@ -1,5 +1,4 @@
 -- `qasm_print::print` meets its contract. Assumes nothing.
-use borrow.Author.Rules.{rules}
 use Rattle.qasm_text.specs.Text.{lines}
 use Rattle.qasm_length.specs.AnyBytes.{records_from}
 use Rattle.qasm_length.proofs.Records.{records_there}

@@ -1,5 +1,4 @@
 -- `qasm_print::put_action` meets its contract. Assumes nothing.
-use borrow.Author.Rules.{rules}
 use Rattle.language.specs.Read.{choose}
 use Rattle.text_bytes.specs.Decimal.{ascii}
 use Rattle.qasm_text.specs.Text.{angle_text, action_text}

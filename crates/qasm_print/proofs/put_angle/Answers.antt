@@ -1,5 +1,4 @@
 -- `qasm_print::put_angle` meets its contract. Assumes nothing.
-use borrow.Author.Rules.{rules}
 use Prim.Native.Nat.{◌^◌}
 use Rattle.text_bytes.specs.Decimal.{ascii, decimal}
 use Rattle.text_bytes.proofs.Pieces.{room_first, room_next, puts_both}

@@ -1,5 +1,4 @@
 -- `qasm_print::put_condition` meets its contract. Assumes nothing.
-use borrow.Author.Rules.{rules}
 use Prim.Native.Nat.{◌-◌}
 use Rattle.text_bytes.specs.Decimal.{ascii, decimal}
 use Rattle.qasm_text.specs.Text.{bit_text, condition_text}

@@ -1,10 +1,8 @@
 -- `qasm_print::put_digits` meets its contract. The loop's invariant: with the digits of `rest` at `from`, the text would be whole. Assumes nothing.
-use Prim.Native.Nat.{◌+◌, ◌-◌, ◌/◌, ◌≤◌}
+use Prim.Native.Nat.{◌+◌, ◌-◌, ◌/◌}
 use mathlib.Core.Path.{◌≡◌, refl, ◌∙◌}
 use native.Mathlib.Omega.{arith}
-use lib.ListN.{length}
-use lib.Seq.{sets}
-use Rattle.text_bytes.specs.Decimal.{decimal, width}
+use Rattle.text_bytes.specs.Decimal.{width}
 use Rattle.text_bytes.proofs.Pieces.{puts_size}
 use Rattle.qasm_print.proofs.TwoDigits.{width_hundreds, stored_back}
 use Rattle.qasm_print.proofs.put_digits.Goals as goal

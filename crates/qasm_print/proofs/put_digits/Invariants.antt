@@ -1,12 +1,9 @@
 -- `qasm_print::put_digits` meets its contract. The loop's invariant: with the digits of `rest` at `from`, the text would be whole. Assumes nothing.
-use Prim.Native.Nat.{◌+◌, ◌-◌, ◌/◌, ◌≤◌}
-use mathlib.Core.Path.{◌≡◌, refl, ◌∙◌}
-use native.Mathlib.Omega.{arith}
+use Prim.Native.Nat.{◌+◌, ◌≤◌}
+use mathlib.Core.Path.{◌≡◌}
 use lib.ListN.{length}
 use lib.Seq.{sets}
 use Rattle.text_bytes.specs.Decimal.{decimal, width}
-use Rattle.text_bytes.proofs.Pieces.{puts_size}
-use Rattle.qasm_print.proofs.TwoDigits.{width_hundreds, stored_back}
 use Rattle.qasm_print.proofs.put_digits.Given as goal
 
 abbrev pub invariant-loop-rest : goal.invariant-loop-rest

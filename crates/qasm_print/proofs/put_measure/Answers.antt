@@ -1,5 +1,4 @@
 -- `qasm_print::put_measure` meets its contract. Assumes nothing.
-use borrow.Author.Rules.{rules}
 use Rattle.text_bytes.specs.Decimal.{ascii}
 use Rattle.qasm_text.specs.Text.{bit_text, action_text}
 use Rattle.text_bytes.proofs.Pieces.{room_first, room_next, puts_both}

@@ -1,5 +1,4 @@
 -- `qasm_print::put_number` meets its contract. Assumes nothing.
-use borrow.Author.Rules.{rules}
 use Prim.Native.Nat.{◌/◌, ◌%◌}
 use native.Mathlib.Omega.{arith}
 use Rattle.qasm_print.specs.Prints.{two_digits}

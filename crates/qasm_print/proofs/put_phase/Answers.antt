@@ -1,5 +1,4 @@
 -- `qasm_print::put_phase` meets its contract. Assumes nothing.
-use borrow.Author.Rules.{rules}
 use Rattle.qasm_text.specs.Text.{wire_text}
 use Rattle.text_bytes.proofs.Pieces.{room_first, room_next, puts_both}
 use Rattle.qasm_print.proofs.put_phase.Goals as goal

@@ -1,5 +1,4 @@
 -- `qasm_print::put_power` meets its contract. Assumes nothing.
-use borrow.Author.Rules.{rules}
 use mathlib.Core.Path.{sym, ap, ◌∙◌}
 use native.Mathlib.Omega.{arith}
 use Rattle.text_bytes.specs.Decimal.{width}
