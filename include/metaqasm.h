@@ -19,10 +19,10 @@
  * Nothing else is asked. Every byte string, number and length has an answer and every call ends. The library keeps no state
  * between calls, and uses no heap, no files and no globals, so calls may run on any number of threads at once.
  *
- * Time. The figures are of common machines of two cores. A check takes at most some 25 to 40 ns for each byte of the program,
- * 1.5 to 2.5 ms for the longest, unless it is written to be slow: 8 loops in each other, and indexes that are there only
- * because the outermost has a round, take up to 450 ns a byte, 30 ms for the longest. (metaqasm_showing.h has a call that says of
- * one index form how far a check goes for it.)
+ * Time. The figures are of common machines of two cores, with archives that an older kit built (rattle-kit-5b-plain). A check
+ * takes at most some 25 to 40 ns for each byte of the program, 1.5 to 2.5 ms for the longest, unless it is written to be slow:
+ * 8 loops in each other, and indexes that are there only because the outermost has a round, take up to 450 ns a byte, 30 ms for
+ * the longest. (metaqasm_showing.h has a call that says of one index form how far a check goes for it.)
  * The step limit bounds steps, not seconds: a step takes time in proportion to the indexes and operands of its own statement
  * (and, where a list begins to run backward, to the fields of the list). Most take 0.1 microseconds or less. The slowest found
  * are gates in a loop with an index of 60,000 bytes, which each round evaluates: 0.07 ms a step, or 1 ns for each byte of the
