@@ -1,5 +1,4 @@
 -- `metaqasm::checked` meets its contract. Assumes nothing.
-use borrow.Author.Rules.{rules}
 use mathlib.Core.Path.{sym, ap, ◌∙◌}
 use native.Mathlib.Omega.{arith}
 use Rattle.check_program.specs.Answers.{result_told}

@@ -1,5 +1,4 @@
 -- `metaqasm::metaqasm_instance_text` meets its contract. Assumes nothing.
-use borrow.Author.Rules.{rules}
 use Rattle.language.specs.Result.{Answer as Reply}
 use Rattle.language.proofs.Theorem.{reported_sound}
 use Rattle.qasm_text.proofs.CompleteRuns.{instance_accepted, instance_suits}

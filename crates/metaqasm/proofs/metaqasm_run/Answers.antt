@@ -1,5 +1,4 @@
 -- `metaqasm::metaqasm_run` meets its contract. Assumes nothing.
-use borrow.Author.Rules.{rules}
 use mathlib.Core.Path.{sym, ap, ◌∙◌}
 use native.Mathlib.Omega.{arith}
 use Rattle.language.specs.Result.{Result}

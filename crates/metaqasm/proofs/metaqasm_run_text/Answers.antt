@@ -1,5 +1,4 @@
 -- `metaqasm::metaqasm_run_text` meets its contract. Assumes nothing.
-use borrow.Author.Rules.{rules}
 use native.Mathlib.Omega.{arith}
 use Rattle.language.specs.Result.{Answer as Reply}
 use Rattle.language.proofs.Theorem.{reported_sound}

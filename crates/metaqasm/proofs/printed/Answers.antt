@@ -1,5 +1,4 @@
 -- `metaqasm::printed` meets its contract. Assumes nothing.
-use borrow.Author.Rules.{rules}
 use mathlib.Core.Path.{ap, ◌∙◌}
 use Rattle.qasm_text.specs.Text.{text_of}
 use Rattle.qasm_text.specs.TextResult.{TextResult}

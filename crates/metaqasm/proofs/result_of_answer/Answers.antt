@@ -1,5 +1,4 @@
 -- `metaqasm::result_of_answer` meets its contract. Assumes nothing.
-use borrow.Author.Rules.{rules}
 use mathlib.Core.Path.{sym, ap, ◌∙◌, subst}
 use Rattle.language.specs.Result.{Result, finished}
 use Rattle.runs.specs.Conclusions.{concluded}
