@@ -1,5 +1,4 @@
 -- `answer` meets its contract, for the whole program and for a family. Assumes nothing.
-use borrow.Author.Rules.{rules}
 use mathlib.Core.Path.{ap, subst, ◌∙◌}
 use Rattle.list_words.specs.Words.{outcome_of}
 use Rattle.list_words.specs.Jobs.{job_meant, JobHeld}

@@ -1,5 +1,4 @@
 -- `main` is safe and ends: the sizes of a job lie within the bytes that were lent for them. Assumes nothing.
-use borrow.Author.Rules.{rules}
 use mathlib.Core.Path.{subst}
 use Rattle.list_words.specs.Jobs.{Held}
 use Rattle.list.proofs.main.Goals as goal

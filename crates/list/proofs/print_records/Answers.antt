@@ -1,8 +1,4 @@
 -- `print_records` is safe and ends. The loop's invariant: the buffer has its 4,096 bytes. The measure is the number of records left. Assumes nothing.
-use borrow.Author.Rules.{rules}
-use Prim.Native.Nat.{◌-◌, ◌≤◌}
-use mathlib.Core.Path.{◌≡◌}
-use lib.ListN.{length}
 use Rattle.list.proofs.print_records.Goals as goal
 
 pub slice_bounds-write_all-end-in-loop-next : goal.slice_bounds-write_all-end-in-loop-next

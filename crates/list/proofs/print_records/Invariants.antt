@@ -1,5 +1,4 @@
 -- `print_records` is safe and ends. The loop's invariant: the buffer has its 4,096 bytes. The measure is the number of records left. Assumes nothing.
-use borrow.Author.Rules.{rules}
 use Prim.Native.Nat.{◌-◌, ◌≤◌}
 use mathlib.Core.Path.{◌≡◌}
 use lib.ListN.{length}
