@@ -101,8 +101,12 @@ def turned(path, text, new, kept, called):
         bare = it.strip("◌")
         return it.replace(bare, new.get(bare, bare)) if bare else it
 
+    def said(found):
+        """A word of a comment: a name that was in snake case already is a function's or a crate's there."""
+        return found[0] if new.get(found[0]) == found[0] + "_lem" else word(found)
+
     if path.endswith(".antt"):
-        return TOKEN.sub(word, text)
+        return "\n".join(TOKEN.sub(said if line.startswith("--") else word, line) for line in text.split("\n"))
     if path.endswith(".edit"):
         return "\n".join(TOKEN.sub(word, line) if line.startswith(("old:", "new:")) else line for line in text.split("\n"))
     return "\n".join(TOKEN.sub(word, line) if GHOST.match(line) else line for line in text.split("\n"))

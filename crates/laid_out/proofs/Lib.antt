@@ -1,4 +1,4 @@
--- The laws and lemmas of crate laid_out_lem, file by file.
+-- The laws and lemmas of crate laid_out, file by file.
 pub mod RegisterSums
 pub mod WireSums
 pub mod InstanceWires

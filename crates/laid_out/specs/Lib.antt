@@ -1,2 +1,2 @@
--- The definitions of crate laid_out_lem, file by file.
+-- The definitions of crate laid_out, file by file.
 pub mod Numbers

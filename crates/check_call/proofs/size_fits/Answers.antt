@@ -1,4 +1,4 @@
--- `check_call::size_fits_lem` meets its contract. Assumes nothing.
+-- `check_call::size_fits` meets its contract. Assumes nothing.
 use mathlib.Core.Path.{refl, sym, ap, ◌∙◌}
 use mathlib.Core.List.{[]}
 use native.Mathlib.Omega.{arith}

@@ -1,4 +1,4 @@
--- `check_operand::slice_fits_lem` meets its contract. Assumes nothing.
+-- `check_operand::slice_fits` meets its contract. Assumes nothing.
 use mathlib.Core.Path.{sym, ap, ◌∙◌}
 use mathlib.Core.List.{List}
 use Rattle.language.specs.Check.{Checked, Kind, Signature, Scope, by_showing, must_show, slice_fits, Formal}

@@ -1,4 +1,4 @@
--- `check_operand::two_operands_lem` meets its contract. Assumes nothing.
+-- `check_operand::two_operands` meets its contract. Assumes nothing.
 use mathlib.Core.Path.{◌≡◌, refl, sym, ap, ◌∙◌}
 use mathlib.Core.Bool.{Bool, not}
 use lib.IntN.{pos}

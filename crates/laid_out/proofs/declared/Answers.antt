@@ -1,4 +1,4 @@
--- `laid_out_lem::declared` meets its contract. Assumes nothing.
+-- `laid_out::declared` meets its contract. Assumes nothing.
 use mathlib.Core.Path.{sym, ◌∙◌}
 use native.Mathlib.Omega.{arith}
 use lib.ListN.{length}

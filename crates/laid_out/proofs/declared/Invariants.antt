@@ -1,4 +1,4 @@
--- `laid_out_lem::declared` meets its contract. Assumes nothing.
+-- `laid_out::declared` meets its contract. Assumes nothing.
 use Prim.Native.Nat.{◌-◌}
 use lib.ListN.{length}
 use Rattle.laid_out.proofs.RegisterSums.{Summed}

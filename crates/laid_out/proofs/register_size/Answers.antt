@@ -1,4 +1,4 @@
--- `laid_out_lem::register_size` meets its contract. Assumes nothing.
+-- `laid_out::register_size` meets its contract. Assumes nothing.
 use mathlib.Core.Path.{sym, ◌∙◌}
 use native.Mathlib.Omega.{arith}
 use lib.Seq.{length-slice}

@@ -1,4 +1,4 @@
--- `laid_out_lem::wires` meets its contract. Assumes nothing.
+-- `laid_out::wires` meets its contract. Assumes nothing.
 use native.Mathlib.Omega.{arith}
 use Rattle.laid_out.proofs.InstanceWires.{wires_none, head_there, wires_there}
 use Rattle.laid_out.proofs.wires.Goals as goal

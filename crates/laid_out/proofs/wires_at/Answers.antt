@@ -1,4 +1,4 @@
--- `laid_out_lem::wires_at` meets its contract. Assumes nothing.
+-- `laid_out::wires_at` meets its contract. Assumes nothing.
 use mathlib.Core.Path.{ap, ◌∙◌}
 use mathlib.Core.Option.{some}
 use Rattle.language.specs.Sound.{wires_of}

@@ -1,4 +1,4 @@
--- `laid_out_lem::wires_in` meets its contract. Assumes nothing.
+-- `laid_out::wires_in` meets its contract. Assumes nothing.
 use native.Mathlib.Omega.{arith}
 use Rattle.laid_out.proofs.WireSums.{wires_start, wires_end, wires_next}
 use Rattle.laid_out.proofs.wires_in.Goals as goal

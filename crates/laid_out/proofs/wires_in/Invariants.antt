@@ -1,4 +1,4 @@
--- `laid_out_lem::wires_in` meets its contract. Assumes nothing.
+-- `laid_out::wires_in` meets its contract. Assumes nothing.
 use Prim.Native.Nat.{◌-◌, ◌≤◌}
 use Rattle.laid_out.proofs.WireSums.{WiresSummed}
 use Rattle.laid_out.proofs.wires_in.Given as goal

@@ -1,4 +1,4 @@
--- `laid_out_lem::wires_laid` meets its contract. Assumes nothing.
+-- `laid_out::wires_laid` meets its contract. Assumes nothing.
 use mathlib.Core.Path.{◌∙◌}
 use Rattle.laid_out.proofs.WireSums.{laid_none, laid_done}
 use borrow.Enum.Refused.{opened}

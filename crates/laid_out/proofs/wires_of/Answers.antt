@@ -1,4 +1,4 @@
--- `laid_out_lem::wires_of` meets its contract. Assumes nothing.
+-- `laid_out::wires_of` meets its contract. Assumes nothing.
 use native.Mathlib.Omega.{arith}
 use Rattle.language.specs.Sound.{wires_in}
 use Rattle.operands.specs.Meanings.{parameter_of}

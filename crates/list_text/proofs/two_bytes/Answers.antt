@@ -1,4 +1,4 @@
--- `two_bytes_lem` meets its contract. Assumes nothing.
+-- `two_bytes` meets its contract. Assumes nothing.
 use Prim.Native.Nat.{◌+◌}
 use native.Mathlib.Omega.{arith}
 use Rattle.list_text.specs.Lines.{two_bytes_at}
