@@ -23,18 +23,6 @@ pub returns-in_default : goal.returns-in_default
 returns-in_default c =
     c.loop-r.invariant
 
-pub returns-then-next-to : goal.returns-then-next-to
-returns-then-next-to c =
-    c.loop-r.invariant
-
-pub returns-then-tag-lt37 : goal.returns-then-tag-lt37
-returns-then-tag-lt37 c =
-    c.loop-r.invariant
-
-pub returns-then-tag-gt38 : goal.returns-then-tag-gt38
-returns-then-tag-gt38 c =
-    c.loop-r.invariant
-
 pub overflow_add-from : goal.overflow_add-from
 overflow_add-from c =
     let a = c.args in
@@ -91,7 +79,7 @@ loop-r-preserved c =
     let n = inner_of i.r.mode 37 in
     let held = slice (i.r.from + 3) a.to a.bytes.now in
     let q : StepTaken n c.in-Whole.tag held i.r.st s = one_steps n c.in-Whole.tag held _ i.r.st s c.enter.result (rw c.inner-mode.ensures at c.enter.ensures) c.in-Going.is in
-    rw c.inner-mode.ensures (inside_more a.bytes.now a.base a.to a.e i.r i.invariant c.loop-r-test.true _ _ is c.if-next-to.false (record { low = c.if-tag-lt37.false; high = c.if-tag-gt38.false }) s q)
+    rw c.inner-mode.ensures (inside_more a.bytes.now a.base a.to a.e i.r i.invariant c.loop-r-test.true _ _ is (omega arith) (record { low = omega arith; high = omega arith }) s q)
 
 pub returns : goal.returns
 returns c =
