@@ -35,36 +35,12 @@ def nested(names, parts):
     return [names[at], *parts] if at == len(names) - 1 else ["1"] * at + parts
 
 
-# ---- the contracts of src/
-
-
-def functions():
-    """For each function `crate::path::name`: its &mut parameters, and its clauses' labels."""
-    found = {}
-    for crate in sorted(os.listdir(ROOT)):
-        src = os.path.join(ROOT, crate, "src")
-        if not os.path.isdir(src):
-            continue
-        for file in sorted(os.listdir(src)):
-            with open(os.path.join(src, file), encoding="utf-8") as it:
-                text = re.sub(r"//.*", "", it.read())
-            for match in re.finditer(r"\bfn (\w+)\s*(?:<[^>]*>)?\(([^)]*)\)([^{]*)", text):
-                head = text[match.end(2) :]
-                head = head[: head.find("\n{")] if "\n{" in head else head
-                mutable = re.findall(r"(\w+)\s*:\s*&mut", match[2])
-                requires = re.findall(r"\brequires\*? *(\w*) *\{", head)
-                ensures = re.findall(r"\bensures\*? *(\w*) *\{", head)
-                module = "" if file in ("lib.rt", "main.rt") else file[:-3] + "::"
-                found[f"{crate}::{module}{match[1]}"] = (mutable, requires, ensures)
-    return found
-
-
 # ---- one function
 
 
 class Turn:
-    def __init__(self, entry, called):
-        self.entry, self.called = entry, called
+    def __init__(self, entry):
+        self.entry = entry
         self.places = {place[0]: (i, place) for i, place in enumerate(entry["places"])}
         self.goals = {}
         for (old, new), (place, _) in zip(entry["needs"], entry["asked_at"]):
@@ -118,7 +94,7 @@ class Turn:
                 if plain(was) == plain(old) and under and parts[: len(under)] == under:
                     more = parts[len(under) :]
                     if field == "ensures":
-                        more = self.clause(index, callee, more)
+                        more = self.clause(index, more)
                     return ".".join(["c", step, field, *more])
             for field, was, under in fields:
                 if plain(was) == plain(old) and not under and field.endswith("-own"):
@@ -132,12 +108,12 @@ class Turn:
             if parts and plain(parts[0]) == plain(was):
                 return ".".join(["c", new, now, *parts[1:]])
         if parts and parts[0] == "ensures":
-            return ".".join(["c", new, "ensures", *self.clause(index, callee, parts[1:])])
+            return ".".join(["c", new, "ensures", *self.clause(index, parts[1:])])
         if parts and parts[0] == "new" and len(parts) > 1 and callee in self.entry["params"]:
             return ".".join(["c", new, "new", *nested([*self.entry["params"][callee], None], parts[1:])])
         return ".".join(["c", new, *parts])
 
-    def clause(self, index, callee, parts):
+    def clause(self, index, parts):
         clauses = self.entry["clauses"][index]
         return nested(clauses["fields"], parts) if clauses else parts
 
@@ -282,7 +258,7 @@ def measures(shared, crate, members):
     return out
 
 
-def turn_cycle(entries, called, folder, crate, function, members):
+def turn_cycle(entries, folder, crate, function, members):
     several = len(members) > 1
     invariants = measures(os.path.join(folder, "Proof", "Shared.antt"), crate, members)
     uses, own, answers, lost = [], [], [], []
@@ -293,7 +269,7 @@ def turn_cycle(entries, called, folder, crate, function, members):
         before, _, inside = text.partition("module _ (t : ℕ) where\n")
         inside = re.sub(r"(?m)^  ", "", inside)
         head, declarations = blocks(before + inside)
-        one = Turn(entries[member], called)
+        one = Turn(entries[member])
         one.is_cycle = True
         got = answers_of(one, entries[member], head, declarations, f"{member}-" if several else "", "t ")
         for line in got[1]:
@@ -319,10 +295,10 @@ def turn_cycle(entries, called, folder, crate, function, members):
     return lost
 
 
-def turn(entry, called, folder, crate, function):
+def turn(entry, folder, crate, function):
     with open(os.path.join(folder, "Proof.antt"), encoding="utf-8") as it:
         head, declarations = blocks(it.read())
-    one = Turn(entry, called)
+    one = Turn(entry)
     write(folder, crate, function, *answers_of(one, entry, head, declarations, "", ""))
     return one.lost
 
@@ -409,7 +385,6 @@ def write(folder, crate, function, intro, uses, own, invariants, answers):
 def main(names, crate, only):
     with open(names, encoding="utf-8") as it:
         entries = json.load(it)
-    called = functions()
     cycles = {}
     for key in entries:
         match = re.fullmatch(rf"Rattle-{crate}-proofs\.(\+\S+)\.Lts-(\w+)", key)
@@ -423,12 +398,12 @@ def main(names, crate, only):
         folder = os.path.join(top, *match[1].split("."))
         if not os.path.exists(os.path.join(folder, "Proof.antt")):
             continue
-        lost = turn(entries[key], called, folder, crate, match[1])
+        lost = turn(entries[key], folder, crate, match[1])
         print(match[1] + (": " + "; ".join(lost) if lost else ""))
     for function, members in sorted(cycles.items()):
         folder = os.path.join(top, function)
         if os.path.exists(os.path.join(folder, "Proof.antt")) and (not only or function in only):
-            lost = turn_cycle(members, called, folder, crate, function, sorted(members))
+            lost = turn_cycle(members, folder, crate, function, sorted(members))
             print(function + (": " + "; ".join(lost) if lost else ""))
 
 
