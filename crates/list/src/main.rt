@@ -64,7 +64,7 @@ fn print_listing(rt: &HostRuntime, output: &[u8], res: MetaqasmResult)
 // Runs a job on a program.
 fn answer(job: Job, sizes: &[u8], program: &[u8], output: &mut [u8]) -> MetaqasmResult
     requires { JobHeld job sizes.now }
-    ensures output_value { outcome_of (job_meant job sizes.now) program.now output.old ≡ finished (record { result = answered result; output = output.new }) }
+    ensures outcome { outcome_of (job_meant job sizes.now) program.now output.old ≡ finished (record { result = answered result; output = output.new }) }
     ensures records_in_bounds { record_size * result.records ≤ length output.new }
 {
     match job {

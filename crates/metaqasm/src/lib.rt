@@ -95,8 +95,8 @@ pub fn metaqasm_check(program: &[u8]) -> MetaqasmResult
 // the check gives 0, that the answer is the machine's own, 0 exactly where it came to its end, which ends are possible, what
 // the records name and which bytes are kept. The others are parts of it that hold for every program.
 pub fn metaqasm_run(program: &[u8], limit: u64, output: &mut [u8]) -> MetaqasmResult
-    ensures output_value { run_outcome program.now limit output.old ≡ finished (record { result = answered result; output = output.new }) }
-    ensures fact { SoundRun program.now limit output.old (record { result = answered result; output = output.new }) }
+    ensures outcome { run_outcome program.now limit output.old ≡ finished (record { result = answered result; output = output.new }) }
+    ensures sound { SoundRun program.now limit output.old (record { result = answered result; output = output.new }) }
     ensures records_in_bounds { record_size * result.records ≤ length output.new }
     ensures steps_le_limit { result.steps ≤ limit }
 {
@@ -121,8 +121,8 @@ pub fn metaqasm_instance(
     limit: u64,
     output: &mut [u8],
 ) -> MetaqasmResult
-    ensures output_value { instance_outcome program.now family sizes.now limit output.old ≡ finished (record { result = answered result; output = output.new }) }
-    ensures fact { SoundInstance program.now family sizes.now limit output.old (record { result = answered result; output = output.new }) }
+    ensures outcome { instance_outcome program.now family sizes.now limit output.old ≡ finished (record { result = answered result; output = output.new }) }
+    ensures sound { SoundInstance program.now family sizes.now limit output.old (record { result = answered result; output = output.new }) }
     ensures records_in_bounds { record_size * result.records ≤ length output.new }
     ensures steps_le_limit { result.steps ≤ limit }
 {
@@ -193,8 +193,8 @@ pub fn metaqasm_run_text(
     output: &mut [u8],
     text: &mut [u8],
 ) -> MetaqasmTextResult
-    ensures text_value { run_text_outcome program.now limit output.old text.old ≡ text_finished (record { result = text_answered result; output = output.new; text = text.new }) }
-    ensures fact { SoundRunText program.now limit output.old text.old (record { result = text_answered result; output = output.new; text = text.new }) }
+    ensures outcome { run_text_outcome program.now limit output.old text.old ≡ text_finished (record { result = text_answered result; output = output.new; text = text.new }) }
+    ensures sound { SoundRunText program.now limit output.old text.old (record { result = text_answered result; output = output.new; text = text.new }) }
     ensures records_in_bounds { record_size * result.records ≤ length output.new }
     ensures steps_le_limit { result.steps ≤ limit }
     ensures length_in_bounds { result.length ≤ length text.new }
@@ -216,8 +216,8 @@ pub fn metaqasm_instance_text(
     output: &mut [u8],
     text: &mut [u8],
 ) -> MetaqasmTextResult
-    ensures text_value { instance_text_outcome program.now family sizes.now limit output.old text.old ≡ text_finished (record { result = text_answered result; output = output.new; text = text.new }) }
-    ensures fact { SoundInstanceText program.now family sizes.now limit output.old text.old (record { result = text_answered result; output = output.new; text = text.new }) }
+    ensures outcome { instance_text_outcome program.now family sizes.now limit output.old text.old ≡ text_finished (record { result = text_answered result; output = output.new; text = text.new }) }
+    ensures sound { SoundInstanceText program.now family sizes.now limit output.old text.old (record { result = text_answered result; output = output.new; text = text.new }) }
     ensures records_in_bounds { record_size * result.records ≤ length output.new }
     ensures steps_le_limit { result.steps ≤ limit }
     ensures length_in_bounds { result.length ≤ length text.new }

@@ -24,8 +24,8 @@ pub extern "C" fn metaqasm_check(program: &[u8]) -> MetaqasmResult
 // the records name and which bytes are kept. The others are parts of it that hold for every program.
 #[unsafe(no_mangle)]
 pub extern "C" fn metaqasm_run(program: &[u8], limit: u64, output: &mut [u8]) -> MetaqasmResult
-    ensures output_value { run_outcome program.now limit output.old ≡ finished (record { result = answered result; output = output.new }) }
-    ensures fact { SoundRun program.now limit output.old (record { result = answered result; output = output.new }) }
+    ensures outcome { run_outcome program.now limit output.old ≡ finished (record { result = answered result; output = output.new }) }
+    ensures sound { SoundRun program.now limit output.old (record { result = answered result; output = output.new }) }
     ensures records_in_bounds { record_size * result.records ≤ length output.new }
     ensures steps_le_limit { result.steps ≤ limit }
 {
@@ -41,8 +41,8 @@ pub extern "C" fn metaqasm_instance(
     limit: u64,
     output: &mut [u8],
 ) -> MetaqasmResult
-    ensures output_value { instance_outcome program.now family sizes.now limit output.old ≡ finished (record { result = answered result; output = output.new }) }
-    ensures fact { SoundInstance program.now family sizes.now limit output.old (record { result = answered result; output = output.new }) }
+    ensures outcome { instance_outcome program.now family sizes.now limit output.old ≡ finished (record { result = answered result; output = output.new }) }
+    ensures sound { SoundInstance program.now family sizes.now limit output.old (record { result = answered result; output = output.new }) }
     ensures records_in_bounds { record_size * result.records ≤ length output.new }
     ensures steps_le_limit { result.steps ≤ limit }
 {
@@ -60,8 +60,8 @@ pub extern "C" fn metaqasm_run_text(
     output: &mut [u8],
     text: &mut [u8],
 ) -> MetaqasmTextResult
-    ensures text_value { run_text_outcome program.now limit output.old text.old ≡ text_finished (record { result = text_answered result; output = output.new; text = text.new }) }
-    ensures fact { SoundRunText program.now limit output.old text.old (record { result = text_answered result; output = output.new; text = text.new }) }
+    ensures outcome { run_text_outcome program.now limit output.old text.old ≡ text_finished (record { result = text_answered result; output = output.new; text = text.new }) }
+    ensures sound { SoundRunText program.now limit output.old text.old (record { result = text_answered result; output = output.new; text = text.new }) }
     ensures records_in_bounds { record_size * result.records ≤ length output.new }
     ensures steps_le_limit { result.steps ≤ limit }
     ensures length_in_bounds { result.length ≤ length text.new }
@@ -79,8 +79,8 @@ pub extern "C" fn metaqasm_instance_text(
     output: &mut [u8],
     text: &mut [u8],
 ) -> MetaqasmTextResult
-    ensures text_value { instance_text_outcome program.now family sizes.now limit output.old text.old ≡ text_finished (record { result = text_answered result; output = output.new; text = text.new }) }
-    ensures fact { SoundInstanceText program.now family sizes.now limit output.old text.old (record { result = text_answered result; output = output.new; text = text.new }) }
+    ensures outcome { instance_text_outcome program.now family sizes.now limit output.old text.old ≡ text_finished (record { result = text_answered result; output = output.new; text = text.new }) }
+    ensures sound { SoundInstanceText program.now family sizes.now limit output.old text.old (record { result = text_answered result; output = output.new; text = text.new }) }
     ensures records_in_bounds { record_size * result.records ≤ length output.new }
     ensures steps_le_limit { result.steps ≤ limit }
     ensures length_in_bounds { result.length ≤ length text.new }

@@ -12,7 +12,7 @@ pub returns-in-Whole : goal.returns-in-Whole
 unfolding outcome_of job_meant
 returns-in-Whole c =
     record {
-      output_value = ap (λ j. outcome_of (job_meant j c.args.sizes.now) c.args.program.now c.args.output.now) c.in-Whole.is ∙ c.metaqasm_run.ensures.output_value;
+      outcome = ap (λ j. outcome_of (job_meant j c.args.sizes.now) c.args.program.now c.args.output.now) c.in-Whole.is ∙ c.metaqasm_run.ensures.outcome;
       records_in_bounds = c.metaqasm_run.ensures.records_in_bounds;
     }
 
@@ -20,6 +20,6 @@ pub returns-in-Family : goal.returns-in-Family
 unfolding outcome_of job_meant
 returns-in-Family c =
     record {
-      output_value = ap (λ j. outcome_of (job_meant j c.args.sizes.now) c.args.program.now c.args.output.now) c.in-Family.is ∙ c.metaqasm_instance.ensures.output_value;
+      outcome = ap (λ j. outcome_of (job_meant j c.args.sizes.now) c.args.program.now c.args.output.now) c.in-Family.is ∙ c.metaqasm_instance.ensures.outcome;
       records_in_bounds = c.metaqasm_instance.ensures.records_in_bounds;
     }

@@ -14,8 +14,8 @@ returns-then-first-ne0 c =
     let x = answered c.checked-first.result in
     let n = refused_counts l x c.checked-first.ensures c.if-first-ne0.true in
     record {
-      output_value = refused_instance l x c.checked-first.ensures c.if-first-ne0.true a.family a.sizes.now a.limit lent;
-      fact = (λ z. refused_sound l x c.checked-first.ensures c.if-first-ne0.true z);
+      outcome = refused_instance l x c.checked-first.ensures c.if-first-ne0.true a.family a.sizes.now a.limit lent;
+      sound = (λ z. refused_sound l x c.checked-first.ensures c.if-first-ne0.true z);
       records_in_bounds = omega (arith, n.0);
       steps_le_limit = omega (arith, n.1);
     }
@@ -45,8 +45,8 @@ returns c =
     let out = c.instance.new.out in
     let t = instance_answers l a.family a.sizes.now a.limit lent e out c.instance.result (answered c.result_of_answer.result) (rw c.wide.ensures at c.instance.ensures) (c.result_of_answer.ensures out) in
     record {
-      output_value = t.0;
-      fact = t.1;
+      outcome = t.0;
+      sound = t.1;
       records_in_bounds = t.2;
       steps_le_limit = t.3;
     }

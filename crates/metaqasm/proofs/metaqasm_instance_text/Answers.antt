@@ -14,10 +14,10 @@ returns-then-run-ne0 c =
     let l = a.program.now in
     let out = c.metaqasm_instance-run.new.output in
     let run : Reply = record { result = answered c.metaqasm_instance-run.result; output = out } in
-    let t = instance_text_promised l a.family a.sizes.now a.limit a.output.now run c.metaqasm_instance-run.ensures.output_value a.text.now _ (by_other run (text_answered c.unprinted.result) a.text.now _ c.if-run-ne0.true c.unprinted.ensures) c.metaqasm_instance-run.ensures.records_in_bounds c.metaqasm_instance-run.ensures.steps_le_limit in
+    let t = instance_text_promised l a.family a.sizes.now a.limit a.output.now run c.metaqasm_instance-run.ensures.outcome a.text.now _ (by_other run (text_answered c.unprinted.result) a.text.now _ c.if-run-ne0.true c.unprinted.ensures) c.metaqasm_instance-run.ensures.records_in_bounds c.metaqasm_instance-run.ensures.steps_le_limit in
     record {
-      text_value = t.0;
-      fact = t.1;
+      outcome = t.0;
+      sound = t.1;
       records_in_bounds = t.2.records;
       steps_le_limit = t.2.steps;
       length_in_bounds = t.2.fits;
@@ -29,7 +29,7 @@ wires-wires-requires c =
     let l = a.program.now in
     let out = c.metaqasm_instance-run.new.output in
     let run : Reply = record { result = answered c.metaqasm_instance-run.result; output = out } in
-    acceptable l (instance_accepted l a.family a.sizes.now a.limit a.output.now run c.metaqasm_instance-run.ensures.output_value c.if-run-ne0.false)
+    acceptable l (instance_accepted l a.family a.sizes.now a.limit a.output.now run c.metaqasm_instance-run.ensures.outcome c.if-run-ne0.false)
 
 pub printed-requires : goal.printed-requires
 printed-requires c =
@@ -37,8 +37,8 @@ printed-requires c =
     let l = a.program.now in
     let out = c.metaqasm_instance-run.new.output in
     let run : Reply = record { result = answered c.metaqasm_instance-run.result; output = out } in
-    let suits = instance_suits l a.family a.sizes.now a.limit a.output.now run c.metaqasm_instance-run.ensures.output_value c.if-run-ne0.false in
-    let sound = reported_sound ((c.metaqasm_instance-run.ensures.fact (instance_accepted l a.family a.sizes.now a.limit a.output.now run c.metaqasm_instance-run.ensures.output_value c.if-run-ne0.false)).suited suits) in
+    let suits = instance_suits l a.family a.sizes.now a.limit a.output.now run c.metaqasm_instance-run.ensures.outcome c.if-run-ne0.false in
+    let sound = reported_sound ((c.metaqasm_instance-run.ensures.sound (instance_accepted l a.family a.sizes.now a.limit a.output.now run c.metaqasm_instance-run.ensures.outcome c.if-run-ne0.false)).suited suits) in
     let few = sound.few in
     let w = (rw c.wide.ensures at c.wires-wires.ensures) suits in
     record {
@@ -53,14 +53,14 @@ returns c =
     let l = a.program.now in
     let out = c.metaqasm_instance-run.new.output in
     let run : Reply = record { result = answered c.metaqasm_instance-run.result; output = out } in
-    let suits = instance_suits l a.family a.sizes.now a.limit a.output.now run c.metaqasm_instance-run.ensures.output_value c.if-run-ne0.false in
-    let sound = reported_sound ((c.metaqasm_instance-run.ensures.fact (instance_accepted l a.family a.sizes.now a.limit a.output.now run c.metaqasm_instance-run.ensures.output_value c.if-run-ne0.false)).suited suits) in
+    let suits = instance_suits l a.family a.sizes.now a.limit a.output.now run c.metaqasm_instance-run.ensures.outcome c.if-run-ne0.false in
+    let sound = reported_sound ((c.metaqasm_instance-run.ensures.sound (instance_accepted l a.family a.sizes.now a.limit a.output.now run c.metaqasm_instance-run.ensures.outcome c.if-run-ne0.false)).suited suits) in
     let w = (rw c.wide.ensures at c.wires-wires.ensures) suits in
     let e = rw w at c.printed.ensures in
-    let t = instance_text_promised l a.family a.sizes.now a.limit a.output.now run c.metaqasm_instance-run.ensures.output_value a.text.now _ (by_done run a.text.now _ sound c.if-run-ne0.false e) c.metaqasm_instance-run.ensures.records_in_bounds c.metaqasm_instance-run.ensures.steps_le_limit in
+    let t = instance_text_promised l a.family a.sizes.now a.limit a.output.now run c.metaqasm_instance-run.ensures.outcome a.text.now _ (by_done run a.text.now _ sound c.if-run-ne0.false e) c.metaqasm_instance-run.ensures.records_in_bounds c.metaqasm_instance-run.ensures.steps_le_limit in
     record {
-      text_value = t.0;
-      fact = t.1;
+      outcome = t.0;
+      sound = t.1;
       records_in_bounds = t.2.records;
       steps_le_limit = t.2.steps;
       length_in_bounds = t.2.fits;

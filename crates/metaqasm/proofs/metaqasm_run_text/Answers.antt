@@ -15,10 +15,10 @@ returns-then-run-ne0 c =
     let l = a.program.now in
     let out = c.metaqasm_run-run.new.output in
     let run : Reply = record { result = answered c.metaqasm_run-run.result; output = out } in
-    let t = run_text_promised l a.limit a.output.now run c.metaqasm_run-run.ensures.output_value a.text.now _ (by_other run (text_answered c.unprinted.result) a.text.now _ c.if-run-ne0.true c.unprinted.ensures) c.metaqasm_run-run.ensures.records_in_bounds c.metaqasm_run-run.ensures.steps_le_limit in
+    let t = run_text_promised l a.limit a.output.now run c.metaqasm_run-run.ensures.outcome a.text.now _ (by_other run (text_answered c.unprinted.result) a.text.now _ c.if-run-ne0.true c.unprinted.ensures) c.metaqasm_run-run.ensures.records_in_bounds c.metaqasm_run-run.ensures.steps_le_limit in
     record {
-      text_value = t.0;
-      fact = t.1;
+      outcome = t.0;
+      sound = t.1;
       records_in_bounds = t.2.records;
       steps_le_limit = t.2.steps;
       length_in_bounds = t.2.fits;
@@ -30,7 +30,7 @@ declared-declared-requires c =
     let l = a.program.now in
     let out = c.metaqasm_run-run.new.output in
     let run : Reply = record { result = answered c.metaqasm_run-run.result; output = out } in
-    (acceptable l (run_accepted l a.limit a.output.now run c.metaqasm_run-run.ensures.output_value c.if-run-ne0.false)).short
+    (acceptable l (run_accepted l a.limit a.output.now run c.metaqasm_run-run.ensures.outcome c.if-run-ne0.false)).short
 
 pub printed-requires : goal.printed-requires
 printed-requires c =
@@ -38,7 +38,7 @@ printed-requires c =
     let l = a.program.now in
     let out = c.metaqasm_run-run.new.output in
     let run : Reply = record { result = answered c.metaqasm_run-run.result; output = out } in
-    let sound = reported_sound (c.metaqasm_run-run.ensures.fact (run_accepted l a.limit a.output.now run c.metaqasm_run-run.ensures.output_value c.if-run-ne0.false)) in
+    let sound = reported_sound (c.metaqasm_run-run.ensures.sound (run_accepted l a.limit a.output.now run c.metaqasm_run-run.ensures.outcome c.if-run-ne0.false)) in
     let few = sound.few in
     let q = c.declared-declared.ensures.qubits in
     let b = c.declared-declared.ensures.bits in
@@ -55,11 +55,11 @@ returns c =
     let out = c.metaqasm_run-run.new.output in
     let run : Reply = record { result = answered c.metaqasm_run-run.result; output = out } in
     let e = rw (c.declared-declared.ensures.qubits, c.declared-declared.ensures.bits) at c.printed.ensures in
-    let sound = reported_sound (c.metaqasm_run-run.ensures.fact (run_accepted l a.limit a.output.now run c.metaqasm_run-run.ensures.output_value c.if-run-ne0.false)) in
-    let t = run_text_promised l a.limit a.output.now run c.metaqasm_run-run.ensures.output_value a.text.now _ (by_done run a.text.now _ sound c.if-run-ne0.false e) c.metaqasm_run-run.ensures.records_in_bounds c.metaqasm_run-run.ensures.steps_le_limit in
+    let sound = reported_sound (c.metaqasm_run-run.ensures.sound (run_accepted l a.limit a.output.now run c.metaqasm_run-run.ensures.outcome c.if-run-ne0.false)) in
+    let t = run_text_promised l a.limit a.output.now run c.metaqasm_run-run.ensures.outcome a.text.now _ (by_done run a.text.now _ sound c.if-run-ne0.false e) c.metaqasm_run-run.ensures.records_in_bounds c.metaqasm_run-run.ensures.steps_le_limit in
     record {
-      text_value = t.0;
-      fact = t.1;
+      outcome = t.0;
+      sound = t.1;
       records_in_bounds = t.2.records;
       steps_le_limit = t.2.steps;
       length_in_bounds = t.2.fits;
