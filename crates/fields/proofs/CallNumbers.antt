@@ -16,7 +16,7 @@ use Rattle.language.proofs.Integers.{clash}
 use Rattle.fields.proofs.Headers.{slice_none, one_byte}
 use Rattle.fields.specs.CallNumber.{is_call_tag, number_in, calling_by, call_reader, named_at, named_in}
 use Rattle.fields.specs.declared.Named.{Named}
-use Rattle.fields.specs.declared.Named.TheVariants.{Number, Bad}
+use Rattle.std.specs.Prelude.{Result, Ok, Err}
 
 -- a statement whose tag is a call's is read so
 pub call_read : (part : Field → Statement) (p tag : ℕ) (l : List ℕ) → is_call_tag tag ≡ true → statement_by part (field p tag l) ≡ call_reader tag p l
@@ -36,9 +36,9 @@ pub record Names (number : CallNumber) (from : ℕ) (l : List ℕ) (n after : �
   pub reads : (calling : Calling) (p : Place) → call_by calling p number ≡ call_of calling p n (fields (p + 3 + (after - from)) (drop (after - from) l))
 
 -- what each answer means
-unfoldable Meant : (number : CallNumber) (from : ℕ) → List ℕ → Named → Type 0
-Meant number from l (Number n after) = Names number from l n after
-Meant number from l (Bad k) = (calling : Calling) (p : Place) → call_by calling p number ≡ bad_statement k p
+unfoldable Meant : (number : CallNumber) (from : ℕ) → List ℕ → Result Named ℕ → Type 0
+Meant number from l (Ok n) = Names number from l n.number n.next
+Meant number from l (Err k) = (calling : Calling) (p : Place) → call_by calling p number ≡ bad_statement k p
 
 -- the answer on a number means what is read
 by_number_lem : (from : ℕ) (l : List ℕ) (number : CallNumber) → Begins l number → Meant number from l (named_at from number)
@@ -56,11 +56,11 @@ meant tag from l = by_number_lem from l (number_in tag l) (go (eqb tag 39))
     go false = one_byte_begins l
 
 module _ (tag from : ℕ) (l : List ℕ) where
-  pub named_bad : (k : ℕ) → named_in tag from l ≡ Bad k → (p : Place) → call_reader tag p l ≡ bad_statement k p
+  pub named_bad : (k : ℕ) → named_in tag from l ≡ Err k → (p : Place) → call_reader tag p l ≡ bad_statement k p
   unfolding Meant
   named_bad k e = (rw e at (meant tag from l)) (calling_by tag)
 
-  pub named_number : (n after : ℕ) → named_in tag from l ≡ Number n after → Names (number_in tag l) from l n after
+  pub named_number : (n after : ℕ) → named_in tag from l ≡ Ok (record { number = n; next = after }) → Names (number_in tag l) from l n after
   unfolding Meant
   named_number n after e = rw e at (meant tag from l)
 
@@ -70,7 +70,7 @@ pub record NamedIn (tag from to : ℕ) (bytes : List ℕ) (n after : ℕ) : Type
   pub high : after ≤ to
   pub reads : (p start : Place) → start ≡ p + 3 + (after - from) → call_reader tag p (slice from to bytes) ≡ call_of (calling_by tag) p n (fields start (slice after to bytes))
 
-pub named_in_lem : (tag from to : ℕ) (bytes : List ℕ) → from ≤ to → to ≤ length bytes → (n after : ℕ) → named_in tag from (slice from to bytes) ≡ Number n after → NamedIn tag from to bytes n after
+pub named_in_lem : (tag from to : ℕ) (bytes : List ℕ) → from ≤ to → to ≤ length bytes → (n after : ℕ) → named_in tag from (slice from to bytes) ≡ Ok (record { number = n; next = after }) → NamedIn tag from to bytes n after
 named_in_lem tag from to bytes h k n after e =
     let w = named_number tag from (slice from to bytes) n after e in
     let z : from + (after - from) ≡ after = omega (arith, w.low) in
@@ -85,11 +85,11 @@ named_in_lem tag from to bytes h k n after e =
 
 module _ (tag from to : ℕ) (bytes : List ℕ) (h : from ≤ to) (k : to ≤ length bytes) where
   module _ (t : tag ≡ 39) where
-    pub long_cut : to - from < 2 → named_in tag from (slice from to bytes) ≡ Bad 4
+    pub long_cut : to - from < 2 → named_in tag from (slice from to bytes) ≡ Err 4
     unfolding two_byte_number named_at
     long_cut s = rw (eq-eqb tag 39 t) (go (slice from to bytes) (omega (arith, length-slice from to bytes k)))
       where
-        go : (l : List ℕ) → length l < 2 → named_at from (two_byte_number l) ≡ Bad 4
+        go : (l : List ℕ) → length l < 2 → named_at from (two_byte_number l) ≡ Err 4
         go [] z = refl
         go (x ∷ []) z = refl
         go (x ∷ y ∷ l) z = absurd (omega arith)
@@ -102,19 +102,19 @@ module _ (tag from to : ℕ) (bytes : List ℕ) (h : from ≤ to) (k : to ≤ le
       unfolding two_byte_number
       long_is = rw (eq-eqb tag 39 t) (ap (λ (l : List ℕ). named_at from (two_byte_number l)) (one_byte from to bytes (omega arith) k ∙ ap (λ (l : List ℕ). get_or bytes from 0 ∷ l) (one_byte (from + 1) to bytes (omega arith) k)))
 
-      pub long_small : number < byte_families → named_in tag from (slice from to bytes) ≡ Bad 31
+      pub long_small : number < byte_families → named_in tag from (slice from to bytes) ≡ Err 31
       unfolding wide_number named_at
       long_small m = long_is ∙ rw (lt-ltb number byte_families m)
 
-      pub long_names : byte_families ≤ number → named_in tag from (slice from to bytes) ≡ Number number (from + 2)
+      pub long_names : byte_families ≤ number → named_in tag from (slice from to bytes) ≡ Ok (record { number = number; next = (from + 2) })
       unfolding wide_number named_at
       long_names m = long_is ∙ rw (le-ltb number byte_families m)
 
   module _ (t : tag ≡ 39 → ⊥) where
-    pub short_cut : to - from ≡ 0 → named_in tag from (slice from to bytes) ≡ Bad 4
+    pub short_cut : to - from ≡ 0 → named_in tag from (slice from to bytes) ≡ Err 4
     unfolding one_byte_number named_at
     short_cut s = rw (ne_eqb tag 39 t) (ap (λ (l : List ℕ). named_at from (one_byte_number l)) (slice_none from to bytes (omega arith)))
 
-    pub short_names : from < to → named_in tag from (slice from to bytes) ≡ Number (get_or bytes from 0) (from + 1)
+    pub short_names : from < to → named_in tag from (slice from to bytes) ≡ Ok (record { number = (get_or bytes from 0); next = (from + 1) })
     unfolding one_byte_number named_at
     short_names s = rw (ne_eqb tag 39 t) (ap (λ (l : List ℕ). named_at from (one_byte_number l)) (one_byte from to bytes s k))

@@ -5,7 +5,7 @@ ghost use Rattle.std.specs.Prelude.{◌≡◌};
 ghost use Rattle.kinds.specs.Numbers.{number_of, kind_with};
 
 // A Qbit parameter, a quantum register or Qbit[I] parameter, a classical register, or a family parameter.
-#[derive(Clone, Copy)]
+#[derive(Clone, Copy, Debug, PartialEq, Eq)]
 pub enum Kind {
     Qubit,
     Quantum,
@@ -14,29 +14,24 @@ pub enum Kind {
 }
 
 // The number of a kind.
-pub fn number(k: Kind) -> u8
-    ensures { result ≡ number_of k }
-{
-    match k {
-        Kind::Qubit => 0,
-        Kind::Quantum => 1,
-        Kind::Classical => 2,
-        Kind::Family => 3,
+impl From<Kind> for u16 {
+    ghost from_gives = { λ k n. n ≡ number_of k };
+
+    fn from(k: Kind) -> u16 {
+        k as u16
     }
 }
 
-// The kind that a number stands for.
-pub fn with_number(n: u16) -> Kind
-    ensures { result ≡ kind_with n }
-{
-    if n == 0 {
-        return Kind::Qubit;
+// The kind that a number stands for; each number past the last kind's stands for that one.
+impl From<u16> for Kind {
+    ghost from_gives = { λ n k. k ≡ kind_with n };
+
+    fn from(n: u16) -> Kind {
+        match n {
+            0 => Kind::Qubit,
+            1 => Kind::Quantum,
+            2 => Kind::Classical,
+            _ => Kind::Family,
+        }
     }
-    if n == 1 {
-        return Kind::Quantum;
-    }
-    if n == 2 {
-        return Kind::Classical;
-    }
-    Kind::Family
 }

@@ -5,10 +5,10 @@ use lib.ListN.{length}
 use Rattle.fields.proofs.FamilyScan.{Scanned}
 use Rattle.fields.proofs.families.Given as goal
 
-abbrev pub invariant-loop-tag : goal.invariant-loop-tag
-invariant-loop-tag l =
+abbrev pub invariant-loop-header : goal.invariant-loop-header
+invariant-loop-header l =
     Scanned l.program l.table l.at l.n × (length l.table ≡ length l.initial.table) × (l.n ≤ l.at)
 
-abbrev pub decreases-loop-tag : goal.decreases-loop-tag
-decreases-loop-tag l =
+abbrev pub decreases-loop-header : goal.decreases-loop-header
+decreases-loop-header l =
     length l.program - l.at

@@ -1,0 +1,2 @@
+-- The definitions of crate refusals.
+pub mod Reasons
