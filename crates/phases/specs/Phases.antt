@@ -3,11 +3,11 @@ use Rattle.std.specs.Prelude.{ℕ, ◌+◌, ◌-◌, ◌≡◌, List, Bool, true
 use Rattle.std.proofs.Math.Seq.{slice}
 use Rattle.language.specs.Tree.{Place, bad_index}
 use Rattle.language.specs.Read.{fields, due, operand_due, outer_index}
-use Rattle.language.specs.Machine.{Run, Frame, Action, end_at, no_meaning, ◌>>=◌, halvings, do_phase, do_cphase, run_phase, run_cphase}
+use Rattle.language.specs.Machine.{Run, Frame, Action, ◌>>=◌, halvings, do_phase, do_cphase, run_phase, run_cphase}
 use Rattle.language.specs.Machine as machine
 use Rattle.language.specs.Result.{op}
 use Rattle.indexes.specs.declared.Fault.{Fault}
-use Rattle.indexes.specs.declared.Fault.TheVariants.{Over, Stuck}
+use Rattle.indexes.specs.Values.{fault_told}
 use Rattle.operands.specs.Meanings.{the_wire}
 use Rattle.records.specs.Outcomes.{op_number, ActionNumbers}
 use Rattle.gates.specs.declared.Mode.{Mode}
@@ -18,8 +18,7 @@ use Rattle.phases.specs.declared.Parts.{Parts}
 -- a phase's k, and what is done with it
 unfoldable pub halving : Place → Result Halvings Fault → (ℕ → Run (Unit {0})) → Run (Unit {0})
 halving p (Ok h) next = next h.k
-halving p (Err Over) next = end_at 24 p
-halving p (Err Stuck) next = no_meaning
+halving p (Err e) next = fault_told p e
 
 -- the operands begin at the position in the answer, in the content from `from` to `to`
 unfoldable pub Begins : List ℕ → (from to : ℕ) → Result Halvings Fault → Type 0
@@ -74,8 +73,7 @@ PartedOn false mode room tag p l from to f code k at = Two mode room tag p l fro
 -- what the parts of a gate or a phase tell of its run
 unfoldable pub Parted : Mode → (room tag : ℕ) → Place → List ℕ → (from to : ℕ) → Frame → Result Parts Fault → Type 0
 Parted mode room tag p l from to f (Ok q) = PartedOn q.single mode room tag p l from to f (op_number q.op) q.k q.next
-Parted mode room tag p l from to f (Err Over) = action_at mode room tag p (slice from to l) f ≡ end_at 24 p
-Parted mode room tag p l from to f (Err Stuck) = action_at mode room tag p (slice from to l) f ≡ no_meaning
+Parted mode room tag p l from to f (Err e) = action_at mode room tag p (slice from to l) f ≡ fault_told p e
 
 -- at whatever place, and with whatever operands in scope
 abbrev pub PartsOf : (tag : ℕ) → List ℕ → (from to : ℕ) → List ℤ → (reversed : Bool) → Result Parts Fault → Type 0

@@ -64,7 +64,7 @@ pub fn take_step(limit: u64, place: usize, st: State) -> Result<State, Stop>
 
 // A condition's byte and its bit.
 #[derive(Clone, Copy)]
-struct Numbers {
+struct ConditionNumbers {
     byte: u8,
     bit: u16,
 }
@@ -107,13 +107,13 @@ fn put_halvings(out: &mut [u8], at: usize, k: u16)
     out[at + 3] = 0;
 }
 
-fn numbers(c: Condition) -> Numbers
+fn numbers(c: Condition) -> ConditionNumbers
     ensures { (result.byte ≡ condition_byte (condition_of c)) × (result.bit ≡ condition_bit (condition_of c)) }
 {
     match c {
-        Condition::Always => Numbers { byte: 0, bit: 0 },
-        Condition::IsZero(b) => Numbers { byte: 1, bit: b.0 },
-        Condition::IsOne(b) => Numbers { byte: 2, bit: b.0 },
+        Condition::Always => ConditionNumbers { byte: 0, bit: 0 },
+        Condition::IsZero(b) => ConditionNumbers { byte: 1, bit: b.0 },
+        Condition::IsOne(b) => ConditionNumbers { byte: 2, bit: b.0 },
     }
 }
 
