@@ -13,7 +13,6 @@ ghost use Rattle.operands.specs.Meanings.{operands_of, of_parameter};
 ghost use Rattle.calls.specs.Families.{FamilyHead, PastFields, BodyFrom};
 ghost use Rattle.calls.specs.Arguments.{operand_numbers, gathered_operand, gathered_operands, operand_arguments, SizesAre, GathersMore, OperandsGathered, Takes, TypesTake, FamilyTakes, Scopes, Arguments};
 
-use fields::{Header, NoHeader};
 use indexes::{Fault, VALUES};
 use kinds::Kind;
 use limits::{DEEPEST, MOST_PARAMETERS, MOST_VARIABLES};
@@ -108,22 +107,18 @@ fn sizes_of(
 {
     let mut at = from;
     let mut k: usize = 0;
-    loop {
-        match fields::header_at(bytes, at, to) {
-            Err(NoHeader::End) => return Ok(k),
-            Err(NoHeader::Cut) => return Err(Fault::Stuck),
-            Ok(Header { tag, next }) => {
-                let content = at + 3;
-                at = next;
-                if is_operand(tag) {
-                    continue;
-                }
-                let z = indexes::evaluate(bytes, content, next, tag, vars, many, DEEPEST)?;
-                store_size(sizes, k, z);
-                k += 1;
-            }
+    while at < to {
+        let header = fields::header_at(bytes, at, to)?;
+        let content = at + 3;
+        at = header.next;
+        if is_operand(header.tag) {
+            continue;
         }
+        let z = indexes::evaluate(bytes, content, at, header.tag, vars, many, DEEPEST)?;
+        store_size(sizes, k, z);
+        k += 1;
     }
+    Ok(k)
 }
 
 // Puts an operand of a kind behind the n that are gathered, with its first wire and its size, or with its number.
@@ -182,21 +177,17 @@ fn operands_of(
 {
     let mut at = from;
     let mut n: usize = 0;
-    loop {
-        match fields::header_at(bytes, at, to) {
-            Err(NoHeader::End) => return Ok(n),
-            Err(NoHeader::Cut) => return Err(Fault::Stuck),
-            Ok(Header { tag, next }) => {
-                let content = at + 3;
-                at = next;
-                if is_index(tag) {
-                    continue;
-                }
-                let s = operands::meaning_of(bytes, content, next, tag, vars, many, scope, regs)?;
-                n = gather(given, n, s);
-            }
+    while at < to {
+        let header = fields::header_at(bytes, at, to)?;
+        let content = at + 3;
+        at = header.next;
+        if is_index(header.tag) {
+            continue;
         }
+        let s = operands::meaning_of(bytes, content, at, header.tag, vars, many, scope, regs)?;
+        n = gather(given, n, s);
     }
+    Ok(n)
 }
 
 // Whether a parameter of the type with this tag takes an operand of a kind. None that is gathered is classical.

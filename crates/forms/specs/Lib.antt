@@ -2,3 +2,4 @@
 pub mod Flat
 pub mod Rows
 pub mod Products
+pub mod Ranges

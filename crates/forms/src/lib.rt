@@ -1,18 +1,22 @@
 // Index forms: the constant, and then the coefficient of each index variable.
 #![tactic(auto)]
 
-ghost use Rattle.std.specs.Prelude.{◌≡◌, true, false, ◌&&◌, List, ◌+◌, ◌≤◌, ◌<◌, length, get_or, set, drop, replicate, ℤ, pos, ◌+ℤ◌, ◌*ℤ◌};
+ghost use Rattle.std.specs.Prelude.{◌≡◌, true, false, ◌&&◌, OnOk, is_ok, List, ◌+◌, ◌≤◌, ◌<◌, length, get_or, set, drop, replicate, ℤ, pos, ◌+ℤ◌, ◌*ℤ◌};
 ghost use Rattle.language.specs.Form.{built, in_range, constant_form, variable_form, sum_of, difference_of, multiple_of, ◌then_build◌, all_zero, same_form, closed, showing_of, plainly, less_range, trial, by_trial, showing, put_in};
 ghost use Rattle.form_laws.specs.Settled.{gone_through, remaining};
 ghost use Rattle.form_laws.specs.Trials.{trials_for, trials_made};
 ghost use Rattle.language.specs.Tree.{Place, product};
 ghost use Rattle.language.specs.Limits.{most_variables, most_loops, all_variables};
 ghost use Rattle.language.specs.Check.{combined};
-ghost use Rattle.forms.specs.Products.{made_of, product_of, MadeKept};
+ghost use Rattle.forms.specs.Products.{product_of};
 ghost use Rattle.forms.specs.Flat.{form_numbers, size_numbers, Kept, Short, widened, as_form, built_of, showing_by, shown_of};
 ghost use Rattle.forms.specs.Rows.{Rows, loop_at, loops_of, forms_of};
+ghost use Rattle.forms.specs.Ranges.{loops_in, all_loops};
+
+mod ranges;
 
 use limits::{ALL_VARIABLES, FURTHEST, MOST_VARIABLES};
+pub use ranges::Ranges;
 
 // The numbers of a form: the constant, and a coefficient for each variable.
 pub const FORM_NUMBERS: usize = ALL_VARIABLES + 1;
@@ -27,42 +31,60 @@ pub type Form = [i64; FORM_NUMBERS];
 
 pub type Size = [i32; SIZE_NUMBERS];
 
-// What trying to show a form 0 or more gives.
-#[derive(Clone, Copy)]
-pub enum Verdict {
-    Shown,
+// That a number on the way is out of range.
+#[derive(Clone, Copy, Debug, PartialEq, Eq)]
+pub struct OutOfRange;
+
+// Why a form is not shown to be 0 or more.
+#[derive(Clone, Copy, Debug, PartialEq, Eq)]
+pub enum Unshown {
     NotShown,
     OutOfRange,
 }
 
-// What the plain rule gives for a form, and how many loop variables were gone through.
-#[derive(Clone, Copy)]
+impl From<OutOfRange> for Unshown {
+    ghost from_gives = { λ _ e. e ≡ Unshown.OutOfRange };
+
+    fn from(_: OutOfRange) -> Unshown {
+        Unshown::OutOfRange
+    }
+}
+
+// Why two forms have no product: a number is out of range, or both have variables.
+#[derive(Clone, Copy, Debug, PartialEq, Eq)]
+pub enum NoProduct {
+    OutOfRange,
+    NotLinear,
+}
+
+impl From<OutOfRange> for NoProduct {
+    ghost from_gives = { λ _ e. e ≡ NoProduct.OutOfRange };
+
+    fn from(_: OutOfRange) -> NoProduct {
+        NoProduct::OutOfRange
+    }
+}
+
+// Whether the plain rule shows a form, and how many loop variables were gone through.
+#[derive(Clone, Copy, Debug, PartialEq, Eq)]
 pub struct Settling {
-    pub verdict: Verdict,
+    pub verdict: Result<(), Unshown>,
     pub through: usize,
 }
 
 // Whether a trial shows a form, and how many trials were made.
-#[derive(Clone, Copy)]
+#[derive(Clone, Copy, Debug, PartialEq, Eq)]
 pub struct Trials {
     pub shown: bool,
     pub made: usize,
 }
 
-// What trying to show a form gives, how many loop variables the plain rule went through, and how many trials were made after it.
-#[derive(Clone, Copy)]
+// Whether a form is shown, how many loop variables the plain rule went through, and how many trials were made after it.
+#[derive(Clone, Copy, Debug, PartialEq, Eq)]
 pub struct Shown {
-    pub verdict: Verdict,
+    pub verdict: Result<(), Unshown>,
     pub through: usize,
     pub trials: usize,
-}
-
-// What multiplying two forms gives: the product, a number out of range, or that both have variables.
-#[derive(Clone, Copy)]
-pub enum Product {
-    Made,
-    Outside,
-    NotLinear,
 }
 
 // Whether a form may have the number z.
@@ -73,83 +95,80 @@ pub fn in_range(z: i64) -> bool
 }
 
 // f's number i becomes x plus k times y; false where the product or the sum is out of range.
-fn put_sum(f: &mut Form, i: usize, x: i64, k: i64, y: i64) -> bool
+fn put_sum(f: &mut Form, i: usize, x: i64, k: i64, y: i64) -> Result<(), OutOfRange>
     requires i_lt_form_numbers { i < form_numbers }
     requires x_value { in_range x ≡ true }
     requires k_value { in_range k ≡ true }
     requires y_value { in_range y ≡ true }
-    ensures value { result ≡ (in_range (k *ℤ y) && in_range (x +ℤ k *ℤ y)) }
-    ensures f_after { result ≡ true → f.new ≡ set f.old i (x +ℤ k *ℤ y) }
+    ensures value { is_ok result ≡ (in_range (k *ℤ y) && in_range (x +ℤ k *ℤ y)) }
+    ensures f_after { OnOk result (f.new ≡ set f.old i (x +ℤ k *ℤ y)) }
 {
     let p = k * y;
-    if in_range(p) {} else {
-        return false;
+    if !in_range(p) {
+        return Err(OutOfRange);
     }
     let z = x + p;
-    if in_range(z) {
-        f[i] = z;
-        return true;
+    if !in_range(z) {
+        return Err(OutOfRange);
     }
-    false
+    f[i] = z;
+    Ok(())
 }
 
 // f's number i becomes itself plus k times y; false where the product or the sum is out of range.
-fn add_number(f: &mut Form, i: usize, k: i64, y: i64) -> bool
+fn add_number(f: &mut Form, i: usize, k: i64, y: i64) -> Result<(), OutOfRange>
     requires i_lt_form_numbers { i < form_numbers }
     requires pos_value { in_range (get_or f.old i (pos 0)) ≡ true }
     requires k_value { in_range k ≡ true }
     requires y_value { in_range y ≡ true }
-    ensures value { result ≡ (in_range (k *ℤ y) && in_range (get_or f.old i (pos 0) +ℤ k *ℤ y)) }
-    ensures f_after { result ≡ true → f.new ≡ set f.old i (get_or f.old i (pos 0) +ℤ k *ℤ y) }
+    ensures value { is_ok result ≡ (in_range (k *ℤ y) && in_range (get_or f.old i (pos 0) +ℤ k *ℤ y)) }
+    ensures f_after { OnOk result (f.new ≡ set f.old i (get_or f.old i (pos 0) +ℤ k *ℤ y)) }
 {
     if y == 0 {
-        return true;
+        return Ok(());
     }
     let x = f[i];
     put_sum(f, i, x, k, y)
 }
 
 // f becomes f plus k times g; false where a number is out of range, and what f holds then is of no use.
-pub fn add_scaled(f: &mut Form, k: i64, g: &Form) -> bool
+pub fn add_scaled(f: &mut Form, k: i64, g: &Form) -> Result<(), OutOfRange>
     requires kept { Kept f.old }
     requires k_value { in_range k ≡ true }
     requires kept_2 { Kept g.now }
     ensures f_after { built_of result f.new ≡ (multiple_of k (as_form g.now) then_build sum_of (as_form f.old)) }
-    ensures kept_3 { result ≡ true → Kept f.new }
+    ensures kept_3 { OnOk result (Kept f.new) }
 {
     for i in 0..FORM_NUMBERS {
-        let y = g[i];
-        if add_number(f, i, k, y) {} else {
-            return false;
-        }
+        add_number(f, i, k, g[i])?;
     }
-    true
+    Ok(())
 }
 
-pub fn add(f: &mut Form, g: &Form) -> bool
+pub fn add(f: &mut Form, g: &Form) -> Result<(), OutOfRange>
     requires kept { Kept f.old }
     requires kept_2 { Kept g.now }
     ensures f_after { built_of result f.new ≡ sum_of (as_form f.old) (as_form g.now) }
-    ensures kept_3 { result ≡ true → Kept f.new }
+    ensures kept_3 { OnOk result (Kept f.new) }
 {
     add_scaled(f, 1, g)
 }
 
-pub fn subtract(f: &mut Form, g: &Form) -> bool
+pub fn subtract(f: &mut Form, g: &Form) -> Result<(), OutOfRange>
     requires kept { Kept f.old }
     requires kept_2 { Kept g.now }
     ensures f_after { built_of result f.new ≡ difference_of (as_form f.old) (as_form g.now) }
-    ensures kept_3 { result ≡ true → Kept f.new }
+    ensures kept_3 { OnOk result (Kept f.new) }
 {
     add_scaled(f, -1, g)
 }
 
 // f becomes f + z.
-pub fn add_constant(f: &mut Form, z: i64) -> bool
+pub fn add_constant(f: &mut Form, z: i64) -> Result<(), OutOfRange>
     requires kept { Kept f.old }
     requires z_value { in_range z ≡ true }
     ensures f_after { built_of result f.new ≡ sum_of (as_form f.old) (constant_form z) }
-    ensures kept_2 { result ≡ true → Kept f.new }
+    ensures kept_2 { OnOk result (Kept f.new) }
 {
     add_number(f, 0, 1, z)
 }
@@ -175,11 +194,11 @@ pub fn set_variable(f: &mut Form, v: usize)
 }
 
 // f becomes k times g.
-pub fn set_multiple(f: &mut Form, k: i64, g: &Form) -> bool
+pub fn set_multiple(f: &mut Form, k: i64, g: &Form) -> Result<(), OutOfRange>
     requires k_value { in_range k ≡ true }
     requires kept { Kept g.now }
     ensures f_after { built_of result f.new ≡ multiple_of k (as_form g.now) }
-    ensures kept_2 { result ≡ true → Kept f.new }
+    ensures kept_2 { OnOk result (Kept f.new) }
 {
     set_constant(f, 0);
     add_scaled(f, k, g)
@@ -190,15 +209,7 @@ pub fn is_constant(f: &Form) -> bool
     requires { Kept f.now }
     ensures { result ≡ all_zero (as_form f.now).coefficients }
 {
-    let mut i: usize = 1;
-    while i < FORM_NUMBERS {
-        let x = f[i];
-        if x != 0 {
-            return false;
-        }
-        i += 1;
-    }
-    true
+    f[1..].iter().all(|x| *x == 0)
 }
 
 // Whether two forms are equal.
@@ -207,44 +218,28 @@ pub fn same(f: &Form, g: &Form) -> bool
     requires kept_2 { Kept g.now }
     ensures { result ≡ same_form (as_form f.now) (as_form g.now) }
 {
-    let mut i: usize = 0;
-    while i < FORM_NUMBERS {
-        let x = f[i];
-        if x != g[i] {
-            return false;
-        }
-        i += 1;
-    }
-    true
-}
-
-// The answer for a product that was built or not.
-fn made(ok: bool) -> Product
-    ensures { result ≡ made_of ok }
-{
-    if ok {
-        return Product::Made;
-    }
-    Product::Outside
+    *f == *g
 }
 
 // f becomes f times g, of which one must be constant.
-pub fn multiply(f: &mut Form, g: &Form) -> Product
+pub fn multiply(f: &mut Form, g: &Form) -> Result<(), NoProduct>
     requires kept { Kept f.old }
     requires kept_2 { Kept g.now }
     ensures f_after { (p : Place) → product_of p result f.new ≡ combined p product (as_form f.old) (as_form g.now) }
-    ensures made_kept { MadeKept result f.new }
+    ensures made_kept { OnOk result (Kept f.new) }
 {
     if is_constant(f) {
         let k = f[0];
-        return made(set_multiple(f, k, g));
+        set_multiple(f, k, g)?;
+        return Ok(());
     }
     if is_constant(g) {
         let k = g[0];
         let h = *f;
-        return made(set_multiple(f, k, &h));
+        set_multiple(f, k, &h)?;
+        return Ok(());
     }
-    Product::NotLinear
+    Err(NoProduct::NotLinear)
 }
 
 // Whether every number is 0 or more.
@@ -252,30 +247,28 @@ pub fn none_negative(f: &Form) -> bool
     requires { Kept f.now }
     ensures { showing_by result ≡ showing_of (built (as_form f.now)) }
 {
-    let mut i: usize = 0;
-    while i < FORM_NUMBERS {
-        let x = f[i];
-        if x < 0 {
-            return false;
-        }
-        i += 1;
-    }
-    true
+    f.iter().all(|x| 0 <= *x)
 }
 
 // f with its term in the variable v replaced by a bound of the loop n. The loops' low and high forms lie in two slices.
-pub fn substitute(f: &mut Form, v: usize, lows: &[Form], highs: &[Form], n: usize) -> bool
+pub fn substitute(
+    f: &mut Form,
+    v: usize,
+    lows: &[Form],
+    highs: &[Form],
+    n: usize,
+) -> Result<(), OutOfRange>
     requires kept { Kept f.old }
     requires v_lt_all_variables { v < all_variables }
     requires rows { Rows lows.now (n + 1) }
     requires rows_2 { Rows highs.now (n + 1) }
     ensures f_after { built_of result f.new ≡ closed v (loop_at n lows.now highs.now) (as_form f.old) (get_or (as_form f.old).coefficients v (pos 0)) }
-    ensures kept_2 { result ≡ true → Kept f.new }
+    ensures kept_2 { OnOk result (Kept f.new) }
 {
     let at = v + 1;
     let k = f[at];
     if k == 0 {
-        return true;
+        return Ok(());
     }
     f[at] = 0;
     if k < 0 {
@@ -298,44 +291,48 @@ fn number_but(f: &Form, at: usize, i: usize) -> i64
 }
 
 // g's number i becomes x plus k times y, where y is mostly 0; false where the product or the sum is out of range.
-fn put_number(g: &mut Form, i: usize, x: i64, k: i64, y: i64) -> bool
+fn put_number(g: &mut Form, i: usize, x: i64, k: i64, y: i64) -> Result<(), OutOfRange>
     requires i_lt_form_numbers { i < form_numbers }
     requires x_value { in_range x ≡ true }
     requires k_value { in_range k ≡ true }
     requires y_value { in_range y ≡ true }
-    ensures value { result ≡ (in_range (k *ℤ y) && in_range (x +ℤ k *ℤ y)) }
-    ensures g_after { result ≡ true → g.new ≡ set g.old i (x +ℤ k *ℤ y) }
+    ensures value { is_ok result ≡ (in_range (k *ℤ y) && in_range (x +ℤ k *ℤ y)) }
+    ensures g_after { OnOk result (g.new ≡ set g.old i (x +ℤ k *ℤ y)) }
 {
     if y == 0 {
         g[i] = x;
-        return true;
+        return Ok(());
     }
     put_sum(g, i, x, k, y)
 }
 
 // g becomes f, with 0 in the place of the number `at`, plus k times h; false where a number is out of range.
-fn sum_but(g: &mut Form, f: &Form, at: usize, k: i64, h: &Form) -> bool
+fn sum_but(g: &mut Form, f: &Form, at: usize, k: i64, h: &Form) -> Result<(), OutOfRange>
     requires g_len { length g.old ≡ form_numbers }
     requires kept { Kept f.now }
     requires at_lt_form_numbers { at < form_numbers }
     requires k_value { in_range k ≡ true }
     requires kept_2 { Kept h.now }
     ensures g_after { built_of result g.new ≡ (multiple_of k (as_form h.now) then_build sum_of (as_form (set f.now at (pos 0)))) }
-    ensures kept_3 { result ≡ true → Kept g.new }
+    ensures kept_3 { OnOk result (Kept g.new) }
 {
     for i in 0..FORM_NUMBERS {
-        let y = h[i];
         let x = number_but(f, at, i);
-        if put_number(g, i, x, k, y) {} else {
-            return false;
-        }
+        put_number(g, i, x, k, h[i])?;
     }
-    true
+    Ok(())
 }
 
 // g becomes f with its term in the variable v, which it has, replaced by a bound of the loop n. f stays, and nothing of it is copied whole:
 // wide reads of numbers that were just written one by one are slow.
-fn replace_into(g: &mut Form, f: &Form, v: usize, lows: &[Form], highs: &[Form], n: usize) -> bool
+fn replace_into(
+    g: &mut Form,
+    f: &Form,
+    v: usize,
+    lows: &[Form],
+    highs: &[Form],
+    n: usize,
+) -> Result<(), OutOfRange>
     requires g_len { length g.old ≡ form_numbers }
     requires kept { Kept f.now }
     requires v_lt_all_variables { v < all_variables }
@@ -343,7 +340,7 @@ fn replace_into(g: &mut Form, f: &Form, v: usize, lows: &[Form], highs: &[Form],
     requires rows { Rows lows.now (n + 1) }
     requires rows_2 { Rows highs.now (n + 1) }
     ensures g_after { built_of result g.new ≡ closed v (loop_at n lows.now highs.now) (as_form f.now) (get_or (as_form f.now).coefficients v (pos 0)) }
-    ensures kept_2 { result ≡ true → Kept g.new }
+    ensures kept_2 { OnOk result (Kept g.new) }
 {
     let at = v + 1;
     let k = f[at];
@@ -373,25 +370,25 @@ fn left(f: &Form, variables: usize, loops: usize) -> usize
 }
 
 // What is shown of a form all of whose numbers are 0 or more, and of another.
-fn verdict_of(natural: bool) -> Verdict
+fn verdict_of(natural: bool) -> Result<(), Unshown>
     ensures { shown_of result ≡ showing_by natural }
 {
     if natural {
-        return Verdict::Shown;
+        Ok(())
+    } else {
+        Err(Unshown::NotShown)
     }
-    Verdict::NotShown
 }
 
-// Shows f to be 0 or more by the plain rule, under so many family variables and open loops. What f holds afterwards is of no use.
+// Shows f to be 0 or more by the plain rule, over the outermost loops, so many. What f holds afterwards is of no use.
 // It goes from one variable whose coefficient is not 0 to the next below it, so it looks at each coefficient once.
-fn scan(f: &mut Form, variables: usize, loops: usize, lows: &[Form], highs: &[Form]) -> Settling
+fn scan(f: &mut Form, ranges: &Ranges, loops: usize) -> Settling
     requires kept { Kept f.old }
-    requires loops_bound { variables + loops ≤ all_variables }
-    requires rows { Rows lows.now loops }
-    requires rows_2 { Rows highs.now loops }
-    ensures verdict_value { shown_of result.verdict ≡ plainly variables (loops_of loops lows.now highs.now) (built (as_form f.old)) }
-    ensures through_value { result.through ≡ gone_through variables (loops_of loops lows.now highs.now) (built (as_form f.old)) }
+    requires loops_le_all { loops ≤ ranges.now.loops }
+    ensures verdict_value { shown_of result.verdict ≡ plainly ranges.now.variables (loops_in loops ranges.now) (built (as_form f.old)) }
+    ensures through_value { result.through ≡ gone_through ranges.now.variables (loops_in loops ranges.now) (built (as_form f.old)) }
 {
+    let variables = ranges.variables;
     let mut n = loops;
     loop {
         let next = left(f, variables, n);
@@ -403,24 +400,23 @@ fn scan(f: &mut Form, variables: usize, loops: usize, lows: &[Form], highs: &[Fo
         }
         n = next - 1;
         let through = loops - n;
-        if substitute(f, variables + n, lows, highs, n) {} else {
+        if substitute(f, variables + n, ranges.lows, ranges.highs, n).is_err() {
             return Settling {
-                verdict: Verdict::OutOfRange,
+                verdict: Err(Unshown::OutOfRange),
                 through,
             };
         }
     }
 }
 
-// Shows f to be 0 or more by the plain rule, under so many family variables and open loops.
-fn show_plainly(f: &Form, variables: usize, loops: usize, lows: &[Form], highs: &[Form]) -> Settling
-    requires kept { Kept f.now }
-    requires loops_bound { variables + loops ≤ all_variables }
-    requires rows { Rows lows.now loops }
-    requires rows_2 { Rows highs.now loops }
-    ensures verdict_value { shown_of result.verdict ≡ plainly variables (loops_of loops lows.now highs.now) (built (as_form f.now)) }
-    ensures through_value { result.through ≡ gone_through variables (loops_of loops lows.now highs.now) (built (as_form f.now)) }
+// Shows f to be 0 or more by the plain rule.
+fn show_plainly(f: &Form, ranges: &Ranges) -> Settling
+    requires { Kept f.now }
+    ensures verdict_value { shown_of result.verdict ≡ plainly ranges.now.variables (all_loops ranges.now) (built (as_form f.now)) }
+    ensures through_value { result.through ≡ gone_through ranges.now.variables (all_loops ranges.now) (built (as_form f.now)) }
 {
+    let variables = ranges.variables;
+    let loops = ranges.loops;
     let next = left(f, variables, loops);
     if next == 0 {
         return Settling {
@@ -431,80 +427,52 @@ fn show_plainly(f: &Form, variables: usize, loops: usize, lows: &[Form], highs: 
     let n = next - 1;
     let passed = loops - n;
     let mut g = [0i64; FORM_NUMBERS];
-    if replace_into(&mut g, f, variables + n, lows, highs, n) {
-        let s = scan(&mut g, variables, n, lows, highs);
-        let verdict = s.verdict;
+    if replace_into(&mut g, f, variables + n, ranges.lows, ranges.highs, n).is_err() {
         return Settling {
-            verdict,
-            through: passed + s.through,
+            verdict: Err(Unshown::OutOfRange),
+            through: passed,
         };
     }
+    let s = scan(&mut g, ranges, n);
     Settling {
-        verdict: Verdict::OutOfRange,
-        through: passed,
+        verdict: s.verdict,
+        through: passed + s.through,
     }
 }
 
 // f becomes f − (high − low) of the loop n, high − low being built first; false where a number is out of range.
-fn less_range(f: &mut Form, lows: &[Form], highs: &[Form], n: usize) -> bool
+fn less_range(f: &mut Form, lows: &[Form], highs: &[Form], n: usize) -> Result<(), OutOfRange>
     requires kept { Kept f.old }
     requires rows { Rows lows.now (n + 1) }
     requires rows_2 { Rows highs.now (n + 1) }
     ensures f_after { built_of result f.new ≡ less_range (loop_at n lows.now highs.now) (as_form f.old) }
-    ensures kept_2 { result ≡ true → Kept f.new }
+    ensures kept_2 { OnOk result (Kept f.new) }
 {
     let mut range = highs[n];
-    if subtract(&mut range, &lows[n]) {
-        return subtract(f, &range);
-    }
-    false
+    subtract(&mut range, &lows[n])?;
+    subtract(f, &range)
 }
 
 // Whether the trial for the loop n shows f to be 0 or more.
-fn try_loop(
-    f: &Form,
-    variables: usize,
-    loops: usize,
-    lows: &[Form],
-    highs: &[Form],
-    n: usize,
-) -> bool
+fn try_loop(f: &Form, ranges: &Ranges, n: usize) -> bool
     requires kept { Kept f.now }
-    requires loops_bound { variables + loops ≤ all_variables }
-    requires rows { Rows lows.now loops }
-    requires rows_2 { Rows highs.now loops }
-    requires n_lt_loops { n < loops }
-    ensures { result ≡ trial variables (loops_of loops lows.now highs.now) (loop_at n lows.now highs.now) (built (as_form f.now)) }
+    requires n_lt_loops { n < ranges.now.loops }
+    ensures { result ≡ trial ranges.now.variables (all_loops ranges.now) (loop_at n ranges.now.lows.now ranges.now.highs.now) (built (as_form f.now)) }
 {
     let mut g = *f;
-    if less_range(&mut g, lows, highs, n) {
-        let s = show_plainly(&g, variables, loops, lows, highs);
-        let verdict = s.verdict;
-        return match verdict {
-            Verdict::Shown => true,
-            _ => false,
-        };
+    if less_range(&mut g, ranges.lows, ranges.highs, n).is_err() {
+        return false;
     }
-    false
+    show_plainly(&g, ranges).verdict.is_ok()
 }
 
 // The trials of f for the outermost loops, so many, from the innermost of these out, up to the first that shows it.
 // It calls itself: a loop would be copied into each place that shows a form, and make those slower that need no trial.
-fn try_loops(
-    f: &Form,
-    variables: usize,
-    loops: usize,
-    lows: &[Form],
-    highs: &[Form],
-    inner: usize,
-) -> Trials
+fn try_loops(f: &Form, ranges: &Ranges, inner: usize) -> Trials
     requires kept { Kept f.now }
-    requires loops_bound { variables + loops ≤ all_variables }
-    requires rows { Rows lows.now loops }
-    requires rows_2 { Rows highs.now loops }
-    requires inner_le_loops { inner ≤ loops }
-    ensures shown_value { result.shown ≡ by_trial variables (loops_of loops lows.now highs.now) (loops_of inner lows.now highs.now) (built (as_form f.now)) }
-    ensures made_value { result.made ≡ trials_for variables (loops_of loops lows.now highs.now) (loops_of inner lows.now highs.now) (built (as_form f.now)) }
+    requires inner_le_loops { inner ≤ ranges.now.loops }
+    ensures shown_value { result.shown ≡ by_trial ranges.now.variables (all_loops ranges.now) (loops_in inner ranges.now) (built (as_form f.now)) }
+    ensures made_value { result.made ≡ trials_for ranges.now.variables (all_loops ranges.now) (loops_in inner ranges.now) (built (as_form f.now)) }
 {
     if inner == 0 {
         return Trials {
@@ -512,13 +480,13 @@ fn try_loops(
             made: 0,
         };
     }
-    if try_loop(f, variables, loops, lows, highs, inner - 1) {
+    if try_loop(f, ranges, inner - 1) {
         return Trials {
             shown: true,
             made: 1,
         };
     }
-    let t = try_loops(f, variables, loops, lows, highs, inner - 1);
+    let t = try_loops(f, ranges, inner - 1);
     let made = t.made + 1;
     Trials {
         shown: t.shown,
@@ -526,33 +494,27 @@ fn try_loops(
     }
 }
 
-// Shows f to be 0 or more, under so many family variables and open loops: by the plain rule, and only where that does not show it by a trial.
-pub fn show(f: &Form, variables: usize, loops: usize, lows: &[Form], highs: &[Form]) -> Shown
-    requires kept { Kept f.now }
-    requires loops_bound { variables + loops ≤ all_variables }
-    requires rows { Rows lows.now loops }
-    requires rows_2 { Rows highs.now loops }
-    ensures verdict_value { shown_of result.verdict ≡ showing variables (loops_of loops lows.now highs.now) (built (as_form f.now)) }
-    ensures through_value { result.through ≡ gone_through variables (loops_of loops lows.now highs.now) (built (as_form f.now)) }
-    ensures trials_value { result.trials ≡ trials_made variables (loops_of loops lows.now highs.now) (built (as_form f.now)) }
+// Shows f to be 0 or more: by the plain rule, and only where that does not show it by a trial.
+pub fn show(f: &Form, ranges: &Ranges) -> Shown
+    requires { Kept f.now }
+    ensures verdict_value { shown_of result.verdict ≡ showing ranges.now.variables (all_loops ranges.now) (built (as_form f.now)) }
+    ensures through_value { result.through ≡ gone_through ranges.now.variables (all_loops ranges.now) (built (as_form f.now)) }
+    ensures trials_value { result.trials ≡ trials_made ranges.now.variables (all_loops ranges.now) (built (as_form f.now)) }
 {
-    let s = show_plainly(f, variables, loops, lows, highs);
+    let s = show_plainly(f, ranges);
     let through = s.through;
-    let verdict = s.verdict;
-    match verdict {
-        Verdict::NotShown => {
-            let t = try_loops(f, variables, loops, lows, highs, loops);
-            Shown {
-                verdict: verdict_of(t.shown),
-                through,
-                trials: t.made,
-            }
-        }
-        _ => Shown {
-            verdict,
+    let Err(Unshown::NotShown) = s.verdict else {
+        return Shown {
+            verdict: s.verdict,
             through,
             trials: 0,
-        },
+        };
+    };
+    let t = try_loops(f, ranges, ranges.loops);
+    Shown {
+        verdict: verdict_of(t.shown),
+        through,
+        trials: t.made,
     }
 }
 
@@ -563,11 +525,9 @@ pub fn load(f: &mut Form, row: &Size)
     ensures kept { Kept f.new }
 {
     *f = [0i64; FORM_NUMBERS];
-    f[0] = row[0] as i64;
-    f[1] = row[1] as i64;
-    f[2] = row[2] as i64;
-    f[3] = row[3] as i64;
-    f[4] = row[4] as i64;
+    for i in 0..SIZE_NUMBERS {
+        f[i] = i64::from(row[i]);
+    }
 }
 
 // The row of a table for f, whose coefficients but for those of a family's variables are 0.
@@ -578,28 +538,24 @@ pub fn store(row: &mut Size, f: &Form)
     ensures short { Short row.new }
 {
     *row = [0i32; SIZE_NUMBERS];
-    row[0] = f[0] as i32;
-    row[1] = f[1] as i32;
-    row[2] = f[2] as i32;
-    row[3] = f[3] as i32;
-    row[4] = f[4] as i32;
+    for i in 0..SIZE_NUMBERS {
+        row[i] = f[i] as i32;
+    }
 }
 
 // f becomes a parameter's size with a call's forms put in for the family's m variables, all together.
-pub fn put_in(f: &mut Form, size: &Size, forms: &[Form], m: usize) -> bool
+pub fn put_in(f: &mut Form, size: &Size, forms: &[Form], m: usize) -> Result<(), OutOfRange>
     requires short { Short size.now }
     requires m_le_most_variables { m ≤ most_variables }
     requires rows { Rows forms.now m }
     ensures f_after { built_of result f.new ≡ put_in (as_form (widened size.now)) (forms_of m forms.now) }
-    ensures kept { result ≡ true → Kept f.new }
+    ensures kept { OnOk result (Kept f.new) }
 {
-    let z = size[0] as i64;
+    let z = i64::from(size[0]);
     set_constant(f, z);
     for j in 0..m {
-        let k = size[j + 1] as i64;
-        if add_scaled(f, k, &forms[j]) {} else {
-            return false;
-        }
+        let k = i64::from(size[j + 1]);
+        add_scaled(f, k, &forms[j])?;
     }
-    true
+    Ok(())
 }

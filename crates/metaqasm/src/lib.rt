@@ -16,7 +16,6 @@ ghost use Rattle.metaqasm.specs.TextAnswers.{text_answered, SoundRunText, SoundI
 
 use check_program::Outcome;
 use limits::RECORD_SIZE;
-use qasm_length::TextLength;
 use records::{State, Stop};
 
 // The answer of a call: number (0 for done), place, records and steps.
@@ -172,8 +171,8 @@ fn printed(
 {
     let records = run.records as usize;
     match qasm_print::print(output, records, wires as u16, bits as u16, text) {
-        TextLength::TooLong => unprinted(30, 0, run),
-        TextLength::Fits(n) => MetaqasmTextResult {
+        None => unprinted(30, 0, run),
+        Some(n) => MetaqasmTextResult {
             number: 0,
             place: 0,
             records: run.records,

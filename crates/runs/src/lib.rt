@@ -19,7 +19,6 @@ ghost use Rattle.runs.specs.Whole.{total_of, more_locations, register_from, size
 ghost use Rattle.runs.specs.TopFields.{globals_in, top_mode, under_mode, if_at, WholeField, IfReady, ActReady};
 ghost use Rattle.runs.specs.Conclusions.{concluded};
 
-use fields::{Header, NoHeader};
 use gates::{LEVELS, Mode};
 use indexes::VALUES;
 use kinds::Kind;
@@ -170,10 +169,8 @@ fn conditional(
     let Ok(header) = fields::header_at(program, first, to) else {
         return Err(Stop::Stuck);
     };
-    let b = match operands::bit_at(program, first, to, &vars, 0, scope, regs) {
-        Ok(b) => b,
-        Err(fault) => return Err(gates::stop(fault, at, st)),
-    };
+    let b = operands::bit_at(program, first, to, &vars, 0, scope, regs)
+        .map_err(|fault| gates::stop(fault, at, st))?;
     let mode = under_mode(limit, seen, condition(program[from], b));
     once(
         program, header.next, to, &mut vars, scope, regs, table, mode, st, out,
@@ -274,23 +271,22 @@ fn top_fields(
         written: 0,
         steps: 0,
     };
-    loop {
-        match fields::header_at(program, at, to) {
-            Err(NoHeader::End) => return Ok(s),
-            Err(NoHeader::Cut) => return Err(Stop::Stuck),
-            Ok(Header { tag, next }) => {
-                let from = at + 3;
-                let content = &program[from..next];
-                if is_declaring(tag) {
-                    t = declare(content, tag, t, regs);
-                    at = next;
-                    continue;
-                }
-                s = act_top(program, at, next, tag, t, regs, table, limit, s, out)?;
-                at = next;
-            }
+    while at < to {
+        let Ok(header) = fields::header_at(program, at, to) else {
+            return Err(Stop::Stuck);
+        };
+        let next = header.next;
+        let content = &program[at + 3..next];
+        if is_declaring(header.tag) {
+            t = declare(content, header.tag, t, regs);
+        } else {
+            s = act_top(
+                program, at, next, header.tag, t, regs, table, limit, s, out,
+            )?;
         }
+        at = next;
     }
+    Ok(s)
 }
 
 // Runs an accepted program.

@@ -202,10 +202,8 @@ fn run_rounds(
     let past = base + e.from;
     let here = past - 3;
     let many = usize::from(own.variables);
-    let repeats = match gates::repeats_of(bytes, e.from, to, e.tag, vars, many, own.reversed) {
-        Ok(repeats) => repeats,
-        Err(fault) => return Err(gates::stop(fault, here, s)),
-    };
+    let repeats = gates::repeats_of(bytes, e.from, to, e.tag, vars, many, own.reversed)
+        .map_err(|fault| gates::stop(fault, here, s))?;
     let n = gates::inner(own, e.tag);
     run_list(
         bytes,
@@ -319,12 +317,10 @@ fn run_call(
     let many = usize::from(mode.variables);
     let mut sizes = [0i32; VALUES];
     let mut given = [0u16; OPERAND_NUMBERS];
-    let taken = match calls::arguments(
+    let taken = calls::arguments(
         bytes, called.next, to, program, at, vars, many, scope, regs, &mut sizes, &mut given,
-    ) {
-        Ok(taken) => taken,
-        Err(fault) => return Err(gates::stop(fault, place, st)),
-    };
+    )
+    .map_err(|fault| gates::stop(fault, place, st))?;
     let body = calls::body_of(program, at, taken.start);
     let size = body.len();
     let inner = gates::entered(mode, number, program[at + 3]);
