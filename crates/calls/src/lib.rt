@@ -202,7 +202,13 @@ fn takes(tag: u8, kind: Kind) -> bool
 }
 
 // Where the fields after the n types from `from` on begin, if those take the first n operands gathered.
-fn types_take(bytes: &[u8], from: usize, to: usize, n: usize, given: &[u16; OPERAND_NUMBERS]) -> Option<usize>
+fn types_take(
+    bytes: &[u8],
+    from: usize,
+    to: usize,
+    n: usize,
+    given: &[u16; OPERAND_NUMBERS],
+) -> Option<usize>
     requires from_le_to { (from ≤ to) × (to ≤ length bytes.now) }
     requires n_le_most_parameters { n ≤ most_parameters }
     ensures { TypesTake bytes.now from to n given.now result }

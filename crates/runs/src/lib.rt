@@ -169,11 +169,21 @@ fn conditional(
     let Ok(header) = fields::header_at(program, first, to) else {
         return Err(Stop::Stuck);
     };
-    let b = operands::bit_at(program, first, to, &vars, 0, scope, regs)
-        .map_err(|fault| gates::stop(fault, at, st))?;
+    let b = operands::bit_at(program, first, to, &vars, 0, scope, regs).map_err(|fault| gates::stop(
+        fault, at, st,
+    ))?;
     let mode = under_mode(limit, seen, condition(program[from], b));
     once(
-        program, header.next, to, &mut vars, scope, regs, table, mode, st, out,
+        program,
+        header.next,
+        to,
+        &mut vars,
+        scope,
+        regs,
+        table,
+        mode,
+        st,
+        out,
     )
 }
 
@@ -280,9 +290,7 @@ fn top_fields(
         if is_declaring(header.tag) {
             t = declare(content, header.tag, t, regs);
         } else {
-            s = act_top(
-                program, at, next, header.tag, t, regs, table, limit, s, out,
-            )?;
+            s = act_top(program, at, next, header.tag, t, regs, table, limit, s, out)?;
         }
         at = next;
     }
@@ -370,7 +378,13 @@ fn sized(
 }
 
 // An instance of a family of an accepted program.
-pub fn instance(program: &[u8], family: usize, sizes: &[u8], limit: u64, out: &mut [u8]) -> Result<State, Stop>
+pub fn instance(
+    program: &[u8],
+    family: usize,
+    sizes: &[u8],
+    limit: u64,
+    out: &mut [u8],
+) -> Result<State, Stop>
     requires { Acceptable program.now }
     ensures { concluded out.new result ≡ instance_of (get_elem? (all_declared limit (length out.old) (read program.now) []) family) sizes.now out.old }
 {

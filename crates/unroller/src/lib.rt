@@ -202,8 +202,9 @@ fn run_rounds(
     let past = base + e.from;
     let here = past - 3;
     let many = usize::from(own.variables);
-    let repeats = gates::repeats_of(bytes, e.from, to, e.tag, vars, many, own.reversed)
-        .map_err(|fault| gates::stop(fault, here, s))?;
+    let repeats = gates::repeats_of(bytes, e.from, to, e.tag, vars, many, own.reversed).map_err(
+        |fault| gates::stop(fault, here, s),
+    )?;
     let n = gates::inner(own, e.tag);
     run_list(
         bytes,
@@ -318,7 +319,17 @@ fn run_call(
     let mut sizes = [0i32; VALUES];
     let mut given = [0u16; OPERAND_NUMBERS];
     let taken = calls::arguments(
-        bytes, called.next, to, program, at, vars, many, scope, regs, &mut sizes, &mut given,
+        bytes,
+        called.next,
+        to,
+        program,
+        at,
+        vars,
+        many,
+        scope,
+        regs,
+        &mut sizes,
+        &mut given,
     )
     .map_err(|fault| gates::stop(fault, place, st))?;
     let body = calls::body_of(program, at, taken.start);
