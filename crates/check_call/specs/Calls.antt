@@ -1,5 +1,5 @@
 -- The table of families, the forms of a call, and its operands.
-use Rattle.std.specs.Prelude.{List, [], ℕ, ◌+◌, ◌≤◌, ◌<◌, ℤ, length, get_or}
+use Rattle.std.specs.Prelude.{List, [], ℕ, ◌+◌, ◌≤◌, ◌<◌, ℤ, length, get_or, Result, Ok, Err}
 use Rattle.std.proofs.Math.Option.{Option, none, some}
 use Rattle.language.specs.Limits.{most_families, most_variables, most_loops}
 use Rattle.language.specs.Tree.{Operand}
@@ -10,8 +10,8 @@ use Rattle.forms.specs.Rows.{Rows, ShortRows, forms_of}
 use Rattle.kinds.specs.declared.Kind.TheVariants.{Qubit, Quantum, Classical, Family}
 use Rattle.check_operand.specs.Tables.{Formals, Known, kind_of_row, size_of_row, tabulated, kinds_at, scope_at}
 use Rattle.check_operand.specs.declared.Visible.{Visible}
-use Rattle.check_index.specs.declared.Read.{Read}
-use Rattle.check_index.specs.declared.Read.TheVariants.{Upto, Refused}
+use Rattle.refusals.specs.Reasons.{number_of}
+use Rattle.refusals.specs.declared.Refusal.{Refusal}
 use Rattle.kinds.specs.declared.Kind as K
 use Rattle.language.specs.Check as C
 
@@ -23,9 +23,9 @@ pub record LoopsRight (s : Visible) (lows highs : List (List ℤ)) : Type 0 wher
   pub high_rows : Rows highs most_loops
 
 -- what the answer on a call's m indexes, with the forms beside it, stands for
-unfoldable pub checked_forms : Read → ℕ → List (List ℤ) → Checked (List Form)
-checked_forms (Upto n) m l = good (forms_of m l)
-checked_forms (Refused n p) m l = refused n p
+unfoldable pub checked_forms : Result ℕ Refusal → ℕ → List (List ℤ) → Checked (List Form)
+checked_forms (Ok n) m l = good (forms_of m l)
+checked_forms (Err e) m l = refused (number_of e.0) e.1
 
 -- the size of a parameter of a kind and an own size, if it is a Qbit[I]
 unfoldable pub plain_in : K.Kind → Form → Option Form
