@@ -5,8 +5,8 @@ use Rattle.language.specs.Check.{Checked, good, refused, Kind, qubit, quantum}
 use Rattle.forms.specs.Flat.{Kept, as_form}
 use Rattle.forms.specs.Rows.{ShortRows}
 use Rattle.check_index.specs.Answers.{PastField}
-use Rattle.check_declaration.specs.declared.TypeRead.{TypeRead}
-use Rattle.check_declaration.specs.declared.TypeRead.TheVariants.{Single, Many, Bad}
+use Rattle.check_declaration.specs.declared.PlainType.{PlainType}
+use Rattle.check_declaration.specs.declared.PlainType.TheVariants.{Single, Many}
 use Rattle.refusals.specs.Reasons.{number_of}
 use Rattle.refusals.specs.declared.Refusal.{Refusal}
 use Rattle.kinds.specs.Numbers.{number_of}
@@ -37,15 +37,15 @@ checked_sized_type (Ok n) l = good (quantum (as_form l))
 checked_sized_type (Err e) l = refused (number_of e.0) e.1
 
 -- what the answer on a plain type, with the form beside it, stands for
-unfoldable pub checked_type : TypeRead → List ℤ → Checked Kind
-checked_type (Single n) l = good qubit
-checked_type (Many n) l = good (quantum (as_form l))
-checked_type (Bad n p) l = refused (number_of e.0) e.1
+unfoldable pub checked_type : Result PlainType Refusal → List ℤ → Checked Kind
+checked_type (Ok (Single n)) l = good qubit
+checked_type (Ok (Many n)) l = good (quantum (as_form l))
+checked_type (Err e) l = refused (number_of e.0) e.1
 
-abbrev pub TypePasses : List ℕ → ℕ → ℕ → TypeRead → List ℤ → Type 0
-TypePasses program at to (Single n) l = PastField program at to n
-TypePasses program at to (Many n) l = PastField program at to n × Kept l × (at + 7 ≤ n)
-TypePasses program at to (Bad n p) l = Unit {0}
+abbrev pub TypePasses : List ℕ → ℕ → ℕ → Result PlainType Refusal → List ℤ → Type 0
+TypePasses program at to (Ok (Single n)) l = PastField program at to n
+TypePasses program at to (Ok (Many n)) l = PastField program at to n × Kept l × (at + 7 ≤ n)
+TypePasses program at to (Err e) l = Unit {0}
 
 -- tables for what so many bytes can declare: in the lower half a row for each register and for each type, which takes 3 bytes at least, and one for each size
 pub record OperandTable (bytes : ℕ) (kinds : List ℕ) (sizes : List (List ℤ)) : Type 0 where
