@@ -145,14 +145,15 @@ fn repeated(
     let mut highs = *full.scope.highs;
     highs[n] = high;
     let loops = n + 1;
+    let scope = Scope {
+        visible: Visible { loops, ..visible },
+        kinds: full.scope.kinds,
+        sizes: full.scope.sizes,
+        lows: &lows,
+        highs: &highs,
+    };
     let inner = FullScope {
-        scope: Scope {
-            visible: Visible { loops, ..visible },
-            kinds: full.scope.kinds,
-            sizes: full.scope.sizes,
-            lows: &lows,
-            highs: &highs,
-        },
+        scope,
         families: full.families,
     };
     list(program, from, next, levels, &inner)
