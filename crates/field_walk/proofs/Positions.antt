@@ -4,8 +4,6 @@ use mathlib.Core.List.{List, [], ◌∷◌, ◌++◌}
 use mathlib.Core.Bool.{Bool, true, false}
 use Prim.Native.Nat.{ℕ, zero, suc, ◌+◌, ◌-◌, ◌≤◌, ◌<◌}
 use native.Mathlib.Omega.{arith}
-use types.Run.{OneOf}
-use denote.Enum.Declared.{tag_of}
 use borrow.Author.Tests.{leb-true, le-leb}
 use lib.ListN.{length, get_or, set, take, drop, length-take, length-drop, length-append, take-append-drop}
 use lib.Seq.{slice, take-length, take-take, drop-drop, slice_empty, length-slice, get_or-set_same, get_or-set_other}
@@ -15,16 +13,17 @@ use Rattle.language.proofs.Integers.{clash}
 use Rattle.language.proofs.Runs.{Skips}
 use Rattle.language.proofs.Runs as R
 use Rattle.fields.specs.declared.Header.{Header}
-use Rattle.fields.specs.declared.Header.TheVariants.{Whole}
+use Rattle.fields.specs.declared.NoHeader.{NoHeader}
+use Rattle.fields.specs.declared.NoHeader.TheVariants.{End, Cut}
 use Rattle.fields.specs.Header.{fields_at, header_of}
 use Rattle.fields.specs.Count.{Counted, Many, Broken, more, counted, span}
-use Rattle.fields.specs.contracts.Header.{the_type}
 use Rattle.fields.proofs.Parts as P
-use Rattle.fields.proofs.Parts.{look, when_part, part_is, not_first, stands}
+use Rattle.fields.proofs.Parts.{look, when_part, part_is, next_found, stands}
 use Rattle.fields.proofs.Counts.{plus, plus_none, skips, span_all}
 use Rattle.fields.proofs.Headers.{slice_none}
-use Rattle.field_walk.specs.declared.Begun.TheVariants as B
-use Rattle.field_walk.specs.Walks.{most_kept, is_broken, broken_in, Unbroken, FieldBegins, FieldEnds, PositionsKept, Linked, Lasts, Walking, Starting, whole_of}
+use Rattle.field_walk.specs.declared.Held.{Held}
+use Rattle.std.specs.Prelude.{Option, Some, None, Result, Ok, Err}
+use Rattle.field_walk.specs.Walks.{most_kept, is_broken, broken_in, Unbroken, FieldBegins, FieldEnds, PositionsKept, Linked, LastKept, Lasts, Walking, Starting, whole_of}
 
 -- ---- whole fields at the beginning of a list
 
@@ -94,7 +93,7 @@ header_in : (bytes : List ℕ) (at to : ℕ) → look (take to bytes) at ≡ hea
 unfolding fields_at
 header_in bytes at to = ap (λ (x : List ℕ). header_of at (fields at (drop at x))) (take-length (take to bytes))
 
-pub when_in : (bytes : List ℕ) (at to tag next : ℕ) → header_of at (fields_at bytes at to) ≡ Whole tag next → In bytes at to tag next
+pub when_in : (bytes : List ℕ) (at to tag next : ℕ) → header_of at (fields_at bytes at to) ≡ Ok (record { tag = tag; next = next }) → In bytes at to tag next
 when_in bytes at to tag next e =
     let w = when_part (take to bytes) at tag next (header_in bytes at to ∙ e) in
     let h : next ≤ to = omega (arith, w.high, length-take to bytes) in
@@ -107,13 +106,13 @@ when_in bytes at to tag next e =
       high = h;
     }
 
-pub cut_in : (bytes : List ℕ) (at to : ℕ) → at < to → to ≤ length bytes → OneOf (1 ∷ 2 ∷ []) (tag_of the_type (header_of at (fields_at bytes at to))) → (t : ℕ) → fields t (slice at to bytes) ≡ (bad_header t ∷ [])
-cut_in bytes at to h w k = go (look (take to bytes) at) (rw (sym (header_in bytes at to)) at k) (stands (take to bytes) at)
+pub cut_in : (bytes : List ℕ) (at to : ℕ) → at < to → to ≤ length bytes → ((h : Header) → header_of at (fields_at bytes at to) ≡ Ok h → ⊥) → (t : ℕ) → fields t (slice at to bytes) ≡ (bad_header t ∷ [])
+cut_in bytes at to h w k = go (look (take to bytes) at) (sym (header_in bytes at to)) (stands (take to bytes) at)
   where
-    go : (x : Header) → OneOf (1 ∷ 2 ∷ []) (tag_of the_type x) → P.HeaderIs (take to bytes) at x → (t : ℕ) → fields t (slice at to bytes) ≡ (bad_header t ∷ [])
-    go x k (P.ends g i) = absurd (omega (arith, length-take to bytes))
-    go x k (P.cuts g) = g
-    go x k (P.goes w) = absurd (not_first k)
+    go : (x : Result Header NoHeader) → header_of at (fields_at bytes at to) ≡ x → P.HeaderIs (take to bytes) at x → (t : ℕ) → fields t (slice at to bytes) ≡ (bad_header t ∷ [])
+    go x e (P.ends g i) = absurd (omega (arith, length-take to bytes))
+    go x e (P.cuts g) = g
+    go x e (P.goes {tag = tag} {next = next} v) = absurd (k (record { tag = tag; next = next }) e)
 
 -- ---- positions
 
@@ -144,7 +143,7 @@ begins_next bytes from at to tag next b i w = (
   broken_past bytes from at next b (omega (arith, i.low)) (omega (arith, i.high)) ∙ ap (λ (fs : List Field). is_broken (counted fs)) (i.alone (0 + (at - from))),
 )
 
-pub stops_broken : (bytes : List ℕ) (from at to : ℕ) → FieldBegins bytes from at → at < to → to ≤ length bytes → OneOf (1 ∷ 2 ∷ []) (tag_of the_type (header_of at (fields_at bytes at to)))
+pub stops_broken : (bytes : List ℕ) (from at to : ℕ) → FieldBegins bytes from at → at < to → to ≤ length bytes → ((h : Header) → header_of at (fields_at bytes at to) ≡ Ok h → ⊥)
     → is_broken (counted (fields 0 (slice from to bytes))) ≡ true
 unfolding is_broken counted
 stops_broken bytes from at to b h w k = broken_past bytes from at to b (omega arith) w ∙ ap (λ (fs : List Field). is_broken (counted fs)) (cut_in bytes at to h w k (0 + (at - from)))
@@ -205,14 +204,15 @@ module _ (bytes : List ℕ) (from : ℕ) where
 -- ---- positions of all fields
 
 -- a field ends where it does, however far its header is read
-pub ends_there : (bytes : List ℕ) (at to tag next : ℕ) → header_of at (fields_at bytes at to) ≡ Whole tag next → FieldEnds bytes at next
+pub ends_there : (bytes : List ℕ) (at to tag next : ℕ) → header_of at (fields_at bytes at to) ≡ Ok (record { tag = tag; next = next }) → FieldEnds bytes at next
 unfolding fields_at header_of
 ends_there bytes at to tag next e =
     let i = when_in bytes at to tag next e in
     let n : length (take (next - (at + 3)) (drop (at + 3) bytes)) ≡ next - (at + 3) = size bytes at to tag next e in
-    record { tag = tag; is = ap (header_of at) (i.alone at) ∙ ap (Whole tag) {x = at + 3 + length (take (next - (at + 3)) (drop (at + 3) bytes))} {y = next} (omega (arith, n, i.low)) }
+    let whole : ℕ → Result Header NoHeader = λ n. Ok (record { tag = tag; next = n }) in
+    record { tag = tag; is = ap (header_of at) (i.alone at) ∙ ap whole {x = at + 3 + length (take (next - (at + 3)) (drop (at + 3) bytes))} {y = next} (omega (arith, n, i.low)) }
   where
-    size : (bytes : List ℕ) (at to tag next : ℕ) → header_of at (fields_at bytes at to) ≡ Whole tag next → length (take (next - (at + 3)) (drop (at + 3) bytes)) ≡ next - (at + 3)
+    size : (bytes : List ℕ) (at to tag next : ℕ) → header_of at (fields_at bytes at to) ≡ Ok (record { tag = tag; next = next }) → length (take (next - (at + 3)) (drop (at + 3) bytes)) ≡ next - (at + 3)
     size bytes at to tag next e =
         let w = when_part (take to bytes) at tag next (header_in bytes at to ∙ e) in
         simp (length-take, length-drop) (omega (arith, w.high, length-take to bytes))
@@ -250,23 +250,18 @@ module _ (bytes : List ℕ) where
 -- ---- a walk
 
 module _ (bytes : List ℕ) (from to : ℕ) (cuts : List ℕ) (w : to ≤ length bytes) where
-  pub begin_forward : (reversed : Bool) (d u : ℕ) → reversed ≡ false → Starting bytes from to reversed cuts (B.With d u)
+  pub begin_forward : (reversed : Bool) (h : Held) → reversed ≡ false → Starting bytes from to reversed cuts (Some h)
   unfolding Starting Walking whole_of
-  begin_forward reversed d u e = rw e (record { within = w })
+  begin_forward reversed h e = rw e (record { within = w })
 
-  pub begin_empty : (reversed : Bool) → reversed ≡ true → from ≤ to → to ≤ from → Starting bytes from to reversed cuts (B.With 0 0)
+  pub begin_empty : (reversed : Bool) → reversed ≡ true → from ≤ to → to ≤ from → Starting bytes from to reversed cuts (Some (record { depth = 0; sure = 0 }))
   unfolding Starting Walking whole_of PositionsKept Linked is_broken counted fields_after
   begin_empty reversed e h k = let s : to ≡ from = omega arith in rw e (record { within = w; end = rw (slice_none from to bytes k); few = omega arith; kept = s; linked = tt })
 
-  pub begin_broken : (reversed : Bool) (d u : ℕ) → reversed ≡ true → Lasts bytes from to cuts d u → d ≡ 0 → Starting bytes from to reversed cuts B.Broken
-  unfolding Starting broken_in Lasts
-  begin_broken reversed zero u e l z = rw e l
-  begin_broken reversed (suc d) u e l z = absurd (omega arith)
-
-  pub begin_found : (reversed : Bool) (d u : ℕ) → reversed ≡ true → Lasts bytes from to cuts d u → (d ≡ 0 → ⊥) → Starting bytes from to reversed cuts (B.With d u)
-  unfolding Starting Walking whole_of Lasts
-  begin_found reversed zero u e l z = absurd (z refl)
-  begin_found reversed (suc d) u e l z = rw e (record { within = w; end = l.1; few = l.0; kept = l.3; linked = l.4 })
+  pub begin_last : (reversed : Bool) (r : Option Held) → reversed ≡ true → Lasts bytes from to cuts r → Starting bytes from to reversed cuts r
+  unfolding Starting broken_in Walking whole_of Lasts
+  begin_last reversed None e l = rw e l
+  begin_last reversed (Some h) e l = rw e (record { within = w; end = l.end; few = l.few; kept = l.kept; linked = l.linked })
 
   pub record Found (r u : ℕ) : Type 0 where
     pub some : 1 ≤ r
@@ -274,7 +269,14 @@ module _ (bytes : List ℕ) (from to : ℕ) (cuts : List ℕ) (w : to ≤ length
     pub top : Top bytes from cuts r to
     pub linking : Linking bytes cuts u r to
 
-  pub lasts_found : (r u : ℕ) → Unbroken (slice from to bytes) → Lasts bytes from to cuts r u → Found r u
+  pub kept_found : (d u : ℕ) → LastKept bytes from to cuts d u → Found d u
+  kept_found d u l = record { some = omega (arith, l.some); few = l.few; top = top_is bytes from cuts d to (omega (arith, l.some)) l.kept; linking = linked_top bytes cuts u d to l.some l.linked }
+
+  pub lasts_found : (h : Held) → Lasts bytes from to cuts (Some h) → Found h.depth h.sure
   unfolding Lasts
-  lasts_found zero u b l = absurd (clash (sym l ∙ b))
-  lasts_found (suc d) u b l = record { some = omega arith; few = l.0; top = top_is bytes from cuts (suc d) to (omega arith) l.3; linking = linked_top bytes cuts u (suc d) to (omega (arith, l.2)) l.4 }
+  lasts_found h l = kept_found h.depth h.sure l
+
+  -- whole fields have a last one
+  pub lasts_some : Unbroken (slice from to bytes) → Lasts bytes from to cuts None → ⊥
+  unfolding Lasts
+  lasts_some b l = clash (sym l ∙ b)

@@ -4,33 +4,27 @@ use mathlib.Core.List.{List, [], ◌∷◌}
 use mathlib.Core.Bool.{Bool, true, false}
 use Prim.Native.Nat.{ℕ, zero, suc, ◌+◌, ◌-◌, ◌≤◌, ◌<◌}
 use native.Mathlib.Omega.{arith}
-use types.Run.{OneOf}
-use denote.Enum.Declared.{tag_of}
 use lib.ListN.{length, length-set, get_or, set}
 use lib.Seq.{get_or-set_same}
 use Rattle.language.proofs.Integers.{clash}
-use Rattle.fields.specs.declared.Header.TheVariants.{Whole}
+use Rattle.std.specs.Prelude.{None, Ok}
+use Rattle.fields.specs.declared.Header.{Header}
 use Rattle.fields.specs.Header.{fields_at, header_of}
-use Rattle.fields.specs.contracts.Header.{the_type}
-use Rattle.field_walk.specs.Walks.{most_kept, FieldBegins, FieldEnds, PositionsKept, Linked, Lasts, Searching}
+use Rattle.field_walk.specs.Walks.{most_kept, FieldBegins, FieldEnds, PositionsKept, Linked, LastKept, Lasts, Searching}
 use Rattle.field_walk.proofs.Positions.{when_in, begins_next, stops_broken, kept_set, kept_up, kept_push, kept_swap, kept_below, kept_some, top_is, ends_there, linked_none, linked_set, linked_more}
 
 -- ---- the search ends at the last field
 
 module _ (bytes : List ℕ) (from to : ℕ) (w : to ≤ length bytes) where
-  lasts_some : (cuts : List ℕ) (d sure at : ℕ) → 1 ≤ d → d ≤ most_kept → sure < d → FieldBegins bytes from at → FieldEnds bytes at to → PositionsKept bytes from cuts d to → Linked bytes cuts sure d to
-      → Lasts bytes from to cuts d sure
-  unfolding Lasts
-  lasts_some cuts zero sure at s f u b x k l = absurd (omega arith)
-  lasts_some cuts (suc d) sure at s f u b x k l =
-      let y : FieldBegins bytes from to = begins_next bytes from at to x.tag to b (when_in bytes at to x.tag to x.is) w in
-      (f, y.1, omega arith, k, l)
+  lasts_some : (cuts : List ℕ) (d sure at : ℕ) → d ≤ most_kept → sure < d → FieldBegins bytes from at → FieldEnds bytes at to → PositionsKept bytes from cuts d to → Linked bytes cuts sure d to
+      → LastKept bytes from to cuts d sure
+  lasts_some cuts d sure at f u b x k l = record { few = f; end = (begins_next bytes from at to x.tag to b (when_in bytes at to x.tag to x.is) w).1; some = u; kept = k; linked = l }
 
   -- where only the last one is sure
-  lasts_one : (cuts : List ℕ) (d sure at : ℕ) → d ≡ sure + 1 → d ≤ most_kept → get_or cuts sure 0 ≡ at → FieldBegins bytes from at → FieldEnds bytes at to → PositionsKept bytes from cuts d to → Lasts bytes from to cuts d sure
+  lasts_one : (cuts : List ℕ) (d sure at : ℕ) → d ≡ sure + 1 → d ≤ most_kept → get_or cuts sure 0 ≡ at → FieldBegins bytes from at → FieldEnds bytes at to → PositionsKept bytes from cuts d to → LastKept bytes from to cuts d sure
   lasts_one cuts d sure at s f e b x k =
       let z : d - 1 ≡ sure = omega arith in
-      lasts_some cuts d sure at (omega arith) f (omega arith) b x k (linked_more bytes cuts sure d at to (omega arith) (rw z e) x (rw z (linked_none bytes cuts sure sure at (omega arith))))
+      lasts_some cuts d sure at f (omega arith) b x k (linked_more bytes cuts sure d at to (omega arith) (rw z e) x (rw z (linked_none bytes cuts sure sure at (omega arith))))
 
   module _ (cuts : List ℕ) (at d first : ℕ) (all : Bool) (f : d ≤ most_kept) (s : Searching bytes from cuts at d first all) (x : FieldEnds bytes at to) where
     before_end : at < to
@@ -40,29 +34,29 @@ module _ (bytes : List ℕ) (from to : ℕ) (w : to ≤ length bytes) where
     kept_to = kept_up bytes from cuts d (suc at) to (omega (arith, s.some)) before_end s.kept
 
     -- all positions are kept
-    pub last_of_all : all ≡ true → Lasts bytes from to cuts d first
-    last_of_all e = let one : 1 ≤ d = omega (arith, s.some) in lasts_some cuts d first at one f s.some s.begins x kept_to (linked_more bytes cuts first d at to one (s.top e) x (s.linked e))
+    pub last_of_all : all ≡ true → LastKept bytes from to cuts d first
+    last_of_all e = let one : 1 ≤ d = omega (arith, s.some) in lasts_some cuts d first at f s.some s.begins x kept_to (linked_more bytes cuts first d at to one (s.top e) x (s.linked e))
 
     -- its position is kept already
-    pub last_already : get_or cuts (d - 1) 0 ≡ at → Lasts bytes from to cuts d (d - 1)
+    pub last_already : get_or cuts (d - 1) 0 ≡ at → LastKept bytes from to cuts d (d - 1)
     last_already e = lasts_one cuts d (d - 1) at (omega (arith, s.some)) f e s.begins x kept_to
 
     -- its position is kept above the others
-    pub last_above : d < most_kept → length cuts ≡ most_kept → (get_or cuts (d - 1) 0 ≡ at → ⊥) → Lasts bytes from to (set cuts d at) (d + 1) d
+    pub last_above : d < most_kept → length cuts ≡ most_kept → (get_or cuts (d - 1) 0 ≡ at → ⊥) → LastKept bytes from to (set cuts d at) (d + 1) d
     last_above h l n =
         let k = kept_below bytes from cuts d at (omega (arith, s.some)) n s.kept in
         let m : d < length cuts = omega (arith, h, l) in
         lasts_one (set cuts d at) (d + 1) d at refl (omega arith) (get_or-set_same cuts d at 0 m) s.begins x (kept_push bytes from cuts d at to m s.begins before_end k)
 
     -- its position is kept in place of another
-    pub last_instead : most_kept ≤ d → length cuts ≡ most_kept → Lasts bytes from to (set cuts (d - 1) at) d (d - 1)
+    pub last_instead : most_kept ≤ d → length cuts ≡ most_kept → LastKept bytes from to (set cuts (d - 1) at) d (d - 1)
     last_instead h l =
         let m : d ≤ length cuts = omega (arith, f, l) in
         let two : 1 < d = omega (arith, h) in
         lasts_one (set cuts (d - 1) at) d (d - 1) at (omega arith) f (get_or-set_same cuts (d - 1) at 0 (omega arith)) s.begins x (kept_swap bytes from cuts d at to two m s.begins before_end s.kept)
 
 -- a field that ends where the list does
-pub ends_last : {bytes : List ℕ} {at to tag next : ℕ} → header_of at (fields_at bytes at to) ≡ Whole tag next → next ≡ to → FieldEnds bytes at to
+pub ends_last : {bytes : List ℕ} {at to tag next : ℕ} → header_of at (fields_at bytes at to) ≡ Ok (record { tag = tag; next = next }) → next ≡ to → FieldEnds bytes at to
 ends_last {bytes = bytes} {at = at} {to = to} {tag = tag} {next = next} e n = rw n at (ends_there bytes at to tag next e)
 
 -- ---- the search goes on
@@ -91,11 +85,11 @@ search_begins bytes from to cuts depth h f l k =
 
 module _ {bytes : List ℕ} {from to : ℕ} {cuts : List ℕ} {at d depth : ℕ} {all : Bool} (s : Search bytes from to cuts at d depth all) (w : to ≤ length bytes) where
   -- a header is bad
-  pub search_stops : OneOf (1 ∷ 2 ∷ []) (tag_of the_type (header_of at (fields_at bytes at to))) → Lasts bytes from to cuts 0 0
+  pub search_stops : ((h : Header) → header_of at (fields_at bytes at to) ≡ Ok h → ⊥) → Lasts bytes from to cuts None
   unfolding Lasts
   search_stops k = stops_broken bytes from at to s.searching.begins s.below w k
 
-  module _ {tag next : ℕ} (e : header_of at (fields_at bytes at to) ≡ Whole tag next) (n : next ≡ to → ⊥) where
+  module _ {tag next : ℕ} (e : header_of at (fields_at bytes at to) ≡ Ok (record { tag = tag; next = next })) (n : next ≡ to → ⊥) where
     past : at < next
     past = omega (arith, (when_in bytes at to tag next e).low)
 

@@ -1,13 +1,11 @@
 -- A walk over the fields of a list, the bytes from `from` to `to` of p, forward or backward.
-use Rattle.std.specs.Prelude.{◌≡◌, List, Bool, true, false, ◌&&◌, ℕ, zero, suc, ◌-◌, ◌≤◌, ◌<◌, length, get_or}
+use Rattle.std.specs.Prelude.{◌≡◌, List, Bool, true, false, ◌&&◌, ℕ, zero, suc, ◌-◌, ◌≤◌, ◌<◌, length, get_or, Option, Some, None, Ok}
 use Rattle.std.proofs.Math.Seq.{slice}
 use Rattle.language.specs.Read.{fields}
-use Rattle.fields.specs.declared.Header.TheVariants.{Whole}
 use Rattle.fields.specs.Header.{fields_at, header_of}
 use Rattle.fields.specs.Count.{Counted, Many, Broken, counted}
 use Rattle.field_walk.specs.declared.Walk.{Walk}
-use Rattle.field_walk.specs.declared.Begun.{Begun}
-use Rattle.field_walk.specs.declared.Begun.TheVariants as B
+use Rattle.field_walk.specs.declared.Held.{Held}
 
 -- how many positions are kept at most
 abbrev pub most_kept : ℕ
@@ -32,7 +30,7 @@ FieldBegins bytes from n = (from ≤ n) × Unbroken (slice from n bytes)
 -- the field at `here` ends at `to`
 pub record FieldEnds (bytes : List ℕ) (here to : ℕ) : Type 0 where
   pub tag : ℕ
-  pub is : header_of here (fields_at bytes here to) ≡ Whole tag to
+  pub is : header_of here (fields_at bytes here to) ≡ Ok (record { tag = tag; next = to })
 
 -- the first `depth` positions are beginnings of fields, each below the next, the last below `to`; the first is `from`, and
 -- where none is kept nothing is left
@@ -45,10 +43,18 @@ unfoldable pub Linked : List ℕ → (cuts : List ℕ) → (sure depth to : ℕ)
 Linked bytes cuts sure zero to = Unit {0}
 Linked bytes cuts sure (suc d) to = (sure ≤ d → FieldEnds bytes (get_or cuts d 0) to) × Linked bytes cuts sure d (get_or cuts d 0)
 
--- what a search for the last field answers: no positions, as a header is bad, or some, the last field's above
-unfoldable pub Lasts : List ℕ → (from to : ℕ) → (cuts : List ℕ) → (depth sure : ℕ) → Type 0
-Lasts bytes from to cuts zero sure = is_broken (counted (fields 0 (slice from to bytes))) ≡ true
-Lasts bytes from to cuts (suc d) sure = (suc d ≤ most_kept) × Unbroken (slice from to bytes) × (sure ≤ d) × PositionsKept bytes from cuts (suc d) to × Linked bytes cuts sure (suc d) to
+-- some positions are kept, the last field's above
+pub record LastKept (bytes : List ℕ) (from to : ℕ) (cuts : List ℕ) (depth sure : ℕ) : Type 0 where
+  pub few : depth ≤ most_kept
+  pub end : Unbroken (slice from to bytes)
+  pub some : sure < depth
+  pub kept : PositionsKept bytes from cuts depth to
+  pub linked : Linked bytes cuts sure depth to
+
+-- what a search for the last field answers: no positions, as a header is bad, or some
+unfoldable pub Lasts : List ℕ → (from to : ℕ) → (cuts : List ℕ) → Option Held → Type 0
+Lasts bytes from to cuts None = is_broken (counted (fields 0 (slice from to bytes))) ≡ true
+Lasts bytes from to cuts (Some h) = LastKept bytes from to cuts h.depth h.sure
 
 -- a search is at the field at `at`, with d positions kept; where `all`, they are all fields' from the one numbered `first` on
 pub record Searching (bytes : List ℕ) (from : ℕ) (cuts : List ℕ) (at d first : ℕ) (all : Bool) : Type 0 where
@@ -61,7 +67,7 @@ pub record Searching (bytes : List ℕ) (from : ℕ) (cuts : List ℕ) (at d fir
 -- where the field that a search is at is the last one, these positions are its answer
 abbrev pub KeepsLast : (before : List ℕ) → (at d first : ℕ) → (all : Bool) → (cuts : List ℕ) → (depth sure : ℕ) → Type 0
 KeepsLast before at d first all cuts depth sure =
-    (bytes : List ℕ) (from to : ℕ) → to ≤ length bytes → Searching bytes from before at d first all → FieldEnds bytes at to → Lasts bytes from to cuts depth sure
+    (bytes : List ℕ) (from to : ℕ) → to ≤ length bytes → Searching bytes from before at d first all → FieldEnds bytes at to → LastKept bytes from to cuts depth sure
 
 -- what is left, walked forward, ends within the bytes
 pub record Forward (bytes : List ℕ) (w : Walk) : Type 0 where
@@ -112,6 +118,6 @@ unfoldable pub whole_of : (from to depth sure : ℕ) → Walk
 whole_of from to depth sure = record { at = from; to = to; here = from; depth = depth; sure = sure }
 
 -- a walk of the list from `from` to `to` begins
-unfoldable pub Starting : List ℕ → (from to : ℕ) → (reversed : Bool) → (cuts : List ℕ) → Begun → Type 0
-Starting bytes from to reversed cuts (B.With depth sure) = Walking bytes reversed (whole_of from to depth sure) cuts
-Starting bytes from to reversed cuts B.Broken = broken_in (slice from to bytes) reversed ≡ true
+unfoldable pub Starting : List ℕ → (from to : ℕ) → (reversed : Bool) → (cuts : List ℕ) → Option Held → Type 0
+Starting bytes from to reversed cuts (Some h) = Walking bytes reversed (whole_of from to h.depth h.sure) cuts
+Starting bytes from to reversed cuts None = broken_in (slice from to bytes) reversed ≡ true

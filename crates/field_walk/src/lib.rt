@@ -6,14 +6,12 @@ ghost use Rattle.std.specs.Prelude.{◌≡◌, true, false, ◌<◌, ◌≤◌, 
 ghost use Rattle.language.specs.Limits.{longest_program};
 ghost use Rattle.field_walk.specs.Walks.{most_kept, PositionsKept, Lasts, KeepsLast, Walking, Sought, Starting, passed_of, whole_of};
 
-use fields::Header;
-
 // How many positions are kept at most.
 pub const KEPT: usize = 24;
 
 // What is left of a list: the bytes from `at` to `to`. `here` is where the next field begins; `depth` positions are kept, and
 // from the one numbered `sure` on they are those of all fields.
-#[derive(Clone, Copy)]
+#[derive(Clone, Copy, Debug, PartialEq, Eq)]
 pub struct Walk {
     pub at: usize,
     pub to: usize,
@@ -22,24 +20,12 @@ pub struct Walk {
     pub sure: usize,
 }
 
-// A walk begins with so many positions kept, sure from this one on, or the list is to be walked backward and has a bad header.
-#[derive(Clone, Copy)]
-pub enum Begun {
-    With(usize, usize),
-    Broken,
-}
-
 // How many positions are kept, and from which on they are sure.
-#[derive(Clone, Copy)]
-struct Held {
-    depth: usize,
-    sure: usize,
+#[derive(Clone, Copy, Debug, PartialEq, Eq)]
+pub struct Held {
+    pub depth: usize,
+    pub sure: usize,
 }
-
-// An array tells how long it is.
-fn tell(cuts: [u16; KEPT])
-    ensures { length cuts ≡ most_kept }
-{}
 
 // From where on the next position after `at` is kept, when so many are and not all fit: a sixth of what is left further, later
 // a third; the last place is for the last field.
@@ -69,10 +55,7 @@ fn later(all: bool, at: usize, to: usize, depth: usize) -> usize
 fn skipped(all: bool, at: usize, due: usize) -> bool
     ensures { result ≡ true → all ≡ false }
 {
-    if all {
-        return false;
-    }
-    at < due
+    !all && at < due
 }
 
 // Keeps the last field's position unless it is kept already: above the others, or without room in place of the last of them.
@@ -86,9 +69,8 @@ fn keep_last(cuts: &mut [u16; KEPT], at: usize, d: usize, first: usize, all: boo
             sure: first,
         };
     }
-    tell(*cuts);
     let top = d - 1;
-    if fields::long(cuts[top]) == at {
+    if usize::from(cuts[top]) == at {
         return Held {
             depth: d,
             sure: top,
@@ -96,9 +78,8 @@ fn keep_last(cuts: &mut [u16; KEPT], at: usize, d: usize, first: usize, all: boo
     }
     if d < KEPT {
         cuts[d] = at as u16;
-        let more = d + 1;
         return Held {
-            depth: more,
+            depth: d + 1,
             sure: d,
         };
     }
@@ -111,22 +92,18 @@ fn keep_last(cuts: &mut [u16; KEPT], at: usize, d: usize, first: usize, all: boo
 
 // Finds the last field from the last kept position on. It is kept, and so are some on the way to it, or all. At a bad header
 // none is.
-fn last(bytes: &[u8], from: usize, to: usize, cuts: &mut [u16; KEPT], depth: usize) -> Held
+fn last(bytes: &[u8], from: usize, to: usize, cuts: &mut [u16; KEPT], depth: usize) -> Option<Held>
     requires { (to ≤ length bytes.now) × (to ≤ longest_program) × (from < to) × (depth ≤ most_kept) × PositionsKept bytes.now from cuts.old depth to }
-    ensures { Lasts bytes.now from to cuts.new result.depth result.sure }
+    ensures { Lasts bytes.now from to cuts.new result }
 {
-    tell(*cuts);
-    let first = depth - 1;
-    let mut at = fields::long(cuts[first]);
+    let mut at = usize::from(cuts[depth - 1]);
     let mut d = depth;
     let mut due: usize = 0;
     let mut all = true;
-    loop {
-        let Header::Whole(_, next) = fields::header_at(bytes, at, to) else {
-            return Held { depth: 0, sure: 0 };
-        };
+    while let Ok(header) = fields::header_at(bytes, at, to) {
+        let next = header.next;
         if next == to {
-            return keep_last(cuts, at, d, first, all);
+            return Some(keep_last(cuts, at, d, depth - 1, all));
         }
         at = next;
         if skipped(all, next, due) {
@@ -147,26 +124,19 @@ fn last(bytes: &[u8], from: usize, to: usize, cuts: &mut [u16; KEPT], depth: usi
         }
         due = to;
     }
+    None
 }
 
-// Begins a walk of the list from `from` to `to`.
-pub fn begin(bytes: &[u8], from: usize, to: usize, reversed: bool, cuts: &mut [u16; KEPT]) -> Begun
+// Begins a walk of the list from `from` to `to`, unless it is to be walked backward and has a bad header.
+pub fn begin(bytes: &[u8], from: usize, to: usize, reversed: bool, cuts: &mut [u16; KEPT]) -> Option<Held>
     requires { (from ≤ to) × (to ≤ length bytes.now) × (to ≤ longest_program) }
     ensures { Starting bytes.now from to reversed cuts.new result }
 {
-    if reversed {
-        if to <= from {
-            return Begun::With(0, 0);
-        }
-        tell(*cuts);
-        cuts[0] = from as u16;
-        let held = last(bytes, from, to, cuts, 1);
-        if held.depth == 0 {
-            return Begun::Broken;
-        }
-        return Begun::With(held.depth, held.sure);
+    if !reversed || to <= from {
+        return Some(Held { depth: 0, sure: 0 });
     }
-    Begun::With(0, 0)
+    cuts[0] = from as u16;
+    last(bytes, from, to, cuts, 1)
 }
 
 // All of a list, so many positions of which are kept.
@@ -187,39 +157,22 @@ pub fn seek(bytes: &[u8], w: Walk, reversed: bool, cuts: &mut [u16; KEPT]) -> Wa
     requires { Walking bytes.now reversed w cuts.old × (w.at < w.to) × (w.to ≤ longest_program) }
     ensures { Sought bytes.now reversed w result cuts.new }
 {
-    let at = w.at;
-    let to = w.to;
-    if reversed {
-        if w.sure < w.depth {
-            tell(*cuts);
-            let below = w.depth - 1;
-            let top = fields::long(cuts[below]);
-            return Walk {
-                at,
-                to,
-                here: top,
-                depth: below,
-                sure: w.sure,
-            };
-        }
-        let held = last(bytes, at, to, cuts, w.depth);
-        tell(*cuts);
-        let depth = held.depth - 1;
-        let here = fields::long(cuts[depth]);
-        return Walk {
-            at,
-            to,
-            here,
-            depth,
-            sure: held.sure,
-        };
+    if !reversed {
+        return Walk { here: w.at, ..w };
     }
-    Walk {
-        at,
-        to,
-        here: at,
+    let mut held = Held {
         depth: w.depth,
         sure: w.sure,
+    };
+    if w.depth <= w.sure {
+        held = last(bytes, w.at, w.to, cuts, w.depth).unwrap();
+    }
+    let depth = held.depth - 1;
+    Walk {
+        here: usize::from(cuts[depth]),
+        depth,
+        sure: held.sure,
+        ..w
     }
 }
 
@@ -227,21 +180,8 @@ pub fn seek(bytes: &[u8], w: Walk, reversed: bool, cuts: &mut [u16; KEPT]) -> Wa
 pub fn passed(w: Walk, reversed: bool, end: usize) -> Walk
     ensures { result ≡ passed_of w reversed end }
 {
-    let here = w.here;
     if reversed {
-        return Walk {
-            at: w.at,
-            to: here,
-            here,
-            depth: w.depth,
-            sure: w.sure,
-        };
+        return Walk { to: w.here, ..w };
     }
-    Walk {
-        at: end,
-        to: w.to,
-        here,
-        depth: w.depth,
-        sure: w.sure,
-    }
+    Walk { at: end, ..w }
 }

@@ -1,27 +1,26 @@
 -- What the statements that hold no statements do, and the numbers of a loop.
-use Rattle.std.specs.Prelude.{ℕ, ◌+◌, ◌-◌, ◌≤◌, ◌≡◌, List, Bool, true, false, cond, not, ◌&&◌, eqb, ℤ, pos, ◌+ℤ◌, ◌-ℤ◌, length}
+use Rattle.std.specs.Prelude.{ℕ, ◌+◌, ◌-◌, ◌≤◌, ◌≡◌, List, Bool, true, false, cond, not, ◌&&◌, eqb, ℤ, pos, ◌+ℤ◌, ◌-ℤ◌, length, Result, Ok, Err}
 use Rattle.language.specs.Limits.{deepest, furthest}
 use Rattle.language.specs.Tree.{Place, Gate, gate_h, gate_t, gate_tdg}
 use Rattle.language.specs.Read.{Field, fields, operand_due}
 use Rattle.language.specs.Machine.{Run, Frame, Direction, forward, backward, Action, written, ◌>>=◌, ◌>>◌, wire_of, apart, few_halvings, write, start_of, rounds_of, run_gate, run_cx}
 use Rattle.language.specs.Machine as machine
 use Rattle.indexes.specs.Bounds.{Bounded}
-use Rattle.indexes.specs.declared.Bounds.TheVariants.{Are, Over, Stuck}
+use Rattle.indexes.specs.declared.Fault.{Fault}
+use Rattle.indexes.specs.declared.Fault.TheVariants.{Over, Stuck as f_stuck}
 use Rattle.language.specs.Result.{op}
 use Rattle.fields.specs.declared.Named.{Named}
-use Rattle.fields.specs.declared.Named.TheVariants.{Number, Bad}
 use Rattle.fields.specs.CallNumber.{is_call_tag, named_in}
 use Rattle.operands.specs.Meanings.{the_wire, operands_of, frame_of}
 use Rattle.operands.specs.declared.Scope.{Scope}
-use Rattle.operands.specs.declared.WireMeaning.{WireMeaning}
-use Rattle.operands.specs.declared.WireMeaning.TheVariants.{Is as w_is, Over as w_over, Stuck as w_stuck}
 use Rattle.records.specs.Outcomes.{condition_of, Does, ActionNumbers, OneStep, NoStep}
 use Rattle.records.specs.declared.State.{State}
-use Rattle.records.specs.declared.Answer.{Answer}
-use Rattle.records.specs.declared.Answer.TheVariants.{Going, Ended, Stuck as a_stuck}
+use Rattle.records.specs.declared.Stop.{Stop}
+use Rattle.records.specs.declared.Stop.TheVariants.{Ended, Stuck}
+use Rattle.refusals.specs.declared.Reason.TheVariants.{IndexOutOfRange}
+use Rattle.refusals.specs.Reasons.{number_of}
 use Rattle.gates.specs.declared.Mode.{Mode}
 use Rattle.gates.specs.declared.Repeats.{Repeats}
-use Rattle.gates.specs.declared.Repeats.TheVariants.{Are as Times, Over as r_over, Stuck as r_stuck}
 
 unfoldable pub direction_of : Bool → Direction
 direction_of true = backward
@@ -37,11 +36,10 @@ code_of tag reversed = op (written (direction_of reversed) (gate_for tag) (the_w
 abbrev pub frame_in : Mode → List ℤ → Scope → List ℕ → Frame
 frame_in mode values scope regs = frame_of (direction_of mode.reversed) (condition_of mode.condition) values (operands_of scope regs)
 
--- the answer on an operand that has no wire, in the statement at p
-unfoldable pub no_wire_of : WireMeaning → Place → State → Answer
-no_wire_of (w_is w) p st = a_stuck
-no_wire_of w_over p st = Ended 24 p st
-no_wire_of w_stuck p st = a_stuck
+-- how a run stops at a fault in the statement at p
+unfoldable pub stop_of : Fault → Place → State → Stop
+stop_of Over p st = Ended IndexOutOfRange p st
+stop_of f_stuck p st = Stuck
 
 -- a record of an action on the wire that is first of these fields; k is the action's, or 0
 abbrev pub on_wire : Mode → (room : ℕ) → Place → List Field → Frame → (k : ℕ) → (machine.Wire → Action) → Run (Unit {0})
@@ -53,17 +51,17 @@ on_two_wires mode room p fs f k act =
     wire_of p f (operand_due p 0 fs) >>= λ x. (wire_of p f (operand_due p 1 fs) >>= λ y. (apart p x y >> (few_halvings p k >> write mode.limit room p f (act x y))))
 
 -- the record of each action that has this op and this k, wherever the content stands
-abbrev pub OnWire : List ℕ → State → List ℕ → Answer → Mode → Place → (content : List ℕ) → Frame → (code k : ℕ) → Type 0
+abbrev pub OnWire : List ℕ → State → List ℕ → Result State Stop → Mode → Place → (content : List ℕ) → Frame → (code k : ℕ) → Type 0
 OnWire l st l' r mode p content f code k =
     (t : Place) (act : machine.Wire → Action) → ((n : ℕ) → ActionNumbers (act (the_wire n)) code n 0 k) → Does l st l' r (on_wire mode (length l) p (fields t content) f k act)
 
-abbrev pub OnTwoWires : List ℕ → State → List ℕ → Answer → Mode → Place → (content : List ℕ) → Frame → (code k : ℕ) → Type 0
+abbrev pub OnTwoWires : List ℕ → State → List ℕ → Result State Stop → Mode → Place → (content : List ℕ) → Frame → (code k : ℕ) → Type 0
 OnTwoWires l st l' r mode p content f code k =
     (t : Place) (act : machine.Wire → machine.Wire → Action) → ((m n : ℕ) → ActionNumbers (act (the_wire m) (the_wire n)) code m n k)
     → Does l st l' r (on_two_wires mode (length l) p (fields t content) f k act)
 
 -- on a single wire, or on two
-unfoldable pub OnWires : (single : Bool) → List ℕ → State → List ℕ → Answer → Mode → Place → (content : List ℕ) → Frame → (code k : ℕ) → Type 0
+unfoldable pub OnWires : (single : Bool) → List ℕ → State → List ℕ → Result State Stop → Mode → Place → (content : List ℕ) → Frame → (code k : ℕ) → Type 0
 OnWires true l st l' r mode p content f code k = OnWire l st l' r mode p content f code k
 OnWires false l st l' r mode p content f code k = OnTwoWires l st l' r mode p content f code k
 
@@ -82,19 +80,18 @@ most_rounds = furthest + furthest + 1
 pub record Rounds (l : List ℕ) (from to : ℕ) (values : List ℤ) (reversed : Bool) (start : ℤ) (total at : ℕ) : Type 0 where
   pub x : ℤ
   pub y : ℤ
-  pub bounded : Bounded l from to values (Are x y at)
+  pub bounded : Bounded l from to values (Ok (record { low = x; high = y; next = at }))
   pub first : start ≡ start_of (direction_of reversed) x y
   pub often : total ≡ rounds_of (y -ℤ x)
 
 -- how the body of a for runs
-unfoldable pub Looped : List ℕ → (from to : ℕ) → List ℤ → Bool → Repeats → Type 0
-Looped l from to values reversed (Times start total at) = Rounds l from to values reversed start total at
-Looped l from to values reversed r_over = Bounded l from to values Over
-Looped l from to values reversed r_stuck = Bounded l from to values Stuck
+unfoldable pub Looped : List ℕ → (from to : ℕ) → List ℤ → Bool → Result Repeats Fault → Type 0
+Looped l from to values reversed (Ok r) = Rounds l from to values reversed r.start r.total r.body
+Looped l from to values reversed (Err e) = Bounded l from to values (Err e)
 
 -- how the body of a reverse or a for runs: of a reverse once
-pub record Repeated (l : List ℕ) (from to tag : ℕ) (values : List ℤ) (reversed : Bool) (r : Repeats) : Type 0 where
-  pub once : tag ≡ 37 → r ≡ Times (pos 0) 1 from
+pub record Repeated (l : List ℕ) (from to tag : ℕ) (values : List ℤ) (reversed : Bool) (r : Result Repeats Fault) : Type 0 where
+  pub once : tag ≡ 37 → r ≡ Ok (record { start = pos 0; total = 1; body = from })
   pub looped : (tag ≡ 37 → ⊥) → Looped l from to values reversed r
 
 -- the loop variable in the round i, of a loop whose first value is `start`
@@ -115,9 +112,9 @@ abbrev pub entered_of : Mode → (n many : ℕ) → Mode
 entered_of mode n many = record { limit = mode.limit; families_visible = n; levels = deepest; variables = many; reversed = mode.reversed; condition = mode.condition }
 
 -- whether a call names nothing, neither a family nor a parameter
-unfoldable pub names_none : Named → Bool
-names_none (Number n after) = false
-names_none (Bad k) = true
+unfoldable pub names_none : Result Named ℕ → Bool
+names_none (Ok n) = false
+names_none (Err k) = true
 
 -- a call that names nothing, with this content
 unfoldable pub nameless_of : (tag : ℕ) → List ℕ → Bool
@@ -139,10 +136,10 @@ pub record NoStepLeft (mode : Mode) (tag : ℕ) (l : List ℕ) (base : Place) (s
   pub none : NoStep mode.limit base st n p s
 
 -- what entering a statement with this tag and this content answers
-unfoldable pub Entered : Mode → (tag : ℕ) → List ℕ → Place → State → Answer → Type 0
-Entered mode tag l base st (Going s) = StepTaken mode tag l st s
-Entered mode tag l base st (Ended n p s) = NoStepLeft mode tag l base st n p s
-Entered mode tag l base st a_stuck = Enterable mode tag l → ⊥
+unfoldable pub Entered : Mode → (tag : ℕ) → List ℕ → Place → State → Result State Stop → Type 0
+Entered mode tag l base st (Ok s) = StepTaken mode tag l st s
+Entered mode tag l base st (Err (Ended e p s)) = NoStepLeft mode tag l base st (number_of e) p s
+Entered mode tag l base st (Err Stuck) = Enterable mode tag l → ⊥
 
 -- the gate or the cx of this tag
 unfoldable pub gate_by : Mode → (room : ℕ) → ℕ → Place → List ℕ → Frame → Run (Unit {0})

@@ -7,13 +7,14 @@ ghost use Rattle.language.specs.Limits.{longest_program};
 ghost use Rattle.language.specs.Machine.{rounds_of, start_of};
 ghost use Rattle.language.specs.Form.{in_range};
 ghost use Rattle.indexes.specs.Values.{most_values};
-ghost use Rattle.gates.specs.Gates.{code_of, frame_in, direction_of, most_rounds, Repeated, turn_of, nameless_of, Entered, no_wire_of, OnWires, deeper_of, inner_of, entered_of};
+ghost use Rattle.records.specs.Outcomes.{op_number};
+ghost use Rattle.gates.specs.Gates.{code_of, frame_in, direction_of, most_rounds, Repeated, turn_of, nameless_of, Entered, stop_of, OnWires, deeper_of, inner_of, entered_of};
 
-use fields::{Header, Named};
-use indexes::{Bounds, VALUES};
+use indexes::{Fault, VALUES};
 use limits::DEEPEST;
-use operands::{REGISTER_NUMBERS, Scope, WireMeaning};
-use records::{Answer, Condition, State};
+use operands::{REGISTER_NUMBERS, Scope};
+use records::{Condition, Op, State, Stop};
+use refusals::Reason;
 
 // Levels of nested statements in a body.
 pub const LEVELS: u8 = DEEPEST as u8;
@@ -31,33 +32,26 @@ pub struct Mode {
 }
 
 // The op of a gate in a direction.
-pub fn code(tag: u8, reversed: bool) -> u8
-    ensures { result ≡ code_of tag reversed }
+pub fn code(tag: u8, reversed: bool) -> Op
+    ensures { op_number result ≡ code_of tag reversed }
 {
-    if tag == 32 {
-        return 1;
+    match tag {
+        fields::H => Op::H,
+        fields::T if reversed => Op::Tdg,
+        fields::T => Op::T,
+        _ if reversed => Op::T,
+        _ => Op::Tdg,
     }
-    if tag == 33 {
-        if reversed {
-            return 3;
-        }
-        return 2;
-    }
-    if reversed {
-        return 2;
-    }
-    3
 }
 
-// The answer on an operand that has no wire.
-fn no_wire(w: WireMeaning, place: usize, st: State) -> Answer
+// How a run stops at a fault in the statement at `place`.
+pub fn stop(fault: Fault, place: usize, st: State) -> Stop
     requires { place ≤ longest_program }
-    ensures { result ≡ no_wire_of w place st }
+    ensures { result ≡ stop_of fault place st }
 {
-    match w {
-        WireMeaning::Is(x) => Answer::Stuck,
-        WireMeaning::Over => Answer::Ended(24, place as u16, st),
-        WireMeaning::Stuck => Answer::Stuck,
+    match fault {
+        Fault::Over => Stop::Ended(Reason::IndexOutOfRange, place as u16, st),
+        Fault::Stuck => Stop::Stuck,
     }
 }
 
@@ -68,7 +62,7 @@ pub fn on_wires(
     from: usize,
     to: usize,
     single: bool,
-    op: u8,
+    op: Op,
     k: usize,
     place: usize,
     vars: &[i32; VALUES],
@@ -77,31 +71,26 @@ pub fn on_wires(
     mode: Mode,
     st: State,
     out: &mut [u8],
-) -> Answer
+) -> Result<State, Stop>
     requires to_in_bounds { to ≤ length bytes.now }
     requires variables_le_most_values { (mode.variables ≤ most_values) × (place ≤ longest_program) }
-    ensures { OnWires single out.old st out.new result mode place (slice from to bytes.now) (frame_in mode (take mode.variables vars.now) scope regs.now) op k }
+    ensures { OnWires single out.old st out.new result mode place (slice from to bytes.now) (frame_in mode (take mode.variables vars.now) scope regs.now) (op_number op) k }
 {
-    let many = fields::wide(mode.variables);
-    let c = mode.condition;
-    let first = operands::wire_at(bytes, from, to, vars, many, scope, regs);
-    let WireMeaning::Is(x) = first else {
-        return no_wire(first, place, st);
-    };
+    let many = usize::from(mode.variables);
+    let x = operands::wire_at(bytes, from, to, vars, many, scope, regs)
+        .map_err(|fault| stop(fault, place, st))?;
     if single {
-        return records::write_record(out, st, place, op, x.0, 0, k, c);
+        return records::write_record(out, st, place, op, x.0, 0, k, mode.condition);
     }
-    let Header::Whole(_, mid) = fields::header_at(bytes, from, to) else {
-        return Answer::Stuck;
+    let Ok(header) = fields::header_at(bytes, from, to) else {
+        return Err(Stop::Stuck);
     };
-    let second = operands::wire_at(bytes, mid, to, vars, many, scope, regs);
-    let WireMeaning::Is(y) = second else {
-        return no_wire(second, place, st);
-    };
+    let y = operands::wire_at(bytes, header.next, to, vars, many, scope, regs)
+        .map_err(|fault| stop(fault, place, st))?;
     if x.0 == y.0 {
-        return Answer::Ended(25, place as u16, st);
+        return Err(Stop::Ended(Reason::OneWireTwice, place as u16, st));
     }
-    records::write_record(out, st, place, op, x.0, y.0, k, c)
+    records::write_record(out, st, place, op, x.0, y.0, k, mode.condition)
 }
 
 // The number of a loop's rounds.
@@ -127,11 +116,11 @@ fn first_value(reversed: bool, x: i64, y: i64) -> i64
 }
 
 // How a body runs: from which value on, how often, and where it begins.
-#[derive(Clone, Copy)]
-pub enum Repeats {
-    Are(i64, usize, usize),
-    Over,
-    Stuck,
+#[derive(Clone, Copy, Debug, PartialEq, Eq)]
+pub struct Repeats {
+    pub start: i64,
+    pub total: usize,
+    pub body: usize,
 }
 
 // How the body of the reverse or the for runs whose content is from `from` to `to`: of a reverse once.
@@ -143,23 +132,24 @@ pub fn repeats_of(
     vars: &[i32; VALUES],
     many: usize,
     reversed: bool,
-) -> Repeats
+) -> Result<Repeats, Fault>
     requires to_in_bounds { to ≤ length bytes.now }
     requires many_le_most_values { many ≤ most_values }
     ensures { Repeated bytes.now from to tag (take many vars.now) reversed result }
 {
-    if tag == 37 {
-        return Repeats::Are(0, 1, from);
+    if tag == fields::REVERSE {
+        return Ok(Repeats {
+            start: 0,
+            total: 1,
+            body: from,
+        });
     }
-    match indexes::bounds_of(bytes, from, to, vars, many) {
-        Bounds::Over => Repeats::Over,
-        Bounds::Stuck => Repeats::Stuck,
-        Bounds::Are(x, y, at) => {
-            let start = first_value(reversed, x, y);
-            let total = tally(x, y);
-            Repeats::Are(start, total, at)
-        }
-    }
+    let bounds = indexes::bounds_of(bytes, from, to, vars, many)?;
+    Ok(Repeats {
+        start: first_value(reversed, bounds.low, bounds.high),
+        total: tally(bounds.low, bounds.high),
+        body: bounds.next,
+    })
 }
 
 // The loop variable in the round i, of a loop whose first value is `start`.
@@ -181,13 +171,7 @@ fn nameless(bytes: &[u8], from: usize, to: usize, tag: u8) -> bool
     requires { (from ≤ to) × (to ≤ length bytes.now) }
     ensures { result ≡ nameless_of tag (slice from to bytes.now) }
 {
-    if !fields::is_call(tag) {
-        return false;
-    }
-    match fields::called_number(bytes, from, to, tag) {
-        Named::Number(_, _) => false,
-        Named::Bad(_) => true,
-    }
+    fields::is_call(tag) && fields::called_number(bytes, from, to, tag).is_err()
 }
 
 // Enters the statement with this tag and the content from `from` to `to`: takes its step, unless it has no meaning or none is left.
@@ -199,22 +183,16 @@ pub fn enter(
     place: usize,
     mode: Mode,
     st: State,
-) -> Answer
+) -> Result<State, Stop>
     requires from_le_to { (from ≤ to) × (to ≤ length bytes.now) }
     requires place_le_longest_program { place ≤ longest_program }
     ensures { Entered mode tag (slice from to bytes.now) place st result }
 {
-    if mode.levels == 0 {
-        return Answer::Stuck;
-    }
-    if tag < fields::H {
-        return Answer::Stuck;
-    }
-    if fields::PARAMETER_CALL < tag {
-        return Answer::Stuck;
+    if mode.levels == 0 || tag < fields::H || fields::PARAMETER_CALL < tag {
+        return Err(Stop::Stuck);
     }
     if nameless(bytes, from, to, tag) {
-        return Answer::Stuck;
+        return Err(Stop::Stuck);
     }
     records::take_step(mode.limit, place, st)
 }
@@ -224,16 +202,11 @@ fn deeper(mode: Mode, variables: u8, reversed: bool) -> Mode
     requires { 0 < mode.levels }
     ensures { result ≡ deeper_of mode variables reversed }
 {
-    let levels = mode.levels;
-    let condition = mode.condition;
-    let below = levels - 1;
     Mode {
-        limit: mode.limit,
-        families_visible: mode.families_visible,
-        levels: below,
+        levels: mode.levels - 1,
         variables,
         reversed,
-        condition,
+        ..mode
     }
 }
 
@@ -242,25 +215,20 @@ pub fn inner(mode: Mode, tag: u8) -> Mode
     requires { (0 < mode.levels) × (mode.variables < most_values) }
     ensures { result ≡ inner_of mode tag }
 {
-    let variables = mode.variables;
-    if tag == 37 {
-        return deeper(mode, variables, !mode.reversed);
+    if tag == fields::REVERSE {
+        return deeper(mode, mode.variables, !mode.reversed);
     }
-    let more = variables + 1;
-    deeper(mode, more, mode.reversed)
+    deeper(mode, mode.variables + 1, mode.reversed)
 }
 
 // What stays in the body of family n, which has so many values.
 pub fn entered(mode: Mode, n: u16, variables: u8) -> Mode
     ensures { result ≡ entered_of mode n variables }
 {
-    let kept = mode.condition;
     Mode {
-        limit: mode.limit,
         families_visible: n,
         levels: LEVELS,
         variables,
-        reversed: mode.reversed,
-        condition: kept,
+        ..mode
     }
 }

@@ -1,5 +1,5 @@
 -- What the code's state, answer and output tell of a run.
-use Rattle.std.specs.Prelude.{ℕ, ◌+◌, ◌*◌, ◌/◌, ◌%◌, ◌≤◌, ◌<◌, ◌≡◌, List, [], ◌∷◌, length}
+use Rattle.std.specs.Prelude.{ℕ, ◌+◌, ◌*◌, ◌/◌, ◌%◌, ◌≤◌, ◌<◌, ◌≡◌, List, [], ◌∷◌, length, Result, Ok, Err}
 use Rattle.language.specs.Limits.{record_size}
 use Rattle.language.specs.Tree.{Place, Refusal}
 use Rattle.language.specs.Machine.{Outcome, Run, Record, Action, Frame, ◌>>◌, few_halvings, write}
@@ -7,8 +7,11 @@ use Rattle.language.specs.Machine as machine
 use Rattle.language.specs.Result.{op, first_number, second_number, halvings_of, written_into}
 use Rattle.operands.specs.Meanings.{the_bit}
 use Rattle.records.specs.declared.State.{State}
-use Rattle.records.specs.declared.Answer.{Answer}
-use Rattle.records.specs.declared.Answer.TheVariants.{Going, Ended, Stuck}
+use Rattle.records.specs.declared.Stop.{Stop}
+use Rattle.records.specs.declared.Stop.TheVariants.{Ended, Stuck}
+use Rattle.records.specs.declared.Op.{Op}
+use Rattle.records.specs.declared.Op.TheVariants.{H, T, Tdg, Cx, Measure, Reset, Phase, PhaseInverse, Cphase, CphaseInverse}
+use Rattle.refusals.specs.Reasons.{number_of}
 use Rattle.records.specs.declared.Condition.{Condition}
 use Rattle.records.specs.declared.Condition.TheVariants.{Always, IsZero, IsOne}
 
@@ -18,10 +21,10 @@ pub data FlatOutcome : Type 0 where
   ended : Refusal → Place → List ℕ → ℕ → ℕ → FlatOutcome
   stuck : FlatOutcome
 
-unfoldable pub answer_told : List ℕ → Answer → FlatOutcome
-answer_told l (Going s) = going l s.written s.steps
-answer_told l (Ended n p s) = ended n p l s.written s.steps
-answer_told l Stuck = stuck
+unfoldable pub answer_told : List ℕ → Result State Stop → FlatOutcome
+answer_told l (Ok s) = going l s.written s.steps
+answer_told l (Err (Ended e p s)) = ended (number_of e) p l s.written s.steps
+answer_told l (Err Stuck) = stuck
 
 -- an outcome, with its records written into the output lent
 unfoldable pub flat_outcome : {A : Type 0} → List ℕ → Outcome A → FlatOutcome
@@ -38,12 +41,12 @@ abbrev pub state_of : List Record → State → machine.State
 state_of rs st = record { records = rs; steps = st.steps }
 
 -- The square: whatever records the output holds, the code's answer and the output after it are the run's outcome.
-abbrev pub Does : {A : Type 0} → List ℕ → State → List ℕ → Answer → Run A → Type 0
+abbrev pub Does : {A : Type 0} → List ℕ → State → List ℕ → Result State Stop → Run A → Type 0
 Does l st l' r run = (lent : List ℕ) (rs : List Record) → Holds lent rs l st → answer_told l' r ≡ flat_outcome lent (run (state_of rs st))
 
 -- what is left to do leads to the whole
 abbrev pub Leads : List ℕ → State → List ℕ → State → (rest whole : Run (Unit {0})) → Type 0
-Leads l st l' st' rest whole = (x : List ℕ) (r : Answer) → Does l' st' x r rest → Does l st x r whole
+Leads l st l' st' rest whole = (x : List ℕ) (r : Result State Stop) → Does l' st' x r rest → Does l st x r whole
 
 -- a step is taken
 pub record OneStep (limit : ℕ) (st s : State) : Type 0 where
@@ -59,10 +62,23 @@ pub record NoStep (limit : ℕ) (place : Place) (st : State) (n : ℕ) (p : Plac
   pub same : s ≡ st
 
 -- what taking a step answers
-unfoldable pub Stepped : (limit : ℕ) → Place → State → Answer → Type 0
-Stepped limit place st (Going s) = OneStep limit st s
-Stepped limit place st (Ended n p s) = NoStep limit place st n p s
-Stepped limit place st Stuck = ⊥
+unfoldable pub Stepped : (limit : ℕ) → Place → State → Result State Stop → Type 0
+Stepped limit place st (Ok s) = OneStep limit st s
+Stepped limit place st (Err (Ended e p s)) = NoStep limit place st (number_of e) p s
+Stepped limit place st (Err Stuck) = ⊥
+
+-- the byte of an op
+abbrev pub op_number : Op → ℕ
+op_number H = 1
+op_number T = 2
+op_number Tdg = 3
+op_number Cx = 4
+op_number Measure = 5
+op_number Reset = 6
+op_number Phase = 7
+op_number PhaseInverse = 8
+op_number Cphase = 9
+op_number CphaseInverse = 10
 
 unfoldable pub condition_of : Condition → machine.Condition
 condition_of Always = machine.always
@@ -93,7 +109,7 @@ pub record ActionNumbers (a : Action) (code first second k : ℕ) : Type 0 where
   pub its_halvings : halvings_of a ≡ k
 
 -- a record of an action with these numbers is written, unless its k is too large
-abbrev pub Writes : List ℕ → State → List ℕ → Answer → Place → (code first second k : ℕ) → Condition → Type 0
+abbrev pub Writes : List ℕ → State → List ℕ → Result State Stop → Place → (code first second k : ℕ) → Condition → Type 0
 Writes l st l' r p code first second k c =
     (limit : ℕ) (f : Frame) (a : Action) → f.condition ≡ condition_of c → ActionNumbers a code first second k
     → Does l st l' r (few_halvings p k >> write limit (length l) p f a)

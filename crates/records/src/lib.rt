@@ -5,23 +5,38 @@ ghost use Rattle.std.specs.Prelude.{◌≡◌, [], ◌+◌, ◌<◌, ◌≤◌, 
 ghost use Rattle.std.proofs.lemmas.List.Edits.{sets};
 ghost use Rattle.language.specs.Limits.{longest_program, record_size};
 ghost use Rattle.language.specs.Result.{condition_byte, condition_bit};
-ghost use Rattle.records.specs.Outcomes.{low_of, high_of, number_bytes, halving_bytes, condition_of, Stepped, Writes};
+ghost use Rattle.records.specs.Outcomes.{op_number, low_of, high_of, number_bytes, halving_bytes, condition_of, Stepped, Writes};
 
 use limits::{MOST_HALVINGS, RECORD_SIZE};
 use operands::Bit;
+use refusals::Reason;
+
+// What a record says is done, by the number of its first byte.
+#[derive(Clone, Copy, Debug, PartialEq, Eq)]
+pub enum Op {
+    H = 1,
+    T = 2,
+    Tdg = 3,
+    Cx = 4,
+    Measure = 5,
+    Reset = 6,
+    Phase = 7,
+    PhaseInverse = 8,
+    Cphase = 9,
+    CphaseInverse = 10,
+}
 
 // What changes as a program runs: the bytes written, and the steps taken.
-#[derive(Clone, Copy)]
+#[derive(Clone, Copy, Debug, PartialEq, Eq)]
 pub struct State {
     pub written: usize,
     pub steps: u64,
 }
 
-// How a part of a run comes out: it goes on, it ends with a refusal at a place, or it has no meaning.
-#[derive(Clone, Copy)]
-pub enum Answer {
-    Going(State),
-    Ended(u16, u16, State),
+// Why a run does not go on: it ends with a refusal at a place, or it has no meaning.
+#[derive(Clone, Copy, Debug, PartialEq, Eq)]
+pub enum Stop {
+    Ended(Reason, u16, State),
     Stuck,
 }
 
@@ -34,24 +49,25 @@ pub enum Condition {
 }
 
 // Takes a step of the statement at `place`, if one is left.
-pub fn take_step(limit: u64, place: usize, st: State) -> Answer
+pub fn take_step(limit: u64, place: usize, st: State) -> Result<State, Stop>
     requires { place ≤ longest_program }
     ensures { Stepped limit place st result }
 {
-    let steps = st.steps;
-    if limit <= steps {
-        return Answer::Ended(26, place as u16, st);
+    if limit <= st.steps {
+        return Err(Stop::Ended(Reason::OutOfSteps, place as u16, st));
     }
-    let taken = steps + 1;
-    Answer::Going(State {
-        written: st.written,
-        steps: taken,
+    Ok(State {
+        steps: st.steps + 1,
+        ..st
     })
 }
 
 // A condition's byte and its bit.
 #[derive(Clone, Copy)]
-struct Pair(u8, u16);
+struct ConditionNumbers {
+    byte: u8,
+    bit: u16,
+}
 
 fn low(n: u16) -> u8
     ensures { result ≡ low_of n }
@@ -91,13 +107,13 @@ fn put_halvings(out: &mut [u8], at: usize, k: u16)
     out[at + 3] = 0;
 }
 
-fn numbers(c: Condition) -> Pair
-    ensures { (result.0 ≡ condition_byte (condition_of c)) × (result.1 ≡ condition_bit (condition_of c)) }
+fn numbers(c: Condition) -> ConditionNumbers
+    ensures { (result.byte ≡ condition_byte (condition_of c)) × (result.bit ≡ condition_bit (condition_of c)) }
 {
     match c {
-        Condition::Always => Pair(0, 0),
-        Condition::IsZero(b) => Pair(1, b.0),
-        Condition::IsOne(b) => Pair(2, b.0),
+        Condition::Always => ConditionNumbers { byte: 0, bit: 0 },
+        Condition::IsZero(b) => ConditionNumbers { byte: 1, bit: b.0 },
+        Condition::IsOne(b) => ConditionNumbers { byte: 2, bit: b.0 },
     }
 }
 
@@ -106,32 +122,28 @@ pub fn write_record(
     out: &mut [u8],
     st: State,
     place: usize,
-    op: u8,
+    op: Op,
     a: u16,
     b: u16,
     k: usize,
     c: Condition,
-) -> Answer
+) -> Result<State, Stop>
     requires { place ≤ longest_program }
-    ensures { Writes out.old st out.new result place op a b k c }
+    ensures { Writes out.old st out.new result place (op_number op) a b k c }
 {
     if MOST_HALVINGS < k {
-        return Answer::Ended(32, place as u16, st);
+        return Err(Stop::Ended(Reason::KTooLarge, place as u16, st));
     }
     let at = st.written;
     let len = out.len();
-    if len < at {
-        return Answer::Ended(27, place as u16, st);
+    if len < at || len - at < RECORD_SIZE {
+        return Err(Stop::Ended(Reason::OutputFull, place as u16, st));
     }
-    if len - at < RECORD_SIZE {
-        return Answer::Ended(27, place as u16, st);
-    }
-    let n = numbers(c);
-    put_numbers(out, at, op, n.0, a, b, n.1);
+    let condition = numbers(c);
+    put_numbers(out, at, op as u8, condition.byte, a, b, condition.bit);
     put_halvings(out, at + 8, k as u16);
-    let next = at + RECORD_SIZE;
-    Answer::Going(State {
-        written: next,
-        steps: st.steps,
+    Ok(State {
+        written: at + RECORD_SIZE,
+        ..st
     })
 }

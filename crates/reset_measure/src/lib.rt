@@ -9,11 +9,10 @@ ghost use Rattle.records.specs.Outcomes.{Does};
 ghost use Rattle.gates.specs.Gates.{frame_in};
 ghost use Rattle.reset_measure.specs.Tops.{reset_at, measure_at};
 
-use fields::Header;
 use gates::Mode;
 use indexes::VALUES;
-use operands::{BitMeaning, REGISTER_NUMBERS, Scope, WireMeaning};
-use records::{Answer, State};
+use operands::{REGISTER_NUMBERS, Scope};
+use records::{Op, State, Stop};
 
 // Writes the reset whose content is from `from` to `to` and whose step is taken.
 pub fn reset(
@@ -27,18 +26,15 @@ pub fn reset(
     mode: Mode,
     st: State,
     out: &mut [u8],
-) -> Answer
+) -> Result<State, Stop>
     requires to_in_bounds { to ≤ length bytes.now }
     requires variables_le_most_values { (mode.variables ≤ most_values) × (place ≤ longest_program) }
     ensures { Does out.old st out.new result (reset_at mode (length out.old) place (slice from to bytes.now) (frame_in mode (take mode.variables vars.now) scope regs.now)) }
 {
-    let many = fields::wide(mode.variables);
-    let c = mode.condition;
-    match operands::wire_at(bytes, from, to, vars, many, scope, regs) {
-        WireMeaning::Is(w) => records::write_record(out, st, place, 6, w.0, 0, 0, c),
-        WireMeaning::Over => Answer::Ended(24, place as u16, st),
-        WireMeaning::Stuck => Answer::Stuck,
-    }
+    let many = usize::from(mode.variables);
+    let w = operands::wire_at(bytes, from, to, vars, many, scope, regs)
+        .map_err(|fault| gates::stop(fault, place, st))?;
+    records::write_record(out, st, place, Op::Reset, w.0, 0, 0, mode.condition)
 }
 
 // Writes the measure whose content is from `from` to `to` and whose step is taken.
@@ -53,23 +49,18 @@ pub fn measure(
     mode: Mode,
     st: State,
     out: &mut [u8],
-) -> Answer
+) -> Result<State, Stop>
     requires to_in_bounds { to ≤ length bytes.now }
     requires variables_le_most_values { (mode.variables ≤ most_values) × (place ≤ longest_program) }
     ensures { Does out.old st out.new result (measure_at mode (length out.old) place (slice from to bytes.now) (frame_in mode (take mode.variables vars.now) scope regs.now)) }
 {
-    let many = fields::wide(mode.variables);
-    let c = mode.condition;
-    let Header::Whole(_, mid) = fields::header_at(bytes, from, to) else {
-        return Answer::Stuck;
+    let many = usize::from(mode.variables);
+    let Ok(header) = fields::header_at(bytes, from, to) else {
+        return Err(Stop::Stuck);
     };
-    match operands::wire_at(bytes, from, to, vars, many, scope, regs) {
-        WireMeaning::Is(x) => match operands::bit_at(bytes, mid, to, vars, many, scope, regs) {
-            BitMeaning::Is(y) => records::write_record(out, st, place, 5, x.0, y.0, 0, c),
-            BitMeaning::Over => Answer::Ended(24, place as u16, st),
-            BitMeaning::Stuck => Answer::Stuck,
-        },
-        WireMeaning::Over => Answer::Ended(24, place as u16, st),
-        WireMeaning::Stuck => Answer::Stuck,
-    }
+    let x = operands::wire_at(bytes, from, to, vars, many, scope, regs)
+        .map_err(|fault| gates::stop(fault, place, st))?;
+    let y = operands::bit_at(bytes, header.next, to, vars, many, scope, regs)
+        .map_err(|fault| gates::stop(fault, place, st))?;
+    records::write_record(out, st, place, Op::Measure, x.0, y.0, 0, mode.condition)
 }
