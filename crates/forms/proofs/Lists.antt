@@ -12,7 +12,7 @@ use lib.IntN.{ℤ, pos, negsuc, ◌+ℤ◌, ◌-ℤ◌}
 use lib.Signed.{le_z, lt_z}
 use lib.ListN.{length, get_or, take, drop, set, replicate, length-set, length-take, length-append, drop_of_length-le, take-append-drop, get_or-append}
 use lib.Seq.{take_all}
-use Rattle.std.specs.Prelude.{Result, Ok, Err, IsErr, is_ok}
+use Rattle.std.specs.Prelude.{Result, Ok, Err, IsErr, OnOk, is_ok, is_err}
 use Rattle.language.specs.Form.{Form, Built, built, out_of_range, Loop, closed, showing_of, in_range, all_in_range, zipped, build, sum_of, difference_of, multiple_of, ◌then_build◌, without, none_negative, is_zero, all_zero, same_number, same_numbers, same_form}
 use Rattle.forms.specs.declared.OutOfRange.{OutOfRange}
 use Rattle.forms.specs.Flat.{Kept, Short, widened, as_form, built_of, showing_by}
@@ -231,6 +231,19 @@ when_built l e h = ap (λ (r : Result (Unit {0}) OutOfRange). built_of r l) (sym
 pub when_out : {r : Result (Unit {0}) OutOfRange} {x : OutOfRange} (l : List ℤ) {b : Built} → r ≡ Err x → built_of r l ≡ b → out_of_range ≡ b
 unfolding built_of
 when_out l e h = ap (λ (r : Result (Unit {0}) OutOfRange). built_of r l) (sym e) ∙ h
+
+-- the same, after a test by `is_err`
+pub built_when : (r : Result (Unit {0}) OutOfRange) (l : List ℤ) {b : Built} → is_err r ≡ false → built_of r l ≡ b → built (as_form l) ≡ b
+built_when (Ok u) l e h = when_built l refl h
+built_when (Err x) l e h = absurd (clash e)
+
+pub out_when : (r : Result (Unit {0}) OutOfRange) (l : List ℤ) {b : Built} → is_err r ≡ true → built_of r l ≡ b → out_of_range ≡ b
+out_when (Ok u) l e h = absurd (clash (sym e))
+out_when (Err x) l e h = when_out l refl h
+
+pub kept_when : (r : Result (Unit {0}) OutOfRange) {P : Type 0} → is_err r ≡ false → OnOk r P → P
+kept_when (Ok u) e h = h
+kept_when (Err x) e h = absurd (clash e)
 
 -- what the exit of a `?` returns
 pub not_built : (r : Result (Unit {0}) OutOfRange) (l : List ℤ) → IsErr r → built_of r l ≡ out_of_range

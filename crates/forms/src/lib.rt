@@ -505,13 +505,13 @@ pub fn show(f: &Form, ranges: &Ranges) -> Shown
 {
     let s = show_plainly(f, ranges);
     let through = s.through;
-    let Err(Unshown::NotShown) = s.verdict else {
+    if s.verdict != Err(Unshown::NotShown) {
         return Shown {
             verdict: s.verdict,
             through,
             trials: 0,
         };
-    };
+    }
     let t = try_loops(f, ranges, ranges.loops);
     Shown {
         verdict: verdict_of(t.shown),
