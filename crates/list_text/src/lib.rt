@@ -12,17 +12,10 @@ use limits::RECORD_SIZE;
 const LINE: usize = 128;
 
 // The records up to `next` are in the first `size` bytes of a text.
-#[derive(Clone, Copy)]
+#[derive(Clone, Copy, Debug, PartialEq, Eq)]
 pub struct Chunk {
     pub next: usize,
     pub size: usize,
-}
-
-// A byte as a number of 64 bits.
-fn wide(byte: u8) -> u64
-    ensures { result ≡ byte }
-{
-    byte as u64
 }
 
 // Puts a word into the text at `from` and answers where it ends.
@@ -90,7 +83,7 @@ fn gate(op: u8, first: u64, second: u64, k: u64, text: &mut [u8], from: usize) -
         8 => paired(b"phasedg", k, first, text, from),
         9 => tripled(b"cphase", k, first, second, text, from),
         10 => tripled(b"cphasedg", k, first, second, text, from),
-        _ => named(b"op", wide(op), text, from),
+        _ => named(b"op", u64::from(op), text, from),
     }
 }
 
@@ -102,7 +95,7 @@ fn condition(kind: u8, bit: u64, text: &mut [u8], from: usize) -> usize
     if kind == 0 {
         return from;
     }
-    let at = paired(b"if", bit, wide(kind) - 1, text, from);
+    let at = paired(b"if", bit, u64::from(kind) - 1, text, from);
     put(b" ", text, at)
 }
 
@@ -111,7 +104,7 @@ fn two_bytes(bytes: &[u8], at: usize) -> u64
     requires { at + 1 < length bytes.now }
     ensures { result ≡ two_bytes_at bytes.now at }
 {
-    wide(bytes[at]) + 256 * wide(bytes[at + 1])
+    u64::from(bytes[at]) + 256 * u64::from(bytes[at + 1])
 }
 
 // Puts the line of a record.

@@ -1,6 +1,5 @@
 -- What the words behind the program's name ask for. A word is a list of ASCII codes. Assumes nothing.
-use Rattle.std.specs.Prelude.{ℕ, zero, suc, ◌+◌, ◌*◌, ◌-◌, ◌/◌, ◌%◌, Bool, true, false, cond, ◌&&◌, List, [], ◌∷◌, ◌++◌, eqb, leb, ltb, length}
-use Rattle.std.proofs.Math.Option.{Option, none, some}
+use Rattle.std.specs.Prelude.{ℕ, zero, suc, ◌+◌, ◌*◌, ◌-◌, ◌/◌, ◌%◌, Bool, true, false, cond, ◌&&◌, List, [], ◌∷◌, ◌++◌, eqb, leb, ltb, length, Option, Some, None}
 use Rattle.language.specs.Result.{Conclusion, run_outcome, instance_outcome}
 
 -- whether these are digits, `0` to `9`
@@ -15,7 +14,7 @@ value_from n (byte ∷ rest) = value_from (10 * n + (byte - 48)) rest
 
 -- the number of a word: it has a byte, all its bytes are digits, and the number fits 32 bits
 unfoldable pub number_in : List ℕ → Option ℕ
-number_in word = cond (ltb 0 (length word) && all_digits word && ltb (value_from 0 word) 4294967296) (some (value_from 0 word)) none
+number_in word = cond (ltb 0 (length word) && all_digits word && ltb (value_from 0 word) 4294967296) (Some (value_from 0 word)) None
 
 -- a number of 32 bits in four bytes, low byte first
 unfoldable pub size_bytes : ℕ → List ℕ
@@ -23,14 +22,14 @@ size_bytes n = n % 256 ∷ n / 256 % 256 ∷ n / 65536 % 256 ∷ n / 16777216 % 
 
 -- the bytes of a size before those of others, where all are numbers
 unfoldable pub and_sizes : Option ℕ → Option (List ℕ) → Option (List ℕ)
-and_sizes none others = none
-and_sizes (some n) none = none
-and_sizes (some n) (some bytes) = some (size_bytes n ++ bytes)
+and_sizes None others = None
+and_sizes (Some n) None = None
+and_sizes (Some n) (Some bytes) = Some (size_bytes n ++ bytes)
 
 -- the bytes of the sizes that words say: of at most so many words, and each a number
 unfoldable pub sizes_in : (most : ℕ) → List (List ℕ) → Option (List ℕ)
-sizes_in most [] = some []
-sizes_in zero (word ∷ words) = none
+sizes_in most [] = Some []
+sizes_in zero (word ∷ words) = None
 sizes_in (suc most) (word ∷ words) = and_sizes (number_in word) (sizes_in most words)
 
 -- what is listed: the whole program, or a family at the sizes in these bytes
@@ -57,9 +56,9 @@ same_word (a ∷ word) (b ∷ rest) = eqb a b && same_word word rest
 
 -- a family at sizes, where its word and theirs are good
 unfoldable pub family_at : Option ℕ → Option (List ℕ) → Request
-family_at none sizes = bad
-family_at (some n) none = bad
-family_at (some n) (some sizes) = listing (family n sizes)
+family_at None sizes = bad
+family_at (Some n) None = bad
+family_at (Some n) (Some sizes) = listing (family n sizes)
 
 -- no word asks for the whole program; the first is `--help`, or a family's number with at most 16 sizes after it
 unfoldable pub request_of : List (List ℕ) → Request

@@ -3,83 +3,48 @@
 
 ghost use Rattle.std.specs.Prelude.{◌≡◌, ◌++◌, ◌+◌, ◌*◌, ◌-◌, ◌<◌, ◌≤◌, length, take, drop};
 ghost use Rattle.list_words.specs.Words.{number_in, size_bytes, sizes_in, words_in, request_of};
-ghost use Rattle.list_words.specs.Jobs.{said_by, sizes_meant, SizesHeld, WordAt, meant, Held};
-
-// The numbers of 32 bits are smaller.
-const TOO_LARGE: u64 = 4294967296;
+ghost use Rattle.list_words.specs.Jobs.{sizes_meant, SizesHeld, WordAt, meant, Held};
 
 // A family is asked for at no more sizes.
 const MOST_SIZES: usize = 16;
 
-// What a word says: a number, or nothing.
-#[derive(Clone, Copy)]
-pub enum Word {
-    Number(u32),
-    Bad,
-}
-
 // Where a word ends and where the next begins.
-#[derive(Clone, Copy)]
+#[derive(Clone, Copy, Debug, PartialEq, Eq)]
 pub struct Span {
     pub end: usize,
     pub next: usize,
 }
 
-// The sizes that words say, as so many bytes, or that one says none.
-#[derive(Clone, Copy)]
-pub enum Sizes {
-    Bytes(usize),
-    Bad,
-}
-
 // What is listed: the whole program, or a family at sizes of so many bytes.
-#[derive(Clone, Copy)]
+#[derive(Clone, Copy, Debug, PartialEq, Eq)]
 pub enum Job {
     Whole,
     Family(u32, usize),
 }
 
-// What is asked for: a listing, help, or nothing that can be done.
-#[derive(Clone, Copy)]
+// What is asked for: a listing or help.
+#[derive(Clone, Copy, Debug, PartialEq, Eq)]
 pub enum Asked {
     Listing(Job),
     Help,
-    Bad,
 }
 
-// A byte as a number of 64 bits.
-fn wide(byte: u8) -> u64
-    ensures { result ≡ byte }
+// The number of a word, if it says one.
+fn number_in(word: &[u8]) -> Option<u32>
+    ensures { result ≡ number_in word.now }
 {
-    byte as u64
-}
-
-// The number of a word.
-fn number_in(word: &[u8]) -> Word
-    ensures { said_by result ≡ number_in word.now }
-{
-    if word.len() == 0 {
-        return Word::Bad;
+    if word.is_empty() {
+        return None;
     }
-    let mut n: u64 = 0;
-    let mut i = 0;
-    while i < word.len() {
-        let byte = word[i];
-        if byte < 48 {
-            return Word::Bad;
+    let mut n: u32 = 0;
+    for &byte in word {
+        if !byte.is_ascii_digit() {
+            return None;
         }
-        if 57 < byte {
-            return Word::Bad;
-        }
-        let digit = wide(byte) - 48;
-        let more = 10 * n + digit;
-        if TOO_LARGE <= more {
-            return Word::Bad;
-        }
-        n = more;
-        i += 1;
+        let digit = u32::from(byte - b'0');
+        n = n.checked_mul(10)?.checked_add(digit)?;
     }
-    Word::Number(n as u32)
+    Some(n)
 }
 
 // Puts a size into four bytes at a place, low byte first.
@@ -87,10 +52,7 @@ fn put_size(n: u32, sizes: &mut [u8], at: usize)
     requires { at + 4 ≤ length sizes.old }
     ensures { take (at + 4) sizes.new ≡ take at sizes.old ++ size_bytes n }
 {
-    sizes[at] = (n % 256) as u8;
-    sizes[at + 1] = (n / 256 % 256) as u8;
-    sizes[at + 2] = (n / 65536 % 256) as u8;
-    sizes[at + 3] = (n / 16777216 % 256) as u8;
+    sizes[at..at + 4].copy_from_slice(&n.to_le_bytes());
 }
 
 // The word that begins at a place of a text in which a 0 ends each word.
@@ -98,19 +60,20 @@ fn word_at(text: &[u8], from: usize) -> Span
     requires { from < length text.now }
     ensures { WordAt text.now from result }
 {
-    let mut i = from;
-    while i < text.len() {
-        let next = i + 1;
-        if text[i] == 0 {
-            return Span { end: i, next };
+    match text[from..].iter().position(|byte| *byte == 0) {
+        Some(size) => {
+            let end = from + size;
+            Span { end, next: end + 1 }
         }
-        i = next;
+        None => Span {
+            end: text.len(),
+            next: text.len(),
+        },
     }
-    Span { end: i, next: i }
 }
 
-// The sizes that the words from a place on say, put into bytes.
-fn sizes_in(text: &[u8], from: usize, sizes: &mut [u8]) -> Sizes
+// The sizes that the words from a place on say, put into bytes, and how many bytes those are, if each word says one.
+fn sizes_in(text: &[u8], from: usize, sizes: &mut [u8]) -> Option<usize>
     requires from_in_bounds { from ≤ length text.now }
     requires in_bounds { 64 ≤ length sizes.old }
     ensures sizes_after { sizes_meant result sizes.new ≡ sizes_in 16 (words_in (drop from text.now)) }
@@ -120,40 +83,33 @@ fn sizes_in(text: &[u8], from: usize, sizes: &mut [u8]) -> Sizes
     let mut many: usize = 0;
     while at < text.len() {
         if many == MOST_SIZES {
-            return Sizes::Bad;
+            return None;
         }
         let word = word_at(text, at);
         let end = word.end;
-        let Word::Number(n) = number_in(&text[at..end]) else {
-            return Sizes::Bad;
-        };
+        let n = number_in(&text[at..end])?;
         put_size(n, sizes, 4 * many);
         many += 1;
         at = word.next;
     }
-    let size = 4 * many;
-    Sizes::Bytes(size)
+    Some(4 * many)
 }
 
-// What the words of a text ask for. Sizes are put into bytes.
-pub fn request(text: &[u8], sizes: &mut [u8]) -> Asked
+// What the words of a text ask for, if it can be done. Sizes are put into bytes.
+pub fn request(text: &[u8], sizes: &mut [u8]) -> Option<Asked>
     requires { 64 ≤ length sizes.old }
     ensures sizes_after { meant result sizes.new ≡ request_of (words_in text.now) }
     ensures held { Held result sizes.new }
 {
-    if text.len() == 0 {
-        return Asked::Listing(Job::Whole);
+    if text.is_empty() {
+        return Some(Asked::Listing(Job::Whole));
     }
     let first = word_at(text, 0);
     let end = first.end;
     if check::same(&text[..end], b"--help") {
-        return Asked::Help;
+        return Some(Asked::Help);
     }
-    let Word::Number(family) = number_in(&text[..end]) else {
-        return Asked::Bad;
-    };
-    let Sizes::Bytes(size) = sizes_in(text, first.next, sizes) else {
-        return Asked::Bad;
-    };
-    Asked::Listing(Job::Family(family, size))
+    let family = number_in(&text[..end])?;
+    let size = sizes_in(text, first.next, sizes)?;
+    Some(Asked::Listing(Job::Family(family, size)))
 }

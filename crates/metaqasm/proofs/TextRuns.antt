@@ -20,21 +20,21 @@ use Rattle.qasm_text.specs.TextResult.{TextResult, TextAnswer, TextConclusion, t
 use Rattle.qasm_text.specs.TextSound.{TextSound, TextFinishes}
 use Rattle.qasm_text.proofs.RecordsBack.{sound_read}
 use Rattle.qasm_text.proofs.TextSoundness.{not_printed, into_size, run_text_sound, instance_text_sound, run_text_by, instance_text_by}
-use Rattle.qasm_length.specs.declared.TextLength.{TextLength}
-use Rattle.qasm_length.specs.declared.TextLength.TheVariants.{Fits, TooLong}
+use Rattle.core.specs.declared.option.Option.{Option as Answered}
+use Rattle.std.specs.Prelude.{Some, None}
 use Rattle.qasm_print.specs.Prints.{Prints}
 use Rattle.metaqasm.specs.TextAnswers.{SoundRunText, SoundInstanceText}
 
 -- ---- what printing leaves, as an answer
 
-module _ (before text after : List ℕ) (a : Reply) (r : TextLength) (p : Prints before text after r) where
-  pub printed_not : r ≡ TooLong → record { result = without_text 30 0 a.result; output = a.output; text = after } ≡ printed before text a
+module _ (before text after : List ℕ) (a : Reply) (r : Answered ℕ) (p : Prints before text after r) where
+  pub printed_not : r ≡ None → record { result = without_text 30 0 a.result; output = a.output; text = after } ≡ printed before text a
   unfolding printed unprinted
   printed_not e =
       let h = subst (Prints before text after) e p in
       rw (lt-leb (length text) (length before) h.0, h.1)
 
-  pub printed_fully : (n : ℕ) → r ≡ Fits n
+  pub printed_fully : (n : ℕ) → r ≡ Some n
       → record { result = record { number = 0; place = 0; records = a.result.records; steps = a.result.steps; length = n }; output = a.output; text = after } ≡ printed before text a
   unfolding printed fully_printed
   printed_fully n e =

@@ -16,8 +16,7 @@ ghost use Rattle.metaqasm.specs.TextAnswers.{text_answered, SoundRunText, SoundI
 
 use check_program::Outcome;
 use limits::RECORD_SIZE;
-use qasm_length::TextLength;
-use records::{Answer, State};
+use records::{State, Stop};
 
 // The answer of a call: number (0 for done), place, records and steps.
 #[repr(C)]
@@ -65,15 +64,15 @@ fn result(number: u32, place: u32, s: State) -> MetaqasmResult
 }
 
 // The result of a run that came to an answer.
-fn result_of_answer(a: Answer) -> MetaqasmResult
+fn result_of_answer(a: Result<State, Stop>) -> MetaqasmResult
     requires { NotStuck a }
     ensures { (output : List ℕ) → concluded output a ≡ finished (record { result = answered result; output = output }) }
 {
     match a {
-        Answer::Going(s) => result(0, 0, s),
-        Answer::Ended(n, p, s) => result(n as u32, p as u32, s),
+        Ok(s) => result(0, 0, s),
+        Err(Stop::Ended(reason, place, s)) => result(reason.number(), u32::from(place), s),
         // Not reached: what is required rules it out, and the theorem gives that. Its number is none that a call answers.
-        Answer::Stuck => result(
+        Err(Stop::Stuck) => result(
             4294967295,
             0,
             State {
@@ -172,8 +171,8 @@ fn printed(
 {
     let records = run.records as usize;
     match qasm_print::print(output, records, wires as u16, bits as u16, text) {
-        TextLength::TooLong => unprinted(30, 0, run),
-        TextLength::Fits(n) => MetaqasmTextResult {
+        None => unprinted(30, 0, run),
+        Some(n) => MetaqasmTextResult {
             number: 0,
             place: 0,
             records: run.records,

@@ -1,7 +1,5 @@
 -- What measuring a text answers.
-use Rattle.std.specs.Prelude.{◌≡◌, ℕ, ◌≤◌, ◌<◌}
-use Rattle.qasm_length.specs.declared.TextLength.{TextLength}
-use Rattle.qasm_length.specs.declared.TextLength.TheVariants.{Fits, TooLong}
+use Rattle.std.specs.Prelude.{◌≡◌, ℕ, ◌≤◌, ◌<◌, Option, Some, None}
 
 -- a length that was measured, and a bound of it
 pub record Measured (length most r : ℕ) : Type 0 where
@@ -9,6 +7,6 @@ pub record Measured (length most r : ℕ) : Type 0 where
   pub bound : r ≤ most
 
 -- whether so many bytes fit into the room
-abbrev pub Measures : (room length : ℕ) → TextLength → Type 0
-Measures room length (Fits n) = (n ≡ length) × (length ≤ room)
-Measures room length TooLong = room < length
+abbrev pub Measures : (room length : ℕ) → Option ℕ → Type 0
+Measures room length (Some n) = (n ≡ length) × (length ≤ room)
+Measures room length None = room < length

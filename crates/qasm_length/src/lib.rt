@@ -14,30 +14,17 @@ use limits::RECORD_SIZE;
 // The bytes of the two lines that every text begins with.
 const FIRST_LINES: usize = 36;
 
-// Whether a text fits, and its length.
-#[derive(Clone, Copy)]
-pub enum TextLength {
-    Fits(usize),
-    TooLong,
-}
-
 // How many digits a number has in decimal.
 fn digits_of(n: u16) -> usize
     ensures { Measured (width n) 5 result }
 {
-    if n < 10 {
-        return 1;
+    match n {
+        0..=9 => 1,
+        10..=99 => 2,
+        100..=999 => 3,
+        1000..=9999 => 4,
+        _ => 5,
     }
-    if n < 100 {
-        return 2;
-    }
-    if n < 1000 {
-        return 3;
-    }
-    if n < 10000 {
-        return 4;
-    }
-    5
 }
 
 // How many digits 2 to the k has in decimal: the decimal logarithm of 2 is nearly 0.30103.
@@ -45,7 +32,7 @@ pub fn power_digits(k: u16) -> usize
     requires { k ≤ most_halvings }
     ensures { Measured (width (2 ^ k)) 19 result }
 {
-    k as usize * 30103 / 100000 + 1
+    usize::from(k) * 30103 / 100000 + 1
 }
 
 // The two-byte number at a position of the output.
@@ -83,7 +70,7 @@ fn condition_length(kind: u8, bit: u16) -> usize
     if kind == 0 {
         return 0;
     }
-    let value = fields::wider(kind) - 1;
+    let value = u16::from(kind) - 1;
     8 + digits_of(bit) + digits_of(value)
 }
 
@@ -117,49 +104,44 @@ fn qreg_length(wires: u16) -> usize
 fn cregs_length(bits: u16) -> usize
     ensures { Measured (length (creg_lines bits)) (16 * bits) result }
 {
-    let mut k: u16 = 0;
     let mut total: usize = 0;
-    while k < bits {
-        let line = 11 + digits_of(k);
-        total += line;
-        k += 1;
+    for k in 0..bits {
+        total += 11 + digits_of(k);
     }
     total
 }
 
-// The length of the lines of so many records, where the room is enough.
-fn lines_length(output: &[u8], records: usize, room: usize) -> TextLength
+// The length of the lines of so many records, if the room is enough.
+fn lines_length(output: &[u8], records: usize, room: usize) -> Option<usize>
     requires records_in_bounds { record_size * records ≤ length output.now }
     requires few_halvings { FewHalvings records output.now }
     ensures { Measures room (length (lines (records_from records output.now))) result }
 {
-    let mut i: usize = 0;
     let mut total: usize = 0;
-    while i < records {
+    for i in 0..records {
         let line = line_length(output, RECORD_SIZE * i);
         if room - total < line {
-            return TextLength::TooLong;
+            return None;
         }
         total += line;
-        i += 1;
     }
-    TextLength::Fits(total)
+    Some(total)
 }
 
-// The length of the text of so many records over wires and bits, where the room is enough.
-pub fn text_length(output: &[u8], records: usize, wires: u16, bits: u16, room: usize) -> TextLength
+// The length of the text of so many records over wires and bits, if the room is enough.
+pub fn text_length(
+    output: &[u8],
+    records: usize,
+    wires: u16,
+    bits: u16,
+    room: usize,
+) -> Option<usize>
     requires records_in_bounds { record_size * records ≤ length output.now }
     requires few_halvings { FewHalvings records output.now }
     ensures { Measures room (length (text_of wires bits (records_from records output.now))) result }
 {
     let header = FIRST_LINES + qreg_length(wires) + cregs_length(bits);
-    if room < header {
-        return TextLength::TooLong;
-    }
-    let left = room - header;
-    let TextLength::Fits(n) = lines_length(output, records, left) else {
-        return TextLength::TooLong;
-    };
-    let whole = header + n;
-    TextLength::Fits(whole)
+    let left = room.checked_sub(header)?;
+    let n = lines_length(output, records, left)?;
+    Some(header + n)
 }

@@ -13,7 +13,6 @@ ghost use Rattle.text_bytes.specs.Buffers.{Room, Puts};
 ghost use Rattle.qasm_print.specs.Prints.{two_digits, angled, Prints};
 
 use limits::RECORD_SIZE;
-use qasm_length::TextLength;
 
 // The byte of a digit.
 fn digit_byte(n: u16) -> u8
@@ -208,7 +207,7 @@ fn put_condition(kind: u8, bit: u16, text: &mut [u8], from: usize) -> usize
     if kind == 0 {
         return from;
     }
-    let value = fields::wider(kind) - 1;
+    let value = u16::from(kind) - 1;
     let word = text_bytes::put(b"if(", text, from);
     let name = put_bit(bit, text, word);
     let equals = text_bytes::put(b"==", text, name);
@@ -240,10 +239,8 @@ fn put_lines(output: &[u8], records: usize, text: &mut [u8], from: usize) -> usi
     ensures { Puts text.old from (lines (records_from records output.now)) text.new result }
 {
     let mut at = from;
-    let mut i: usize = 0;
-    while i < records {
+    for i in 0..records {
         at = put_line(output, RECORD_SIZE * i, text, at);
-        i += 1;
     }
     at
 }
@@ -277,10 +274,8 @@ fn put_cregs(bits: u16, text: &mut [u8], from: usize) -> usize
     ensures { Puts text.old from (creg_lines bits) text.new result }
 {
     let mut at = from;
-    let mut bit: u16 = 0;
-    while bit < bits {
+    for bit in 0..bits {
         at = put_creg(bit, text, at);
-        bit += 1;
     }
     at
 }
@@ -296,19 +291,16 @@ fn put_header(wires: u16, bits: u16, text: &mut [u8], from: usize) -> usize
     put_cregs(bits, text, qreg)
 }
 
-// Prints the first records of an output over so many wires and bits, if the text fits. It is measured first, so that a text that
-// does not fit leaves the buffer as it was.
-pub fn print(output: &[u8], records: usize, wires: u16, bits: u16, text: &mut [u8]) -> TextLength
+// Prints the first records of an output over so many wires and bits, if the text fits, and gives its length. It is measured first,
+// so that a text that does not fit leaves the buffer as it was.
+pub fn print(output: &[u8], records: usize, wires: u16, bits: u16, text: &mut [u8]) -> Option<usize>
     requires records_in_bounds { record_size * records ≤ length output.now }
     requires few_halvings { FewHalvings records output.now }
     ensures { (rs : List Record) → records_in records output.now ≡ some rs → Prints text.old (text_of wires bits rs) text.new result }
 {
     let room = text.len();
-    let measured = qasm_length::text_length(output, records, wires, bits, room);
-    let TextLength::Fits(_) = measured else {
-        return measured;
-    };
+    let length = qasm_length::text_length(output, records, wires, bits, room)?;
     let first = put_header(wires, bits, text, 0);
     put_lines(output, records, text, first);
-    measured
+    Some(length)
 }

@@ -4,9 +4,13 @@ use mathlib.Core.List.{List, [], ◌∷◌, ◌++◌}
 use Prim.Native.Nat.{ℕ, suc, ◌+◌, ◌≤◌, ◌<◌}
 use native.Mathlib.Omega.{arith}
 use native.Mathlib.Nat.{add-zero}
-use native.Mathlib.Numerals.{add-one}
-use lib.ListN.{length, take, get_or, set, length-append, length-take}
-use lib.Seq.{sets, length-sets, set_comm, take-suc}
+use lib.ListN.{length, set, length-append}
+use borrow.Rule.Slice.PartMut.{put_mid}
+use Rattle.std.proofs.lemmas.List.{drop-drop}
+use Rattle.std.proofs.lemmas.List.Edits.{sets-eq}
+use mathlib.Core.List.{append_assoc}
+use Prim.Native.Nat.{◌-◌}
+use lib.Seq.{sets, length-sets, set_comm}
 use Rattle.text_bytes.specs.Buffers.{Room, Puts}
 
 -- two stores, the second right after the first
@@ -47,14 +51,11 @@ puts_both {before} {from = from} {a = a} {b = b} p q = record {
   past = omega (arith, p.past, q.past, length-append a b);
 }
 
--- one byte more of a word
-pub put_more : (before text word : List ℕ) (from at i : ℕ) → i < length word → at ≡ from + i → text ≡ sets before from (take i word)
-    → set text at (get_or word i 0) ≡ sets before from (take (i + 1) word)
-put_more before text word from at i h e f =
-    let n : length (take i word) ≡ i = length-take i word ∙ omega arith in
-    let s : set (sets before from (take i word)) (from + i) (get_or word i 0) ≡ sets before from (take i word ++ (get_or word i 0 ∷ [])) =
-    ap (λ (k : ℕ). set (sets before from (take i word)) (from + k) (get_or word i 0)) (sym n) ∙ stores before (take i word) (get_or word i 0 ∷ []) from in
-    rw (e, f, add-one i, take-suc word i 0 h) s
+-- bytes copied into a part of a buffer
+pub put_part : (buffer word after : List ℕ) (from : ℕ) → from + length word ≤ length buffer → after ≡ word → put_mid from (from + length word - from) buffer after ≡ sets buffer from word
+put_part buffer word after from h e =
+    let n : from + length word - from ≡ length word = omega arith in
+    rw (n, e, drop-drop, sets-eq word buffer from h, append_assoc) refl
 
 -- the buffer keeps its length
 pub puts_size : {before after : List ℕ} {from to : ℕ} {bytes : List ℕ} → Puts before from bytes after to → length after ≡ length before

@@ -8,12 +8,7 @@ pub fn put(word: &[u8], text: &mut [u8], from: usize) -> usize
     requires { Room text.old from word.now }
     ensures { Puts text.old from word.now text.new result }
 {
-    let mut at = from;
-    let mut i = 0;
-    while i < word.len() {
-        text[at] = word[i];
-        at += 1;
-        i += 1;
-    }
-    at
+    let to = from + word.len();
+    text[from..to].copy_from_slice(word);
+    to
 }

@@ -21,11 +21,7 @@ fn clear(map: &mut [u8])
     requires { map_size ≤ length map.old }
     ensures { map.new ≡ map_into map.old [] }
 {
-    let mut i: usize = 0;
-    while i < MAP_SIZE {
-        map[i] = 0;
-        i += 1;
-    }
+    map[..MAP_SIZE].fill(0);
 }
 
 // Sets the bit of a wire, where it is not set.
@@ -82,11 +78,9 @@ fn mark_records(output: &[u8], records: usize, map: &mut [u8])
     requires map_size_in_bounds { map_size ≤ length map.old }
     ensures { Marks map.old (wires_named (records_from records output.now)) map.new }
 {
-    let mut i: usize = 0;
     let mut last: usize = NO_WIRE;
-    while i < records {
+    for i in 0..records {
         last = mark_record(output, RECORD_SIZE * i, last, map);
-        i += 1;
     }
 }
 
@@ -95,13 +89,7 @@ fn count_wires(map: &[u8]) -> u32
     requires { map_size ≤ length map.now }
     ensures { result ≡ ones_over (take map_size map.now) }
 {
-    let mut total: u32 = 0;
-    let mut i: usize = 0;
-    while i < MAP_SIZE {
-        total += u8::count_ones(map[i]);
-        i += 1;
-    }
-    total
+    map[..MAP_SIZE].iter().map(|byte| byte.count_ones()).sum()
 }
 
 // Fills the map with the wires that so many records name, and gives their number.

@@ -6,17 +6,17 @@ use Rattle.metaqasm.specs.Answers.{answered}
 use Rattle.metaqasm.proofs.TextRuns.{printed_not, printed_fully}
 use Rattle.metaqasm.proofs.printed.Goals as goal
 
-pub returns-in-TooLong : goal.returns-in-TooLong
-returns-in-TooLong c =
+pub returns-in-None : goal.returns-in-None
+returns-in-None c =
     let a = c.args in
     let out = a.output.now in
     let after = c.print.new.text in
     λ rs e. ap (λ (x : TextResult). record { result = x; output = out; text = after }) c.unprinted.ensures
-    ∙ printed_not a.text.now (text_of a.wires a.bits rs) after (record { result = answered a.run; output = out }) c.print.result (c.print.ensures rs e) c.in-TooLong.is
+    ∙ printed_not a.text.now (text_of a.wires a.bits rs) after (record { result = answered a.run; output = out }) c.print.result (c.print.ensures rs e) c.in-None.is
 
-pub returns-in-Fits : goal.returns-in-Fits
-returns-in-Fits c =
+pub returns-in-Some : goal.returns-in-Some
+returns-in-Some c =
     let a = c.args in
     let out = a.output.now in
     let after = c.print.new.text in
-    λ rs e. printed_fully a.text.now (text_of a.wires a.bits rs) after (record { result = answered a.run; output = out }) c.print.result (c.print.ensures rs e) _ c.in-Fits.is
+    λ rs e. printed_fully a.text.now (text_of a.wires a.bits rs) after (record { result = answered a.run; output = out }) c.print.result (c.print.ensures rs e) _ c.in-Some.is
