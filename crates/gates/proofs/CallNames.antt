@@ -6,8 +6,7 @@ use Prim.Native.Nat.{ℕ}
 use Rattle.language.specs.Read.{CallNumber, names, unnamed}
 use Rattle.language.proofs.Integers.{clash}
 use Rattle.fields.specs.declared.Named.{Named}
-use Rattle.std.specs.Prelude.{Result, Ok, Err}
-use Rattle.core.specs.Result.{is_err}
+use Rattle.std.specs.Prelude.{Result, Ok, Err, is_err}
 use Rattle.refusals.specs.declared.Reason.{Reason}
 use Rattle.fields.specs.CallNumber.{is_call_tag, numbered, number_in, named_at, named_in}
 use Rattle.gates.specs.Gates.{names_none, nameless_of}
