@@ -17,8 +17,9 @@ pub returns-then-len-at : goal.returns-then-len-at
 returns-then-len-at c =
     let a = c.args in
     λ limit f x e u. write_full limit a.out.now a.st a.place f x a.k (omega arith) (elim c.then-len-at.branch [
-      then-len-at-via-then-len-at w ↦ omega arith
-    | then-len-at-via-else-len-at+then-len-at-lt-RECORD_SIZE w ↦ omega arith ])
+      | then-len-at-via-then-len-at w ↦ omega arith
+      | then-len-at-via-else-len-at+then-len-at-lt-RECORD_SIZE w ↦ omega arith
+    ])
 
 pub returns : goal.returns
 returns c =
