@@ -17,7 +17,7 @@ ghost use Rattle.check_declaration.specs.Families.{checked_counts, counts_in, Bo
 
 use check_call::FamilyRow;
 use check_operand::KINDS;
-use fields::{Header, NoHeader};
+use fields::NoHeader;
 use forms::{FORM_NUMBERS, Form, Ranges, SIZE_NUMBERS, Size};
 use limits::{DEEPEST, MOST_FAMILIES, MOST_PARAMETERS, MOST_REGISTERS, MOST_VARIABLES};
 use refusals::{Reason, Refusal};
@@ -81,9 +81,10 @@ fn plain_type(
     match fields::header_at(program, at, to) {
         Err(NoHeader::End) => Err(Refusal(Reason::BadContent, parent)),
         Err(NoHeader::Cut) => Err(Refusal(Reason::BadHeader, at)),
-        Ok(Header { tag, next }) => {
+        Ok(header) => {
+            let next = header.next;
             let from = at + 3;
-            match tag {
+            match header.tag {
                 fields::QBIT => {
                     if from < next {
                         return Err(Refusal(Reason::BadContent, at));

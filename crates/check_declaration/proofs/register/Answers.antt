@@ -15,14 +15,15 @@ use Rattle.check_declaration.specs.Types.{size_row}
 use Rattle.check_declaration.specs.Registers.{checked_register}
 use Rattle.check_declaration.proofs.Registers.{size_fits_lem, size_two}
 use Rattle.check_declaration.proofs.Tables.{apart_both, row_both, in_use_set, number_size}
+use Rattle.refusals.proofs.Handed.{handed}
 use Rattle.check_declaration.proofs.register.Goals as goal
 
 pub returns-in_err-size : goal.returns-in_err-size
 returns-in_err-size c =
-    record {
-      result_value = rw c.in_err-size.was at c.register_size-size.ensures;
+    rw (handed c.from_residual.result c.from_residual.ensures.1) (record {
+      result_value = rw c.in_err-size.was at c.register_size.ensures;
       register_set = tt;
-    }
+    })
 
 pub overflow_cast-size : goal.overflow_cast-size
 overflow_cast-size c =
@@ -30,7 +31,7 @@ overflow_cast-size c =
     let program = a.program.now in
     let content = slice (a.at + 3) a.next program in
     let n = c.in_ok-size.size in
-    let f = size_fits_lem c.register_size-size.result n a.at a.count a.total a.most content c.in_ok-size.was c.register_size-size.ensures in
+    let f = size_fits_lem c.register_size.result n a.at a.count a.total a.most content c.in_ok-size.was c.register_size.ensures in
     let room = f.room in
     let fits = f.fits in
     let before = c.requires.in_use in
@@ -43,7 +44,7 @@ set_constant-requires c =
     let program = a.program.now in
     let content = slice (a.at + 3) a.next program in
     let n = c.in_ok-size.size in
-    let f = size_fits_lem c.register_size-size.result n a.at a.count a.total a.most content c.in_ok-size.was c.register_size-size.ensures in
+    let f = size_fits_lem c.register_size.result n a.at a.count a.total a.most content c.in_ok-size.was c.register_size.ensures in
     let room = f.room in
     let fits = f.fits in
     let before = c.requires.in_use in
@@ -66,7 +67,7 @@ size_row-own-requires c =
     let program = a.program.now in
     let content = slice (a.at + 3) a.next program in
     let n = c.in_ok-size.size in
-    let f = size_fits_lem c.register_size-size.result n a.at a.count a.total a.most content c.in_ok-size.was c.register_size-size.ensures in
+    let f = size_fits_lem c.register_size.result n a.at a.count a.total a.most content c.in_ok-size.was c.register_size.ensures in
     let room = f.room in
     let fits = f.fits in
     let before = c.requires.in_use in
@@ -82,7 +83,7 @@ row_number-requires c =
     let program = a.program.now in
     let content = slice (a.at + 3) a.next program in
     let n = c.in_ok-size.size in
-    let f = size_fits_lem c.register_size-size.result n a.at a.count a.total a.most content c.in_ok-size.was c.register_size-size.ensures in
+    let f = size_fits_lem c.register_size.result n a.at a.count a.total a.most content c.in_ok-size.was c.register_size.ensures in
     let room = f.room in
     let fits = f.fits in
     let before = c.requires.in_use in
@@ -95,7 +96,7 @@ offset_bounds-kinds-count c =
     let program = a.program.now in
     let content = slice (a.at + 3) a.next program in
     let n = c.in_ok-size.size in
-    let f = size_fits_lem c.register_size-size.result n a.at a.count a.total a.most content c.in_ok-size.was c.register_size-size.ensures in
+    let f = size_fits_lem c.register_size.result n a.at a.count a.total a.most content c.in_ok-size.was c.register_size.ensures in
     let room = f.room in
     let fits = f.fits in
     let before = c.requires.in_use in
@@ -108,7 +109,7 @@ bounds-kinds-count c =
     let program = a.program.now in
     let content = slice (a.at + 3) a.next program in
     let n = c.in_ok-size.size in
-    let f = size_fits_lem c.register_size-size.result n a.at a.count a.total a.most content c.in_ok-size.was c.register_size-size.ensures in
+    let f = size_fits_lem c.register_size.result n a.at a.count a.total a.most content c.in_ok-size.was c.register_size.ensures in
     let room = f.room in
     let fits = f.fits in
     let before = c.requires.in_use in
@@ -121,7 +122,7 @@ offset_bounds-sizes-own c =
     let program = a.program.now in
     let content = slice (a.at + 3) a.next program in
     let n = c.in_ok-size.size in
-    let f = size_fits_lem c.register_size-size.result n a.at a.count a.total a.most content c.in_ok-size.was c.register_size-size.ensures in
+    let f = size_fits_lem c.register_size.result n a.at a.count a.total a.most content c.in_ok-size.was c.register_size.ensures in
     let room = f.room in
     let fits = f.fits in
     let before = c.requires.in_use in
@@ -137,7 +138,7 @@ bounds-sizes-own c =
     let program = a.program.now in
     let content = slice (a.at + 3) a.next program in
     let n = c.in_ok-size.size in
-    let f = size_fits_lem c.register_size-size.result n a.at a.count a.total a.most content c.in_ok-size.was c.register_size-size.ensures in
+    let f = size_fits_lem c.register_size.result n a.at a.count a.total a.most content c.in_ok-size.was c.register_size.ensures in
     let room = f.room in
     let fits = f.fits in
     let before = c.requires.in_use in
@@ -153,7 +154,7 @@ returns c =
     let program = a.program.now in
     let content = slice (a.at + 3) a.next program in
     let n = c.in_ok-size.size in
-    let f = size_fits_lem c.register_size-size.result n a.at a.count a.total a.most content c.in_ok-size.was c.register_size-size.ensures in
+    let f = size_fits_lem c.register_size.result n a.at a.count a.total a.most content c.in_ok-size.was c.register_size.ensures in
     let room = f.room in
     let fits = f.fits in
     let before = c.requires.in_use in
@@ -169,11 +170,11 @@ returns c =
     let b = c.row_number.result in
     let names = number_size a.kind own b c.row_number.ensures in
     let d : (j : ℕ) → size_of_row (get_or kinds j 0) < own = (λ j. omega (arith, before.named j)) in
-    let two = size_two c.register_size-size.result n a.at a.count a.total a.most content c.in_ok-size.was c.register_size-size.ensures in
+    let two = size_two c.register_size.result n a.at a.count a.total a.most content c.in_ok-size.was c.register_size.ensures in
     let five : a.at + 5 ≤ a.next = omega (arith, length-slice (a.at + 3) a.next program c.requires.at_bound.1) in
     let l = c.store.new.row in
     let value = ap as_form c.store.ensures.row_after ∙ c.set_constant.ensures.f_after ∙ ap constant_form (range_back (range_yes (pos n) (omega arith))) in record {
-      result_value = sym (ap checked_register c.in_ok-size.was) ∙ c.register_size-size.ensures;
+      result_value = sym (ap checked_register c.in_ok-size.was) ∙ c.register_size.ensures;
       register_set = record {
         room = room;
         fits = fits;
