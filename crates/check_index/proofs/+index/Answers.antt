@@ -7,6 +7,7 @@ use lib.Seq.{slice}
 use Rattle.language.specs.Check.{form_of}
 use Rattle.fields.proofs.Headers.{when_whole, when_end, when_cut}
 use Rattle.refusals.specs.Reasons.{number_of}
+use Rattle.refusals.proofs.Handed.{handed}
 use Rattle.check_index.specs.Answers.{checked_form}
 use Rattle.check_index.specs.declared.IndexTag.TheVariants.{Literal, Variable, Both, Other}
 use Rattle.check_index.proofs.Forms.{index_end, index_cut, index_deep, index_acts, both_left, both_right, both_leftover, both_good_lem}
@@ -86,10 +87,10 @@ returns-in_err-mid-in-Both t c =
     let acts = index_acts program a.at a.to a.parent a.levels a.variables tag next w (Both op) c.if-levels-eq0.false c.index_tag-kind.result c.index_tag-kind.ensures c.in-Both.is in
     let r = c.index.result in
     let l = c.index.new.f in
-    record {
+    rw (handed c.from_residual.result c.from_residual.ensures.1) (record {
       f_after = both_left program a.at next a.variables (a.levels - 1) op r l c.index.ensures.f_after c.in_err-mid-in-Both.was ∙ acts;
       form_passes = tt;
-    }
+    })
 
 pub index-requires-in-Both : goal.index-requires-in-Both
 index-requires-in-Both t c =
@@ -118,10 +119,10 @@ returns-in_err-end-in-Both t c =
     let v = form_passes_upto program (a.at + 3) next r l mid c.in_ok-mid-in-Both.was c.index.ensures.form_passes in
     let s = c.index-in-Both.result in
     let k = c.index-in-Both.new.f in
-    record {
+    rw (handed c.from_residual-in_err-end-in-Both.result c.from_residual-in_err-end-in-Both.ensures.1) (record {
       f_after = both_right program a.at next a.variables (a.levels - 1) op r l c.index.ensures.f_after mid c.in_ok-mid-in-Both.was v.0 s k c.index-in-Both.ensures.f_after l c.in_err-end-in-Both.was ∙ acts;
       form_passes = tt;
-    }
+    })
 
 pub returns-then-end-next : goal.returns-then-end-next
 unfolding checked_form
