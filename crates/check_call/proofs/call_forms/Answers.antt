@@ -4,6 +4,7 @@ use mathlib.Core.List.{List, map, ◌++◌}
 use Prim.Native.Nat.{ℕ, suc, ◌+◌, ◌-◌}
 use native.Mathlib.Omega.{arith}
 use lib.ListN.{set}
+use Rattle.refusals.proofs.Handed.{handed}
 use Rattle.language.specs.Tree.{bad_index}
 use Rattle.language.specs.Read.{due, read_index, read_argument}
 use Rattle.language.specs.Form.{Form, built}
@@ -25,12 +26,8 @@ loop-i-init c =
     let a = c.args in
     (omega arith, c.requires.rows, beyond_none a.program.now a.at a.to, (λ fs ks. let z : a.m - 0 ≡ a.m = omega arith in rw z (no_forms_lem _ a.forms.now)))
 
-pub overflow_add-variables : goal.overflow_add-variables
-overflow_add-variables c =
-    omega (arith, c.args.scope.now.right.few, c.args.scope.now.right.nested)
-
-pub index-next-requires : goal.index-next-requires
-index-next-requires c =
+pub index-requires : goal.index-requires
+index-requires c =
     record {
       to_in_bounds = c.requires.to_in_bounds;
       variables_le_all_variables = omega (arith, c.args.scope.now.right.few, c.args.scope.now.right.nested);
@@ -48,18 +45,18 @@ returns-in_err-next c =
     let s = λ (fs : List Signature) (ks : List Kind). scope_with fs ks v.variables (loops_of v.loops low high) in
     let e : a.m - i.i ≡ suc n = (let h = c.loop-i-test.true in omega arith) in
     let x = due (read_index 16) (bad_index 4 a.parent) (fields_at program i.from a.to) in
-    let then = λ (c : Checked (List Form)). c >>= λ rest. good (forms_of i.i i.forms ++ rest) in record {
-      forms_after = λ fs ks. list_stops c.in_err-next.e a.m i.forms (λ rest. good (forms_of i.i i.forms ++ rest))
-          ∙ ap then (form_none (s fs ks) a.parent n a.m program i.from a.to c.requires.to_in_bounds c.index-next.result c.index-next.new.f (c.index-next.ensures.f_after ∙ scope_forms fs ks v.variables v.loops low high x) i.forms c.in_err-next.was
+    let then = λ (c : Checked (List Form)). c >>= λ rest. good (forms_of i.i i.forms ++ rest) in rw (handed c.from_residual.result c.from_residual.ensures.1) (record {
+      forms_after = λ fs ks. list_stops c.in_err-next.field-0.0 a.m i.forms (λ rest. good (forms_of i.i i.forms ++ rest))
+          ∙ ap then (form_none (s fs ks) a.parent n a.m program i.from a.to c.requires.to_in_bounds c.index.result c.index.new.f (c.index.ensures.f_after ∙ scope_forms fs ks v.variables v.loops low high x) i.forms c.in_err-next.was
           ∙ ap (λ (n : ℕ). call_forms (s fs ks) a.parent n (map read_argument (fields_at program i.from a.to))) (sym e))
           ∙ sym (i.invariant.3 fs ks);
       passes_count = tt;
       rows_2 = i.invariant.1;
-    }
+    })
 
 pub must_show-requires : goal.must_show-requires
 must_show-requires c =
-    (form_passes_upto c.args.program.now c.loop-i.from c.args.to c.index-next.result c.index-next.new.f c.in_ok-next.next c.in_ok-next.was c.index-next.ensures.form_passes).1
+    record { kept = (form_passes_upto c.args.program.now c.loop-i.from c.args.to c.index.result c.index.new.f c.in_ok-next.next c.in_ok-next.was c.index.ensures.form_passes).1 }
 
 pub returns-in_err-must_show : goal.returns-in_err-must_show
 returns-in_err-must_show c =
@@ -73,19 +70,19 @@ returns-in_err-must_show c =
     let s = λ (fs : List Signature) (ks : List Kind). scope_with fs ks v.variables (loops_of v.loops low high) in
     let e : a.m - i.i ≡ suc n = (let h = c.loop-i-test.true in omega arith) in
     let x = due (read_index 16) (bad_index 4 a.parent) (fields_at program i.from a.to) in
-    let l = c.index-next.new.f in
+    let l = c.index.new.f in
     let next = c.in_ok-next.next in
-    let u = form_passes_upto program i.from a.to c.index-next.result l next c.in_ok-next.was c.index-next.ensures.form_passes in
-    let r = c.ranges.ensures in
+    let u = form_passes_upto program i.from a.to c.index.result l next c.in_ok-next.was c.index.ensures.form_passes in
+    let r = c.ranges-in-loop-i.ensures in
     let new = set i.forms i.i l in
-    let then = λ (c : Checked (List Form)). c >>= λ rest. good (forms_of i.i i.forms ++ rest) in record {
-      forms_after = λ fs ks. list_stops c.in_err-must_show.e a.m new (λ rest. good (forms_of i.i i.forms ++ rest))
-          ∙ ap then (show_none (s fs ks) a.parent n a.m program i.from a.to c.requires.to_in_bounds c.index-next.result l (c.index-next.ensures.f_after ∙ scope_forms fs ks v.variables v.loops low high x) next c.in_ok-next.was u.0 c.must_show.result (c.must_show.ensures.result_value fs ks ∙ (λ z. must_show i.from (scope_with fs ks (r.variables z) (loops_of (r.loops z) (r.lows z) (r.highs z))) (built (as_form l)))) new c.in_err-must_show.was
+    let then = λ (c : Checked (List Form)). c >>= λ rest. good (forms_of i.i i.forms ++ rest) in rw (handed c.from_residual-in_err-must_show.result c.from_residual-in_err-must_show.ensures.1) (record {
+      forms_after = λ fs ks. list_stops c.in_err-must_show.field-0.0 a.m new (λ rest. good (forms_of i.i i.forms ++ rest))
+          ∙ ap then (show_none (s fs ks) a.parent n a.m program i.from a.to c.requires.to_in_bounds c.index.result l (c.index.ensures.f_after ∙ scope_forms fs ks v.variables v.loops low high x) next c.in_ok-next.was u.0 c.must_show.result (c.must_show.ensures.result_value fs ks ∙ (λ z. must_show i.from (scope_with fs ks (r.variables z) (loops_of (r.loops z) (r.lows z) (r.highs z))) (built (as_form l)))) new c.in_err-must_show.was
           ∙ ap (λ (n : ℕ). call_forms (s fs ks) a.parent n (map read_argument (fields_at program i.from a.to))) (sym e))
           ∙ sym (i.invariant.3 fs ks);
       passes_count = tt;
       rows_2 = rows_set i.forms 4 i.i l i.invariant.1 u.1;
-    }
+    })
 
 pub loop-i-preserved : goal.loop-i-preserved
 loop-i-preserved c =
@@ -99,10 +96,10 @@ loop-i-preserved c =
     let s = λ (fs : List Signature) (ks : List Kind). scope_with fs ks v.variables (loops_of v.loops low high) in
     let e : a.m - i.i ≡ suc n = (let h = c.loop-i-test.true in omega arith) in
     let x = due (read_index 16) (bad_index 4 a.parent) (fields_at program i.from a.to) in
-    let l = c.index-next.new.f in
+    let l = c.index.new.f in
     let next = c.in_ok-next.next in
-    let u = form_passes_upto program i.from a.to c.index-next.result l next c.in_ok-next.was c.index-next.ensures.form_passes in
-    let r = c.ranges.ensures in
+    let u = form_passes_upto program i.from a.to c.index.result l next c.in_ok-next.was c.index.ensures.form_passes in
+    let r = c.ranges-in-loop-i.ensures in
     let then = λ (c : Checked (List Form)). c >>= λ rest. good (forms_of i.i i.forms ++ rest) in
     let h = c.loop-i-test.true in
     let y = c.requires.m_le_most_variables in
@@ -112,7 +109,7 @@ loop-i-preserved c =
       beyond_more program a.at a.to i.i i.from next i.invariant.2 u.0,
       (λ fs ks. i.invariant.3 fs ks
           ∙ ap (λ (n : ℕ). then (call_forms (s fs ks) a.parent n (map read_argument (fields_at program i.from a.to)))) e
-          ∙ ap then (show_good (s fs ks) a.parent n a.m program i.from a.to c.requires.to_in_bounds c.index-next.result l (c.index-next.ensures.f_after ∙ scope_forms fs ks v.variables v.loops low high x) next c.in_ok-next.was u.0 c.must_show.result (c.must_show.ensures.result_value fs ks ∙ (λ z. must_show i.from (scope_with fs ks (r.variables z) (loops_of (r.loops z) (r.lows z) (r.highs z))) (built (as_form l)))) c.in_ok-must_show.was)
+          ∙ ap then (show_good (s fs ks) a.parent n a.m program i.from a.to c.requires.to_in_bounds c.index.result l (c.index.ensures.f_after ∙ scope_forms fs ks v.variables v.loops low high x) next c.in_ok-next.was u.0 c.must_show.result (c.must_show.ensures.result_value fs ks ∙ (λ z. must_show i.from (scope_with fs ks (r.variables z) (loops_of (r.loops z) (r.lows z) (r.highs z))) (built (as_form l)))) c.in_ok-must_show.was)
           ∙ more_forms (call_forms (s fs ks) a.parent n (map read_argument (fields_at program next a.to))) i.i i.forms l (omega arith)),
     )
 

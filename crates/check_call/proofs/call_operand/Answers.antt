@@ -30,21 +30,17 @@ passed-requires c =
 pub returns-in-Some : goal.returns-in-Some
 returns-in-Some c =
     let a = c.args in
+    let full = a.full.now in
+    let sizes = full.scope.sizes.now in
+    let formals = formals_of full in
+    let s = scope_full full in
     let program = a.program.now in
     let next = c.in-Some.next in
     let w = when_tagged program a.at a.to 51 next c.requires.to_in_bounds (sym c.with_tag.ensures ∙ c.in-Some.is) in
     record {
-      result_value = c.passed.ensures.result_value (forms_of a.m a.forms.now) ∙ ap (λ (o : Operand). call_operand (scope_full a.full.now) a.before (forms_of a.m a.forms.now) (kind_by (formals_of a.full.now) a.number a.full.now.scope.sizes.now) o) (passed_due program a.at a.to a.parent next w);
+      result_value = c.passed.ensures.result_value (forms_of a.m a.forms.now) ∙ ap (λ (o : Operand). call_operand s a.before (forms_of a.m a.forms.now) (kind_by formals a.number sizes) o) (passed_due program a.at a.to a.parent next w);
       passes = ends_passes program a.at a.to 51 next c.passed.result w c.passed.ensures.ends_at;
     }
-
-pub offset_bounds-sizes-own : goal.offset_bounds-sizes-own
-offset_bounds-sizes-own c =
-    omega (arith, c.well_formed, c.size_by-own.ensures, c.requires.number_in_bounds)
-
-pub bounds-sizes-own : goal.bounds-sizes-own
-bounds-sizes-own c =
-    omega (arith, c.well_formed, c.size_by-own.ensures, c.requires.number_in_bounds)
 
 pub taken_by-wanted-requires : goal.taken_by-wanted-requires
 taken_by-wanted-requires c =
@@ -68,12 +64,17 @@ operand-requires c =
 pub returns : goal.returns
 returns c =
     let a = c.args in
+    let full = a.full.now in
+    let sizes = full.scope.sizes.now in
+    let known = known_of full in
+    let formals = formals_of full in
+    let s = scope_full full in
     let program = a.program.now in
     let gs = forms_of a.m a.forms.now in
     let o = due read_operand (bad_operand 4 a.parent) (fields_at program a.at a.to) in
     let none = no_family_lem program a.at a.to a.parent c.requires.to_in_bounds (sym c.with_tag.ensures ∙ c.in_default.is) in record {
-      result_value = c.operand.ensures.result_value (known_of a.full.now)
-          ∙ ap (λ (d : Due). check_operand (scope_full a.full.now) d o) (c.taken_by-wanted.ensures.size_after (known_of a.full.now) ∙ (λ z. taken gs (kind_in (c.kind_by-kind.ensures z) (as_form (widened (get_or a.full.now.scope.sizes.now (c.size_by-own.ensures z) []))) (formals_of a.full.now (c.size_by-own.ensures z)))))
-          ∙ plain_operand (scope_full a.full.now) a.before gs (kind_by (formals_of a.full.now) a.number a.full.now.scope.sizes.now) o none;
+      result_value = c.operand.ensures.result_value known
+          ∙ ap (λ (d : Due). check_operand s d o) (c.taken_by-wanted.ensures.size_after known ∙ (λ z. taken gs (kind_in (c.kind_by-kind.ensures z) (as_form (widened (get_or sizes (c.size_by-own.ensures z) []))) (formals (c.size_by-own.ensures z)))))
+          ∙ plain_operand s a.before gs (kind_by formals a.number sizes) o none;
       passes = c.operand.ensures.passes;
     }

@@ -11,15 +11,19 @@ use Rattle.check_call.specs.Scopes.{signatures_of, scope_full}
 use Rattle.check_call.proofs.Calls.{call_beyond, call_found}
 use Rattle.check_call.proofs.family_call.Goals as goal
 
-pub returns-then-s-n : goal.returns-then-s-n
+pub returns-then-full-n : goal.returns-then-full-n
 unfolding checked_part
-returns-then-s-n c =
+returns-then-full-n c =
     let a = c.args in
-    call_beyond (scope_full a.full.now) a.at a.n (fields_at a.program.now a.from a.next) (row_none (signatures_of a.full.now) a.full.now.scope.visible.families 0 a.n c.if-s-n.true)
+    let full = a.full.now in
+    let v = full.scope.visible in
+    let declared = signatures_of full in
+    let s = scope_full full in
+    call_beyond s a.at a.n (fields_at a.program.now a.from a.next) (row_none declared v.families 0 a.n c.if-full-n.true)
 
 pub call_fits-requires : goal.call_fits-requires
 call_fits-requires c =
-    let h = c.if-s-n.false in
+    let h = c.if-full-n.false in
     record {
       next_in_bounds = c.requires.next_in_bounds;
       row_in_bounds = omega (arith, c.args.full.now.families_right.few, c.args.full.now.families_right.rows.enough);
@@ -28,4 +32,8 @@ call_fits-requires c =
 pub returns : goal.returns
 returns c =
     let a = c.args in
-    c.call_fits.ensures ∙ call_found (scope_full a.full.now) a.at a.n (fields_at a.program.now a.from a.next) (signatures_of a.full.now a.n) (row_get (signatures_of a.full.now) a.full.now.scope.visible.families 0 a.n c.if-s-n.false ∙ ap (λ (k : ℕ). some (signatures_of a.full.now k)) (zero-add a.n))
+    let full = a.full.now in
+    let v = full.scope.visible in
+    let declared = signatures_of full in
+    let s = scope_full full in
+    c.call_fits.ensures ∙ call_found s a.at a.n (fields_at a.program.now a.from a.next) (declared a.n) (row_get declared v.families 0 a.n c.if-full-n.false ∙ ap (λ (k : ℕ). some (declared k)) (zero-add a.n))

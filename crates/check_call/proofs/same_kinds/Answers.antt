@@ -19,42 +19,6 @@ pub loop-i-init : goal.loop-i-init
 loop-i-init c =
     (omega arith, λ formals sizes. refl)
 
-pub overflow_add-f : goal.overflow_add-f
-overflow_add-f c =
-    let h = c.loop-i-test.true in
-    let f = c.requires.count_in_bounds in
-    omega (arith, c.well_formed)
-
-pub overflow_add-a : goal.overflow_add-a
-overflow_add-a c =
-    let h = c.loop-i-test.true in
-    let f = c.requires.count_in_bounds in
-    omega (arith, c.well_formed)
-
-pub offset_bounds-kinds-f : goal.offset_bounds-kinds-f
-offset_bounds-kinds-f c =
-    let h = c.loop-i-test.true in
-    let f = c.requires.count_in_bounds in
-    omega (arith, c.well_formed)
-
-pub bounds-kinds-f : goal.bounds-kinds-f
-bounds-kinds-f c =
-    let h = c.loop-i-test.true in
-    let f = c.requires.count_in_bounds in
-    omega (arith, c.well_formed)
-
-pub offset_bounds-kinds-a : goal.offset_bounds-kinds-a
-offset_bounds-kinds-a c =
-    let h = c.loop-i-test.true in
-    let f = c.requires.count_in_bounds in
-    omega (arith, c.well_formed)
-
-pub bounds-kinds-a : goal.bounds-kinds-a
-bounds-kinds-a c =
-    let h = c.loop-i-test.true in
-    let f = c.requires.count_in_bounds in
-    omega (arith, c.well_formed)
-
 pub returns-then-not-same_kind : goal.returns-then-not-same_kind
 returns-then-not-same_kind c =
     let a = c.args in

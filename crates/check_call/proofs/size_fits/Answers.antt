@@ -35,22 +35,6 @@ returns-in_default-kind_by c =
       ends_at = refl;
     }
 
-pub offset_bounds-sizes-wanted : goal.offset_bounds-sizes-wanted
-offset_bounds-sizes-wanted c =
-    omega (arith, c.well_formed, c.size_by-wanted.ensures, c.requires.formal_in_bounds.0)
-
-pub bounds-sizes-wanted : goal.bounds-sizes-wanted
-bounds-sizes-wanted c =
-    omega (arith, c.well_formed, c.size_by-wanted.ensures, c.requires.formal_in_bounds.0)
-
-pub offset_bounds-sizes-given : goal.offset_bounds-sizes-given
-offset_bounds-sizes-given c =
-    omega (arith, c.well_formed, c.size_by-given.ensures, c.requires.formal_in_bounds.1)
-
-pub bounds-sizes-given : goal.bounds-sizes-given
-bounds-sizes-given c =
-    omega (arith, c.well_formed, c.size_by-given.ensures, c.requires.formal_in_bounds.1)
-
 pub at_least-requires : goal.at_least-requires
 at_least-requires c =
     record {

@@ -4,6 +4,7 @@ use Prim.Native.Nat.{ℕ, suc, ◌+◌}
 use native.Mathlib.Omega.{arith}
 use native.Mathlib.Numerals.{add-one}
 use lib.ListN.{drop, get_or}
+use Rattle.refusals.proofs.Handed.{handed}
 use Rattle.language.specs.Check.{plain_size, size_fits, sizes_fit}
 use Rattle.check_index.specs.Answers.{checked_part}
 use Rattle.check_operand.specs.Tables.{kind_at, kinds_at}
@@ -16,48 +17,6 @@ use Rattle.check_call.proofs.sizes_fit.Goals as goal
 pub loop-i-init : goal.loop-i-init
 loop-i-init c =
     (omega arith, λ formals. refl)
-
-pub overflow_add-f : goal.overflow_add-f
-overflow_add-f c =
-    let h = c.loop-i-test.true in
-    let f = c.requires.count_in_bounds in
-    let a = c.requires.count_in_bounds_2 in
-    omega (arith, c.well_formed)
-
-pub overflow_add-a : goal.overflow_add-a
-overflow_add-a c =
-    let h = c.loop-i-test.true in
-    let f = c.requires.count_in_bounds in
-    let a = c.requires.count_in_bounds_2 in
-    omega (arith, c.well_formed)
-
-pub offset_bounds-scope-f : goal.offset_bounds-scope-f
-offset_bounds-scope-f c =
-    let h = c.loop-i-test.true in
-    let f = c.requires.count_in_bounds in
-    let a = c.requires.count_in_bounds_2 in
-    omega (arith, c.well_formed)
-
-pub bounds-scope-f : goal.bounds-scope-f
-bounds-scope-f c =
-    let h = c.loop-i-test.true in
-    let f = c.requires.count_in_bounds in
-    let a = c.requires.count_in_bounds_2 in
-    omega (arith, c.well_formed)
-
-pub offset_bounds-scope-a : goal.offset_bounds-scope-a
-offset_bounds-scope-a c =
-    let h = c.loop-i-test.true in
-    let f = c.requires.count_in_bounds in
-    let a = c.requires.count_in_bounds_2 in
-    omega (arith, c.well_formed)
-
-pub bounds-scope-a : goal.bounds-scope-a
-bounds-scope-a c =
-    let h = c.loop-i-test.true in
-    let f = c.requires.count_in_bounds in
-    let a = c.requires.count_in_bounds_2 in
-    omega (arith, c.well_formed)
 
 pub size_fits-requires : goal.size_fits-requires
 size_fits-requires c =
@@ -73,12 +32,12 @@ returns-in_err-size_fits c =
     let a = c.args in
     let ks = a.scope.now.kinds.now in
     let sizes = a.scope.now.sizes.now in
-    let i = c.loop-i in record {
+    let i = c.loop-i in rw (handed c.from_residual.result c.from_residual.ensures.1) (record {
       result_value = λ formals. part_stops c.size_fits.result (size_fits a.at a.m (plain_by (get_or ks (a.formal + i.i) 0) sizes) (plain_size (kind_at formals (a.actual + i.i) ks sizes))) (sizes_fit a.at a.m (drop (suc i.i) (plains_at a.count a.formal ks sizes)) (drop (suc i.i) (kinds_at formals a.count a.actual ks sizes))) (c.size_fits.ensures.result_value formals) c.in_err-size_fits.was
           ∙ sym (i.invariant.1 formals
           ∙ (λ z. sizes_fit a.at a.m (row_drop (λ (j : ℕ). plain_by (get_or ks j 0) sizes) a.count a.formal i.i c.loop-i-test.true z) (row_drop (λ (j : ℕ). kind_at formals j ks sizes) a.count a.actual i.i c.loop-i-test.true z)));
       ends_at = tt;
-    }
+    })
 
 pub loop-i-preserved : goal.loop-i-preserved
 unfolding sizes_fit
