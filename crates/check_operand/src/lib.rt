@@ -16,7 +16,7 @@ ghost use Rattle.check_operand.specs.Scopes.{scope_at};
 ghost use Rattle.check_operand.specs.Operands.{checked_size, shown_form, wanted_of, SizeRight, Answerable, one_wire, two_operands, Leaves, Comparable, same_by};
 ghost use Rattle.check_index.specs.Answers.{checked_part, EndsAt, Passes};
 
-use fields::{Header, NoHeader};
+use fields::NoHeader;
 use forms::{FORM_NUMBERS, Form, OutOfRange, Ranges, Size, Unshown};
 use limits::DEEPEST;
 use refusals::{Reason, Refusal};
@@ -404,11 +404,11 @@ pub fn operand(
     match fields::header_at(program, at, to) {
         Err(NoHeader::End) => Err(Refusal(Reason::BadContent, parent)),
         Err(NoHeader::Cut) => Err(Refusal(Reason::BadHeader, at)),
-        Ok(Header { tag, next }) => match tag {
-            fields::WHOLE => whole(program, at, next, wanted, size, scope),
-            fields::ELEMENT => element(program, at, next, wanted, form, scope),
-            fields::SLICE => part(program, at, next, wanted, size, scope),
-            fields::PASSED => misplaced(program, at, next, wanted, scope),
+        Ok(header) => match header.tag {
+            fields::WHOLE => whole(program, at, header.next, wanted, size, scope),
+            fields::ELEMENT => element(program, at, header.next, wanted, form, scope),
+            fields::SLICE => part(program, at, header.next, wanted, size, scope),
+            fields::PASSED => misplaced(program, at, header.next, wanted, scope),
             _ => Err(Refusal(Reason::BadTag, at)),
         },
     }

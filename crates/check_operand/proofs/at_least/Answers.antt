@@ -3,7 +3,7 @@ use mathlib.Core.Path.{ap, ◌∙◌}
 use native.Mathlib.Omega.{arith}
 use Rattle.language.specs.Form.{difference_of, ◌then_build◌}
 use Rattle.language.specs.Check.{by_showing, must_show, size_scope}
-use Rattle.forms.specs.Flat.{as_form}
+use Rattle.forms.specs.Flat.{as_form, built_of}
 use Rattle.forms.specs.Rows.{loops_of}
 use Rattle.check_operand.proofs.Tables.{no_rows}
 use Rattle.check_operand.proofs.at_least.Goals as goal
@@ -16,7 +16,7 @@ large_enough-requires c =
     }
 
 pub returns : goal.returns
-unfolding must_show ◌then_build◌ loops_of
+unfolding must_show ◌then_build◌ built_of loops_of
 returns c =
     let a = c.args in
     record {

@@ -22,7 +22,7 @@ use Rattle.check_operand.specs.Scopes.{scope_at}
 use Rattle.check_operand.specs.Operands.{wanted_of}
 use Rattle.check_index.proofs.Answers.{form_passes_upto}
 use Rattle.check_operand.proofs.Operands.{element_none, element_beyond, element_stops, element_long, element_good, kind_stops, kind_goes}
-use Rattle.check_operand.proofs.Tables.{scope_forms, kinds_get, kinds_none}
+use Rattle.check_operand.proofs.Tables.{scope_forms, same_scope, kinds_get, kinds_none}
 use Rattle.language.specs.Check as C
 use Rattle.check_operand.proofs.Wires.{leaves_form, element_form, form_is}
 use Rattle.check_operand.proofs.element.Goals as goal
@@ -105,18 +105,6 @@ returns-then-end-next c =
       leaves = λ fs. tt;
     }
 
-pub offset_bounds-kinds-row : goal.offset_bounds-kinds-row
-offset_bounds-kinds-row c =
-    let b = c.args.scope.now.right.kind_rows in
-    let q = c.if-scope-n.false in
-    omega (arith, c.well_formed)
-
-pub bounds-kinds-row : goal.bounds-kinds-row
-bounds-kinds-row c =
-    let b = c.args.scope.now.right.kind_rows in
-    let q = c.if-scope-n.false in
-    omega (arith, c.well_formed)
-
 pub returns-in_err-element_kind : goal.returns-in_err-element_kind
 returns-in_err-element_kind c =
     let a = c.args in
@@ -141,14 +129,6 @@ returns-in_err-element_kind c =
       ends_at = tt;
       leaves = λ fs. tt;
     })
-
-pub offset_bounds-sizes-own : goal.offset_bounds-sizes-own
-offset_bounds-sizes-own c =
-    omega (arith, c.well_formed, c.size_by-own.ensures, c.args.scope.now.right.named (c.args.scope.now.visible.first + c.from-n.result))
-
-pub bounds-sizes-own : goal.bounds-sizes-own
-bounds-sizes-own c =
-    omega (arith, c.well_formed, c.size_by-own.ensures, c.args.scope.now.right.named (c.args.scope.now.visible.first + c.from-n.result))
 
 pub within-v-requires : goal.within-v-requires
 within-v-requires c =
@@ -178,6 +158,7 @@ within-v-requires c =
 pub returns : goal.returns
 returns c =
     let a = c.args in
+    let r = c.ranges-2.ensures in
     let program = a.program.now in
     let from = a.at + 3 in
     let ls = loops_of a.scope.now.visible.loops a.scope.now.lows.now a.scope.now.highs.now in
@@ -196,6 +177,7 @@ returns c =
     let good : (fs : Known) (z : List ℤ) → (element_size a.at (d fs z) (k fs) >>= λ size. check_within a.at (scope_at fs a.scope.now) size (as_form l)) ≡ check_operand (scope_at fs a.scope.now) (d fs z) (read_element a.at (slice from a.next program)) = λ fs z. element_good (scope_at fs a.scope.now) (d fs z) a.at (slice from a.next program) n program a.next e (k fs) (kinds_get fs.formals a.scope.now.visible.count a.scope.now.visible.first n a.scope.now.kinds.now a.scope.now.sizes.now (let q = c.if-scope-n.false in omega arith)) c.index.result l (c.index.ensures.f_after ∙ scope_forms (tabulated fs.declared a.scope.now.visible.families 0) (ks fs) a.scope.now.visible.variables a.scope.now.visible.loops a.scope.now.lows.now a.scope.now.highs.now i) end c.in_ok-end.was u.0 c.if-end-next.false in record {
       result_value = λ fs z. c.answered.ensures.result_value
           ∙ c.within-v.ensures a.at (tabulated fs.declared a.scope.now.visible.families 0) (ks fs)
+          ∙ ap (λ (t : C.Scope). check_within a.at t (as_form (widened (get_or a.scope.now.sizes.now c.size_by-own.result []))) (as_form l)) (same_scope (tabulated fs.declared a.scope.now.visible.families 0) (kinds_at fs.formals a.scope.now.visible.count a.scope.now.visible.first a.scope.now.kinds.now a.scope.now.sizes.now) r.variables r.loops r.lows r.highs)
           ∙ ap (λ (j : ℕ). check_within a.at (scope_at fs a.scope.now) (as_form (widened (get_or a.scope.now.sizes.now j []))) (as_form l)) (c.size_by-own.ensures ∙ ap (λ (j : ℕ). size_of_row (get_or a.scope.now.kinds.now (a.scope.now.visible.first + j) 0)) v)
           ∙ kind_goes (element_size a.at (d fs z) (k fs)) (λ m. check_within a.at (scope_at fs a.scope.now) m (as_form l)) size c.element_kind.result (c.element_kind.ensures.f_value size z fs (fs.formals (size_of_row (get_or a.scope.now.kinds.now row 0))) ∙ ap (λ (k : Kind). element_size a.at (d fs z) (kind_in k size (fs.formals (size_of_row (get_or a.scope.now.kinds.now row 0))))) (c.kind_by-kind.ensures ∙ ap (λ (j : ℕ). kind_of_row (get_or a.scope.now.kinds.now (a.scope.now.visible.first + j) 0)) v)) c.in_ok-element_kind.was
           ∙ good fs z;

@@ -1,5 +1,6 @@
 -- `check_operand::operand` meets its contract. Assumes nothing.
-use mathlib.Core.Path.{sym, ◌∙◌, subst}
+use mathlib.Core.Path.{sym, ap, ◌∙◌, subst}
+use Rattle.std.specs.Prelude.{Err}
 use Prim.Native.Nat.{◌+◌}
 use lib.Seq.{slice}
 use Rattle.language.specs.Tree.{Operand}
@@ -21,8 +22,8 @@ whole-requires c =
     let a = c.args in
     let program = a.program.now in
     let d : Known → Due = λ fs. wanted_of fs a.wanted a.size.now in
-    let tag = c.in-Ok.tag in
-    let next = c.in-Ok.next in
+    let tag = c.in-Ok.header.tag in
+    let next = c.in-Ok.header.next in
     let w = when_whole program a.at a.to tag next c.requires.to_in_bounds (sym c.header_at.ensures ∙ c.in-Ok.is) in
     let h = w.high in
     let k = c.requires.to_in_bounds in
@@ -36,8 +37,8 @@ element-requires c =
     let a = c.args in
     let program = a.program.now in
     let d : Known → Due = λ fs. wanted_of fs a.wanted a.size.now in
-    let tag = c.in-Ok.tag in
-    let next = c.in-Ok.next in
+    let tag = c.in-Ok.header.tag in
+    let next = c.in-Ok.header.next in
     let w = when_whole program a.at a.to tag next c.requires.to_in_bounds (sym c.header_at.ensures ∙ c.in-Ok.is) in
     let h = w.high in
     let k = c.requires.to_in_bounds in
@@ -50,8 +51,8 @@ part-requires c =
     let a = c.args in
     let program = a.program.now in
     let d : Known → Due = λ fs. wanted_of fs a.wanted a.size.now in
-    let tag = c.in-Ok.tag in
-    let next = c.in-Ok.next in
+    let tag = c.in-Ok.header.tag in
+    let next = c.in-Ok.header.next in
     let w = when_whole program a.at a.to tag next c.requires.to_in_bounds (sym c.header_at.ensures ∙ c.in-Ok.is) in
     let h = w.high in
     let k = c.requires.to_in_bounds in
@@ -65,14 +66,14 @@ misplaced-requires c =
     let a = c.args in
     let program = a.program.now in
     let d : Known → Due = λ fs. wanted_of fs a.wanted a.size.now in
-    let tag = c.in-Ok.tag in
-    let next = c.in-Ok.next in
+    let tag = c.in-Ok.header.tag in
+    let next = c.in-Ok.header.next in
     let w = when_whole program a.at a.to tag next c.requires.to_in_bounds (sym c.header_at.ensures ∙ c.in-Ok.is) in
     let h = w.high in
     let k = c.requires.to_in_bounds in
     record {
       at_bound = (w.low, omega arith);
-      answerable = answers_passed a.wanted program a.at a.to a.parent tag next w c.in-PASSED.is c.requires.answerable;
+      answerable = answers_passed a.wanted program a.at a.to a.parent tag next w c.in-51.is c.requires.answerable;
     }
 
 pub returns-in-Err-End : goal.returns-in-Err-End
@@ -82,7 +83,7 @@ returns-in-Err-End c =
     let program = a.program.now in
     let d : Known → Due = λ fs. wanted_of fs a.wanted a.size.now in
     record {
-      result_value = λ fs. operand_end (scope_at fs a.scope.now) (d fs) program a.at a.to a.parent (when_end program a.at a.to c.requires.to_in_bounds (sym c.header_at.ensures ∙ c.in-Err-End.is));
+      result_value = λ fs. operand_end (scope_at fs a.scope.now) (d fs) program a.at a.to a.parent (when_end program a.at a.to c.requires.to_in_bounds (sym c.header_at.ensures ∙ c.in-Err-End.is ∙ ap Err c.in-Err-End.field-0-is));
       passes = tt;
       leaves = λ fs. tt;
     }
@@ -94,73 +95,73 @@ returns-in-Err-Cut c =
     let program = a.program.now in
     let d : Known → Due = λ fs. wanted_of fs a.wanted a.size.now in
     record {
-      result_value = λ fs. operand_cut (scope_at fs a.scope.now) (d fs) program a.at a.to a.parent (when_cut program a.at a.to c.requires.to_in_bounds (sym c.header_at.ensures ∙ c.in-Err-Cut.is));
+      result_value = λ fs. operand_cut (scope_at fs a.scope.now) (d fs) program a.at a.to a.parent (when_cut program a.at a.to c.requires.to_in_bounds (sym c.header_at.ensures ∙ c.in-Err-Cut.is ∙ ap Err c.in-Err-Cut.field-0-is));
       passes = tt;
       leaves = λ fs. tt;
     }
 
-pub returns-in-WHOLE : goal.returns-in-WHOLE
-returns-in-WHOLE c =
+pub returns-in-48 : goal.returns-in-48
+returns-in-48 c =
     let a = c.args in
     let program = a.program.now in
     let d : Known → Due = λ fs. wanted_of fs a.wanted a.size.now in
-    let tag = c.in-Ok.tag in
-    let next = c.in-Ok.next in
+    let tag = c.in-Ok.header.tag in
+    let next = c.in-Ok.header.next in
     let w = when_whole program a.at a.to tag next c.requires.to_in_bounds (sym c.header_at.ensures ∙ c.in-Ok.is) in
     let h = w.high in
     let k = c.requires.to_in_bounds in
     record {
-      result_value = λ fs. c.whole.ensures.result_value fs ∙ operand_whole (scope_at fs a.scope.now) (d fs) program a.at a.to a.parent tag next w c.in-WHOLE.is;
+      result_value = λ fs. c.whole.ensures.result_value fs ∙ operand_whole (scope_at fs a.scope.now) (d fs) program a.at a.to a.parent tag next w c.in-48.is;
       passes = ends_passes program a.at a.to tag next c.whole.result w c.whole.ensures.ends_at;
-      leaves = λ fs. subst (λ (o : Operand). Leaves (scope_at fs a.scope.now) o c.whole.result a.form.now) (sym (reads_whole program a.at a.to a.parent tag next w c.in-WHOLE.is)) (leaves_form (scope_at fs a.scope.now) (read_whole a.at (slice (a.at + 3) next program)) c.whole.result a.form.now (whole_form (scope_at fs a.scope.now) a.at (slice (a.at + 3) next program) a.form.now));
+      leaves = λ fs. subst (λ (o : Operand). Leaves (scope_at fs a.scope.now) o c.whole.result a.form.now) (sym (reads_whole program a.at a.to a.parent tag next w c.in-48.is)) (leaves_form (scope_at fs a.scope.now) (read_whole a.at (slice (a.at + 3) next program)) c.whole.result a.form.now (whole_form (scope_at fs a.scope.now) a.at (slice (a.at + 3) next program) a.form.now));
     }
 
-pub returns-in-ELEMENT : goal.returns-in-ELEMENT
-returns-in-ELEMENT c =
+pub returns-in-49 : goal.returns-in-49
+returns-in-49 c =
     let a = c.args in
     let program = a.program.now in
     let d : Known → Due = λ fs. wanted_of fs a.wanted a.size.now in
-    let tag = c.in-Ok.tag in
-    let next = c.in-Ok.next in
+    let tag = c.in-Ok.header.tag in
+    let next = c.in-Ok.header.next in
     let w = when_whole program a.at a.to tag next c.requires.to_in_bounds (sym c.header_at.ensures ∙ c.in-Ok.is) in
     let h = w.high in
     let k = c.requires.to_in_bounds in
     record {
-      result_value = λ fs. c.element.ensures.result_value fs a.size.now ∙ operand_element (scope_at fs a.scope.now) (d fs) program a.at a.to a.parent tag next w c.in-ELEMENT.is;
+      result_value = λ fs. c.element.ensures.result_value fs a.size.now ∙ operand_element (scope_at fs a.scope.now) (d fs) program a.at a.to a.parent tag next w c.in-49.is;
       passes = ends_passes program a.at a.to tag next c.element.result w c.element.ensures.ends_at;
-      leaves = λ fs. subst (λ (o : Operand). Leaves (scope_at fs a.scope.now) o c.element.result c.element.new.form) (sym (reads_element program a.at a.to a.parent tag next w c.in-ELEMENT.is)) (c.element.ensures.leaves fs);
+      leaves = λ fs. subst (λ (o : Operand). Leaves (scope_at fs a.scope.now) o c.element.result c.element.new.form) (sym (reads_element program a.at a.to a.parent tag next w c.in-49.is)) (c.element.ensures.leaves fs);
     }
 
-pub returns-in-SLICE : goal.returns-in-SLICE
-returns-in-SLICE c =
+pub returns-in-50 : goal.returns-in-50
+returns-in-50 c =
     let a = c.args in
     let program = a.program.now in
     let d : Known → Due = λ fs. wanted_of fs a.wanted a.size.now in
-    let tag = c.in-Ok.tag in
-    let next = c.in-Ok.next in
+    let tag = c.in-Ok.header.tag in
+    let next = c.in-Ok.header.next in
     let w = when_whole program a.at a.to tag next c.requires.to_in_bounds (sym c.header_at.ensures ∙ c.in-Ok.is) in
     let h = w.high in
     let k = c.requires.to_in_bounds in
     record {
-      result_value = λ fs. c.part.ensures.result_value fs ∙ operand_slice (scope_at fs a.scope.now) (d fs) program a.at a.to a.parent tag next w c.in-SLICE.is;
+      result_value = λ fs. c.part.ensures.result_value fs ∙ operand_slice (scope_at fs a.scope.now) (d fs) program a.at a.to a.parent tag next w c.in-50.is;
       passes = ends_passes program a.at a.to tag next c.part.result w c.part.ensures.ends_at;
-      leaves = λ fs. subst (λ (o : Operand). Leaves (scope_at fs a.scope.now) o c.part.result a.form.now) (sym (reads_slice program a.at a.to a.parent tag next w c.in-SLICE.is)) (leaves_form (scope_at fs a.scope.now) (read_slice a.at (slice (a.at + 3) next program)) c.part.result a.form.now (slice_form (scope_at fs a.scope.now) a.at (slice (a.at + 3) next program) a.form.now));
+      leaves = λ fs. subst (λ (o : Operand). Leaves (scope_at fs a.scope.now) o c.part.result a.form.now) (sym (reads_slice program a.at a.to a.parent tag next w c.in-50.is)) (leaves_form (scope_at fs a.scope.now) (read_slice a.at (slice (a.at + 3) next program)) c.part.result a.form.now (slice_form (scope_at fs a.scope.now) a.at (slice (a.at + 3) next program) a.form.now));
     }
 
-pub returns-in-PASSED : goal.returns-in-PASSED
-returns-in-PASSED c =
+pub returns-in-51 : goal.returns-in-51
+returns-in-51 c =
     let a = c.args in
     let program = a.program.now in
     let d : Known → Due = λ fs. wanted_of fs a.wanted a.size.now in
-    let tag = c.in-Ok.tag in
-    let next = c.in-Ok.next in
+    let tag = c.in-Ok.header.tag in
+    let next = c.in-Ok.header.next in
     let w = when_whole program a.at a.to tag next c.requires.to_in_bounds (sym c.header_at.ensures ∙ c.in-Ok.is) in
     let h = w.high in
     let k = c.requires.to_in_bounds in
     record {
-      result_value = λ fs. c.misplaced.ensures.result_value fs a.size.now ∙ operand_passed (scope_at fs a.scope.now) (d fs) program a.at a.to a.parent tag next w c.in-PASSED.is;
+      result_value = λ fs. c.misplaced.ensures.result_value fs a.size.now ∙ operand_passed (scope_at fs a.scope.now) (d fs) program a.at a.to a.parent tag next w c.in-51.is;
       passes = ends_passes program a.at a.to tag next c.misplaced.result w c.misplaced.ensures.ends_at;
-      leaves = λ fs. subst (λ (o : Operand). Leaves (scope_at fs a.scope.now) o c.misplaced.result a.form.now) (sym (reads_passed program a.at a.to a.parent tag next w c.in-PASSED.is)) (leaves_form (scope_at fs a.scope.now) (read_passed a.at (slice (a.at + 3) next program)) c.misplaced.result a.form.now (passed_form (scope_at fs a.scope.now) a.at (slice (a.at + 3) next program) a.form.now));
+      leaves = λ fs. subst (λ (o : Operand). Leaves (scope_at fs a.scope.now) o c.misplaced.result a.form.now) (sym (reads_passed program a.at a.to a.parent tag next w c.in-51.is)) (leaves_form (scope_at fs a.scope.now) (read_passed a.at (slice (a.at + 3) next program)) c.misplaced.result a.form.now (passed_form (scope_at fs a.scope.now) a.at (slice (a.at + 3) next program) a.form.now));
     }
 
 pub returns-in_default : goal.returns-in_default
@@ -169,13 +170,13 @@ returns-in_default c =
     let a = c.args in
     let program = a.program.now in
     let d : Known → Due = λ fs. wanted_of fs a.wanted a.size.now in
-    let tag = c.in-Ok.tag in
-    let next = c.in-Ok.next in
+    let tag = c.in-Ok.header.tag in
+    let next = c.in-Ok.header.next in
     let w = when_whole program a.at a.to tag next c.requires.to_in_bounds (sym c.header_at.ensures ∙ c.in-Ok.is) in
     let h = w.high in
     let k = c.requires.to_in_bounds in
     record {
-      result_value = λ fs. operand_other (scope_at fs a.scope.now) (d fs) program a.at a.to a.parent tag next w c.in_default.not-WHOLE c.in_default.not-ELEMENT c.in_default.not-SLICE c.in_default.not-PASSED;
+      result_value = λ fs. operand_other (scope_at fs a.scope.now) (d fs) program a.at a.to a.parent tag next w c.in_default.not-48 c.in_default.not-49 c.in_default.not-50 c.in_default.not-51;
       passes = tt;
       leaves = λ fs. tt;
     }

@@ -6,7 +6,7 @@ use native.Mathlib.Omega.{arith}
 use lib.ListN.{get_or}
 use lib.Seq.{slice}
 use Rattle.refusals.proofs.Handed.{handed}
-use Rattle.language.specs.Check.{slice_fits, Due, Kind}
+use Rattle.language.specs.Check.{slice_fits, Due, Kind, Scope}
 use Rattle.fields.specs.Header.{fields_at}
 use Rattle.fields.proofs.Headers.{one_byte, slice_none}
 use Rattle.forms.specs.Flat.{widened, as_form}
@@ -17,7 +17,7 @@ use Rattle.check_operand.specs.Scopes.{scope_at}
 use Rattle.check_operand.specs.Operands.{wanted_of}
 use Rattle.check_index.proofs.TwoBounds.{bounds_upto}
 use Rattle.check_operand.proofs.Slices.{slice_empty, slice_beyond, slice_stops, slice_long, slice_good}
-use Rattle.check_operand.proofs.Tables.{bounds_same, kinds_get, kinds_none}
+use Rattle.check_operand.proofs.Tables.{bounds_same, same_scope, kinds_get, kinds_none}
 use Rattle.check_operand.proofs.part.Goals as goal
 
 pub returns-then-next-from : goal.returns-then-next-from
@@ -88,26 +88,6 @@ returns-then-end-next c =
       ends_at = tt;
     }
 
-pub offset_bounds-kinds-row : goal.offset_bounds-kinds-row
-offset_bounds-kinds-row c =
-    let b = c.args.scope.now.right.kind_rows in
-    let q = c.if-scope-n.false in
-    omega (arith, c.well_formed)
-
-pub bounds-kinds-row : goal.bounds-kinds-row
-bounds-kinds-row c =
-    let b = c.args.scope.now.right.kind_rows in
-    let q = c.if-scope-n.false in
-    omega (arith, c.well_formed)
-
-pub offset_bounds-sizes-own : goal.offset_bounds-sizes-own
-offset_bounds-sizes-own c =
-    omega (arith, c.well_formed, c.size_by-own.ensures, c.args.scope.now.right.named (c.args.scope.now.visible.first + c.from-n.result))
-
-pub bounds-sizes-own : goal.bounds-sizes-own
-bounds-sizes-own c =
-    omega (arith, c.well_formed, c.size_by-own.ensures, c.args.scope.now.right.named (c.args.scope.now.visible.first + c.from-n.result))
-
 pub slice_fits-requires : goal.slice_fits-requires
 slice_fits-requires c =
     let a = c.args in
@@ -126,6 +106,7 @@ slice_fits-requires c =
 pub returns : goal.returns
 returns c =
     let a = c.args in
+    let r = c.ranges-2.ensures in
     let program = a.program.now in
     let from = a.at + 3 in
     let ks : Known → List Kind = λ fs. kinds_at fs.formals a.scope.now.visible.count a.scope.now.visible.first a.scope.now.kinds.now a.scope.now.sizes.now in
@@ -141,6 +122,7 @@ returns c =
     let end = c.in_ok-end.end in
     let u = bounds_upto program (a.at + 4) a.next c.two_indexes.result l h end c.in_ok-end.was c.two_indexes.ensures.bounds_pass in record {
       result_value = λ fs. c.slice_fits.ensures.result_value (tabulated fs.declared a.scope.now.visible.families 0) (ks fs) fs (fs.formals c.size_by-own.result)
+          ∙ ap (λ (t : Scope). slice_fits a.at t (d fs) (kind_in c.kind_by-kind.result (as_form (widened (get_or a.scope.now.sizes.now c.size_by-own.result []))) (fs.formals c.size_by-own.result)) (as_form l) (as_form h)) (same_scope (tabulated fs.declared a.scope.now.visible.families 0) (kinds_at fs.formals a.scope.now.visible.count a.scope.now.visible.first a.scope.now.kinds.now a.scope.now.sizes.now) r.variables r.loops r.lows r.highs)
           ∙ (λ i. slice_fits a.at (scope_at fs a.scope.now) (d fs) (kind_in (c.kind_by-kind.ensures i) (as_form (widened (get_or a.scope.now.sizes.now (c.size_by-own.ensures i) []))) (fs.formals (c.size_by-own.ensures i))) (as_form l) (as_form h))
           ∙ ap (λ (i : ℕ). slice_fits a.at (scope_at fs a.scope.now) (d fs) (kind_at fs.formals (a.scope.now.visible.first + i) a.scope.now.kinds.now a.scope.now.sizes.now) (as_form l) (as_form h)) v
           ∙ slice_good (scope_at fs a.scope.now) (d fs) a.at (slice from a.next program) n program a.next e (k fs) (kinds_get fs.formals a.scope.now.visible.count a.scope.now.visible.first n a.scope.now.kinds.now a.scope.now.sizes.now (let q = c.if-scope-n.false in omega arith)) c.two_indexes.result l h (c.two_indexes.ensures.high_after ∙ bounds_same (tabulated fs.declared a.scope.now.visible.families 0) (ks fs) a.scope.now.visible.variables a.scope.now.visible.loops a.scope.now.lows.now a.scope.now.highs.now a.at inside) end c.in_ok-end.was u.0 c.if-end-next.false;

@@ -58,7 +58,7 @@ returns-then-is_err c =
     let fits : List Signature → List Kind → Known → Formal → Wanted → K.Kind → Checked (Unit {0}) = λ fs ks known g w k. slice_fits a.at (s fs ks) (wanted_of known w m) (kind_in k size g) first last in
     let l = c.slice_within-v.new.last in
     record {
-      result_value = λ fs ks known g. c.answered.ensures.result_value ∙ lies_stops a.at (s fs ks) m size first last known g c.in-Register.known (shown_of c.slice_within-v.result) l (c.slice_within-v.ensures.last_after a.at fs ks) (err_not_shown c.slice_within-v.result (sym c.is_err.ensures ∙ c.if-is_err.true)) ∙ (λ i. fits fs ks known g (sym c.in-Register.is i) (sym c.in-Quantum.is i));
+      result_value = λ fs ks known g. c.answered.ensures.result_value ∙ lies_stops a.at (s fs ks) m size first last known g c.in-Register.known (shown_of c.slice_within-v.result) l (c.slice_within-v.ensures.last_after a.at fs ks) (err_not_shown c.slice_within-v.result (sym c.is_err.ensures.value ∙ c.if-is_err.true)) ∙ (λ i. fits fs ks known g (sym c.in-Register.is i) (sym c.in-Quantum.is i));
       ends_at = c.answered.ensures.ends_at;
     }
 
@@ -66,7 +66,7 @@ pub large_enough-w-requires : goal.large_enough-w-requires
 large_enough-w-requires c =
     record {
       kept = rw c.in-Register.is at c.requires.size_right;
-      kept_2 = c.slice_within-v.ensures.kept_3 (ok_shown c.slice_within-v.result (sym c.is_err.ensures ∙ c.if-is_err.false));
+      kept_2 = c.slice_within-v.ensures.kept_3 (ok_shown c.slice_within-v.result (sym c.is_err.ensures.value ∙ c.if-is_err.false));
     }
 
 pub returns : goal.returns
@@ -82,6 +82,6 @@ returns c =
     let fits : List Signature → List Kind → Known → Formal → Wanted → K.Kind → Checked (Unit {0}) = λ fs ks known g w k. slice_fits a.at (s fs ks) (wanted_of known w m) (kind_in k size g) first last in
     let l = c.slice_within-v.new.last in
     record {
-      result_value = λ fs ks known g. c.answered-2.ensures.result_value ∙ ap (by_showing a.at) c.large_enough-w.ensures ∙ register_good a.at (s fs ks) (as_form l) m known g c.in-Register.known ∙ lies_goes a.at (s fs ks) m size first last known g c.in-Register.known (shown_of c.slice_within-v.result) l (c.slice_within-v.ensures.last_after a.at fs ks) (ok_shown c.slice_within-v.result (sym c.is_err.ensures ∙ c.if-is_err.false)) ∙ (λ i. fits fs ks known g (sym c.in-Register.is i) (sym c.in-Quantum.is i));
+      result_value = λ fs ks known g. c.answered-2.ensures.result_value ∙ ap (by_showing a.at) c.large_enough-w.ensures ∙ register_good a.at (s fs ks) (as_form l) m known g c.in-Register.known ∙ lies_goes a.at (s fs ks) m size first last known g c.in-Register.known (shown_of c.slice_within-v.result) l (c.slice_within-v.ensures.last_after a.at fs ks) (ok_shown c.slice_within-v.result (sym c.is_err.ensures.value ∙ c.if-is_err.false)) ∙ (λ i. fits fs ks known g (sym c.in-Register.is i) (sym c.in-Quantum.is i));
       ends_at = c.answered-2.ensures.ends_at;
     }

@@ -37,7 +37,7 @@ returns-in_err-mid c =
     let y : Known → Checked (Unit {0}) = λ fs. (check_operand (s fs) (d fs) (operand_due a.at 1 all) >> no_leftover a.at (ending (drop 2 all))) in
     let t : Known → Checked (Unit {0}) = λ fs. last_test a.at (s fs) (d fs) (operand_due a.at 0 all) (operand_due a.at 1 all) in
     rw (handed c.from_residual.result c.from_residual.ensures.1) (record {
-      result_value = λ fs. part_stops c.operand.result (x fs >> y fs) (t fs) (part_stops c.operand.result (x fs) (y fs) (c.operand.ensures.result_value fs) c.in_err-mid.was) c.in_err-mid.was ∙ two_then a.at (s fs) (d fs) (operand_due a.at 0 all) (operand_due a.at 1 all) (ending (drop 2 all));
+      result_value = λ fs. part_stops _ (x fs >> y fs) (t fs) (part_stops c.operand.result (x fs) (y fs) (c.operand.ensures.result_value fs) c.in_err-mid.was) refl ∙ two_then a.at (s fs) (d fs) (operand_due a.at 0 all) (operand_due a.at 1 all) (ending (drop 2 all));
       ends_at = tt;
     })
 
@@ -67,7 +67,7 @@ returns-in_err-end c =
     let l = no_leftover a.at (ending (drop 1 (fields_at program mid a.next))) in
     let first : (fs : Known) → (x fs >> y fs) ≡ (z fs >> l) = λ fs. part_goes c.operand.result (x fs) (c.operand.ensures.result_value fs) mid (y fs) c.in_ok-mid.was ∙ second_is (s fs) (d fs) program a.at from a.next mid v in
     rw (handed c.from_residual-in_err-end.result c.from_residual-in_err-end.ensures.1) (record {
-      result_value = λ fs. part_stops c.operand-2.result (x fs >> y fs) (t fs) (part_stops c.operand-2.result (z fs) l (c.operand-2.ensures.result_value fs) c.in_err-end.was ∙ sym (first fs)) c.in_err-end.was ∙ two_then a.at (s fs) (d fs) (operand_due a.at 0 all) (operand_due a.at 1 all) (ending (drop 2 all));
+      result_value = λ fs. part_stops _ (x fs >> y fs) (t fs) (part_stops c.operand-2.result (z fs) l (c.operand-2.ensures.result_value fs) c.in_err-end.was ∙ sym (first fs)) refl ∙ two_then a.at (s fs) (d fs) (operand_due a.at 0 all) (operand_due a.at 1 all) (ending (drop 2 all));
       ends_at = tt;
     })
 

@@ -5,7 +5,7 @@ use Prim.Native.Nat.{ℕ, ◌+◌}
 use native.Mathlib.Omega.{arith}
 use lib.ListN.{get_or}
 use lib.Seq.{slice, length-slice}
-use Rattle.language.specs.Check.{whole_fits, Due, Kind}
+use Rattle.language.specs.Check.{whole_fits, Due, Kind, Scope}
 use Rattle.fields.proofs.Headers.{one_byte, slice_none}
 use Rattle.forms.specs.Flat.{widened, as_form}
 use Rattle.forms.specs.Rows.{loops_of}
@@ -15,7 +15,7 @@ use Rattle.check_operand.specs.Scopes.{scope_at}
 use Rattle.check_operand.specs.Operands.{wanted_of}
 use Rattle.forms.proofs.Laws.{fewer}
 use Rattle.check_operand.proofs.Operands.{whole_none, whole_beyond, whole_long, whole_good}
-use Rattle.check_operand.proofs.Tables.{kinds_get, kinds_none}
+use Rattle.check_operand.proofs.Tables.{same_scope, kinds_get, kinds_none}
 use Rattle.check_operand.proofs.whole.Goals as goal
 
 pub returns-then-next-from : goal.returns-then-next-from
@@ -69,20 +69,6 @@ returns-then-next-from-ne1 c =
       ends_at = tt;
     }
 
-pub bounds-kinds-row : goal.bounds-kinds-row
-bounds-kinds-row c =
-    let b = c.args.scope.now.right.kind_rows in
-    let q = c.if-scope-n.false in
-    omega (arith, c.well_formed)
-
-pub offset_bounds-sizes-own : goal.offset_bounds-sizes-own
-offset_bounds-sizes-own c =
-    omega (arith, c.well_formed, c.size_by-own.ensures, c.args.scope.now.right.named (c.args.scope.now.visible.first + c.from-n.result))
-
-pub bounds-sizes-own : goal.bounds-sizes-own
-bounds-sizes-own c =
-    omega (arith, c.well_formed, c.size_by-own.ensures, c.args.scope.now.right.named (c.args.scope.now.visible.first + c.from-n.result))
-
 pub whole_fits-requires : goal.whole_fits-requires
 whole_fits-requires c =
     let f = c.args.scope.now.right.few in
@@ -95,6 +81,7 @@ whole_fits-requires c =
 pub returns : goal.returns
 returns c =
     let a = c.args in
+    let r = c.ranges-2.ensures in
     let program = a.program.now in
     let from = a.at + 3 in
     let ls = loops_of a.scope.now.visible.loops a.scope.now.lows.now a.scope.now.highs.now in
@@ -107,6 +94,7 @@ returns c =
     let k : Known → Kind = λ fs. kind_at fs.formals (a.scope.now.visible.first + n) a.scope.now.kinds.now a.scope.now.sizes.now in
     let y = c.if-next-from-ne1.false in record {
       result_value = λ fs. c.whole_fits.ensures.result_value (tabulated fs.declared a.scope.now.visible.families 0) (kinds_at fs.formals a.scope.now.visible.count a.scope.now.visible.first a.scope.now.kinds.now a.scope.now.sizes.now) fs (fs.formals c.size_by-own.result)
+          ∙ ap (λ (t : Scope). whole_fits a.at t (d fs) (kind_in c.kind_by-kind.result (as_form (widened (get_or a.scope.now.sizes.now c.size_by-own.result []))) (fs.formals c.size_by-own.result))) (same_scope (tabulated fs.declared a.scope.now.visible.families 0) (kinds_at fs.formals a.scope.now.visible.count a.scope.now.visible.first a.scope.now.kinds.now a.scope.now.sizes.now) r.variables r.loops r.lows r.highs)
           ∙ (λ i. whole_fits a.at (scope_at fs a.scope.now) (d fs) (kind_in (c.kind_by-kind.ensures i) (as_form (widened (get_or a.scope.now.sizes.now (c.size_by-own.ensures i) []))) (fs.formals (c.size_by-own.ensures i))))
           ∙ ap (λ (i : ℕ). whole_fits a.at (scope_at fs a.scope.now) (d fs) (kind_at fs.formals (a.scope.now.visible.first + i) a.scope.now.kinds.now a.scope.now.sizes.now)) v
           ∙ whole_good (scope_at fs a.scope.now) (d fs) a.at (slice from a.next program) n more e (k fs) (kinds_get fs.formals a.scope.now.visible.count a.scope.now.visible.first n a.scope.now.kinds.now a.scope.now.sizes.now (let q = c.if-scope-n.false in omega arith)) (slice_none (from + 1) a.next program (omega arith));
