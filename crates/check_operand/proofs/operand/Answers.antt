@@ -176,7 +176,7 @@ returns-in_default c =
     let h = w.high in
     let k = c.requires.to_in_bounds in
     record {
-      result_value = λ fs. operand_other (scope_at fs a.scope.now) (d fs) program a.at a.to a.parent tag next w c.in_default.not-48 c.in_default.not-49 c.in_default.not-50 c.in_default.not-51;
+      result_value = λ fs. operand_other (scope_at fs a.scope.now) (d fs) program a.at a.to a.parent tag next w (omega arith) (omega arith) (omega arith) (omega arith);
       passes = tt;
       leaves = λ fs. tt;
     }

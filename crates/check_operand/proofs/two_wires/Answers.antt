@@ -1,10 +1,5 @@
 -- `check_operand::two_wires` meets its contract. Assumes nothing.
 use Rattle.check_operand.specs.Operands.{wanted_of}
-use Rattle.check_operand.proofs.OperandKinds.{is_made}
-use Rattle.check_operand.proofs.Tables.{row_get}
-use Rattle.check_operand.proofs.Passed.{two_first}
-use Rattle.check_operand.proofs.Slices.{slice_empty}
-use Rattle.check_operand.proofs.Wires.{leaves_form}
 use Rattle.check_operand.proofs.two_wires.Goals as goal
 
 pub two_operands-requires : goal.two_operands-requires
