@@ -9,40 +9,36 @@ use lib.ListN.{take, drop}
 use lib.Seq.{slice, drop-drop}
 use lib.Dec.{eqb}
 use lib.IntN.{ℤ}
-use types.Run.{OneOf}
-use denote.Enum.Declared.{tag_of}
 use Rattle.language.specs.Tree.{Place, Index, literal, variable, operation, bad_index, Operation, sum, difference, product}
 use Rattle.language.specs.Form.{in_range}
 use Rattle.language.specs.Read.{Field, field, bad_header, fields, read_index, index_by, deep_index, choose, due, read_literal, read_variable, operation_of, is_index_tag}
 use Rattle.language.specs.Machine.{Run, evaluate, inside, operate, after, ◌>>=◌, no_meaning}
-use Rattle.fields.specs.declared.Header.{Header}
-use Rattle.fields.specs.declared.Header.TheVariants.{Whole, End, Cut}
-use Rattle.indexes.specs.declared.Value.{Value}
-use Rattle.indexes.specs.declared.Value.TheVariants.{Is, Over, Stuck}
-use Rattle.indexes.specs.Values.{value_told, Ranged, InsideIs, LeafIs, TagOf, OperateIs, IndexIs, IndexAt}
-use Rattle.fields.specs.contracts.Header.{the_type}
-use Rattle.indexes.specs.contracts.Value.{the_type as value-type}
-use Rattle.fields.proofs.Parts.{not_first}
+use Rattle.std.specs.Prelude.{Result, Ok, Err}
+use Rattle.fields.specs.declared.NoHeader.{NoHeader}
+use Rattle.fields.specs.declared.NoHeader.TheVariants.{End, Cut}
+use Rattle.indexes.specs.declared.Fault.{Fault}
+use Rattle.indexes.specs.declared.Fault.TheVariants.{Over, Stuck}
+use Rattle.indexes.specs.Values.{fault_told, value_told, Ranged, InsideIs, LeafIs, TagOf, OperateIs, IndexIs, IndexAt}
 use Rattle.fields.proofs.Between.{look_in, in_whole, in_none, in_bad}
+use Rattle.indexes.proofs.Leaves.{fault_on}
 
 -- ---- a part
 
 module _ (levels : ℕ) (l : List ℕ) (at to : ℕ) (values : List ℤ) where
-  pub part_none : (p q r : Place) → OneOf (1 ∷ 2 ∷ []) (tag_of the_type (look_in l at to))
+  pub part_none : {e : NoHeader} → look_in l at to ≡ Err e → (p q r : Place)
       → evaluate p values (due (read_index levels) (bad_index 4 q) (fields r (slice at to l))) ≡ no_meaning
   unfolding due evaluate read_index index_by deep_index
-  part_none p q r = go (look_in l at to) refl
+  part_none {e = e} h p q r = go e h
     where
       bad : (n : ℕ) → evaluate p values (read_index n (bad_header r)) ≡ no_meaning
       bad zero = refl
       bad (suc n) = refl
 
-      go : (f : Header) → look_in l at to ≡ f → OneOf (1 ∷ 2 ∷ []) (tag_of the_type f) → evaluate p values (due (read_index levels) (bad_index 4 q) (fields r (slice at to l))) ≡ no_meaning
-      go (Whole u n) e h = absurd (not_first h)
-      go End e h = rw (in_none l at to e r)
-      go Cut e h = rw (in_bad l at to e r) (bad levels)
+      go : (e : NoHeader) → look_in l at to ≡ Err e → evaluate p values (due (read_index levels) (bad_index 4 q) (fields r (slice at to l))) ≡ no_meaning
+      go End h = rw (in_none l at to h r)
+      go Cut h = rw (in_bad l at to h r) (bad levels)
 
-  pub part_some : (p q r : Place) (tag next : ℕ) (v : Value) → look_in l at to ≡ Whole tag next → IndexIs tag (slice (at + 3) next l) levels values v
+  pub part_some : (p q r : Place) (tag next : ℕ) (v : Result ℤ Fault) → look_in l at to ≡ Ok (record { tag = tag; next = next }) → IndexIs tag (slice (at + 3) next l) levels values v
       → evaluate p values (due (read_index levels) (bad_index 4 q) (fields r (slice at to l))) ≡ value_told p v
   unfolding due
   part_some p q r tag next v e w = rw ((in_whole l at to tag next e).first r) (sym (w.same p r))
@@ -56,25 +52,25 @@ level zero f h = absurd (h refl)
 level (suc n) f h = let e : suc n - 1 ≡ n = omega arith in rw e
 
 module _ (tag : ℕ) (l : List ℕ) (levels : ℕ) (values : List ℤ) where
-  pub at_deepest : levels ≡ 0 → IndexIs tag l levels values Stuck
-  unfolding read_index deep_index value_told Ranged evaluate
+  pub at_deepest : levels ≡ 0 → IndexIs tag l levels values (Err Stuck)
+  unfolding read_index deep_index fault_told value_told Ranged evaluate
   at_deepest h = record { ranged = tt; same = λ p q. rw h (go (is_index_tag tag) p q) }
     where
       go : (b : Bool) (p q : Place) → no_meaning ≡ evaluate p values (cond b (bad_index 5 q) (bad_index 3 q))
       go true p q = refl
       go false p q = refl
 
-  pub at_literal : (levels ≡ 0 → ⊥) → tag ≡ 64 → (r : Value) → LeafIs read_literal l values r → IndexIs tag l levels values r
+  pub at_literal : (levels ≡ 0 → ⊥) → tag ≡ 64 → (r : Result ℤ Fault) → LeafIs read_literal l values r → IndexIs tag l levels values r
   unfolding index_by choose
   at_literal h e r w = record { ranged = w.ranged; same = λ p q. rw (level levels (field q tag l) h, e) (w.same p q) }
 
-  pub at_variable : (levels ≡ 0 → ⊥) → tag ≡ 65 → (r : Value) → LeafIs read_variable l values r → IndexIs tag l levels values r
+  pub at_variable : (levels ≡ 0 → ⊥) → tag ≡ 65 → (r : Result ℤ Fault) → LeafIs read_variable l values r → IndexIs tag l levels values r
   unfolding index_by choose
   at_variable h e r w = record { ranged = w.ranged; same = λ p q. rw (level levels (field q tag l) h, e) (w.same p q) }
 
   -- a tag that is none of the five
-  pub at_other : (levels ≡ 0 → ⊥) → (tag ≡ 64 → ⊥) → (tag ≡ 65 → ⊥) → (tag ≡ 66 → ⊥) → (tag ≡ 67 → ⊥) → (tag ≡ 68 → ⊥) → IndexIs tag l levels values Stuck
-  unfolding index_by choose value_told Ranged evaluate
+  pub at_other : (levels ≡ 0 → ⊥) → (tag ≡ 64 → ⊥) → (tag ≡ 65 → ⊥) → (tag ≡ 66 → ⊥) → (tag ≡ 67 → ⊥) → (tag ≡ 68 → ⊥) → IndexIs tag l levels values (Err Stuck)
+  unfolding index_by choose fault_told value_told Ranged evaluate
   at_other h a b c d e = record {
     ranged = tt;
     same = λ p q.
@@ -133,14 +129,14 @@ tag_none tag a b c o t = go (eqb tag 64) refl (eqb tag 65) refl
     go false e true f = no (rw (e, f))
     go false e false f = no (rw (e, f, ne_eqb tag 66 a, ne_eqb tag 67 b, ne_eqb tag 68 c))
 
-pub operated : (tag : ℕ) (o : Operation) (x y : ℤ) (r : Value) → TagOf o tag → InsideIs (operate o x y) r → OperateIs tag x y r
+pub operated : (tag : ℕ) (o : Operation) (x y : ℤ) (r : Result ℤ Fault) → TagOf o tag → InsideIs (operate o x y) r → OperateIs tag x y r
 operated tag o x y r t i = record {
   ranged = i.ranged;
   same = λ u w p. i.same p ∙ ap (λ (a : Operation). inside p (operate a x y)) (tag_one tag o u t w);
   other = λ n. absurd (n o t);
 }
 
-pub not_operated : (tag : ℕ) (x y : ℤ) → (tag ≡ 66 → ⊥) → (tag ≡ 67 → ⊥) → (tag ≡ 68 → ⊥) → OperateIs tag x y Stuck
+pub not_operated : (tag : ℕ) (x y : ℤ) → (tag ≡ 66 → ⊥) → (tag ≡ 67 → ⊥) → (tag ≡ 68 → ⊥) → OperateIs tag x y (Err Stuck)
 unfolding Ranged
 not_operated tag x y a b c = record { ranged = tt; same = λ o t p. absurd (tag_none tag a b c o t); other = λ n. refl }
 
@@ -161,27 +157,18 @@ tag_is tag a b = go (eqb tag 66) refl (eqb tag 67) refl
 both : Place → Operation → Run ℤ → Run ℤ → Run ℤ
 both p o a b = a >>= (λ x. b >>= (λ y. inside p (operate o x y)))
 
-both_left : (p : Place) (o : Operation) (a : Value) (b : Run ℤ) → OneOf (1 ∷ 2 ∷ []) (tag_of value-type a) → both p o (value_told p a) b ≡ value_told p a
-unfolding both value_told ◌>>=◌ after
-both_left p o (Is x) b h = absurd (not_first h)
-both_left p o Over b h = refl
-both_left p o Stuck b h = refl
+both_left : (p : Place) (o : Operation) (f : Fault) (b : Run ℤ) → both p o (fault_told p f) b ≡ fault_told p f
+unfolding both
+both_left p o f b = fault_on p f _
 
-both_right : (p : Place) (o : Operation) (x : ℤ) (b : Value) → OneOf (1 ∷ 2 ∷ []) (tag_of value-type b) → both p o (value_told p (Is x)) (value_told p b) ≡ value_told p b
-unfolding both value_told ◌>>=◌ after
-both_right p o x (Is y) h = absurd (not_first h)
-both_right p o x Over h = refl
-both_right p o x Stuck h = refl
+both_right : (p : Place) (o : Operation) (x : ℤ) (f : Fault) → both p o (value_told p (Ok x)) (fault_told p f) ≡ fault_told p f
+unfolding both value_told ◌>>=◌ after fault_told
+both_right p o x Over = refl
+both_right p o x Stuck = refl
 
-both_is : (p : Place) (o : Operation) (x y : ℤ) → both p o (value_told p (Is x)) (value_told p (Is y)) ≡ inside p (operate o x y)
+both_is : (p : Place) (o : Operation) (x y : ℤ) → both p o (value_told p (Ok x)) (value_told p (Ok y)) ≡ inside p (operate o x y)
 unfolding both value_told ◌>>=◌ after
 both_is p o x y = refl
-
-not_is_ranged : (a : Value) → OneOf (1 ∷ 2 ∷ []) (tag_of value-type a) → Ranged a
-unfolding Ranged
-not_is_ranged (Is x) h = absurd (not_first h)
-not_is_ranged Over h = tt
-not_is_ranged Stuck h = tt
 
 -- the two parts of an operation's field
 abbrev left_of : ℕ → Place → List ℕ → Index
@@ -196,18 +183,18 @@ module _ (tag : ℕ) (l : List ℕ) (levels : ℕ) (values : List ℤ) (h : leve
   unfolding operation_of evaluate both
   at_operation p q = ap (evaluate p values) (level levels (field q tag l) h ∙ (tag_is tag low high).reads (read_index (levels - 1)) q l)
 
-  pub at_left : (a : Value) → ((p q : Place) → evaluate p values (left_of (levels - 1) q l) ≡ value_told p a) → OneOf (1 ∷ 2 ∷ []) (tag_of value-type a)
-      → IndexIs tag l levels values a
-  at_left a w k = record { ranged = not_is_ranged a k; same = λ p q. sym (at_operation p q ∙ ap (λ (r : Run ℤ). both p (operation_for tag) r (evaluate p values (right_of (levels - 1) q l))) (w p q) ∙ both_left p (operation_for tag) a _ k) }
+  pub at_left : (f : Fault) → ((p q : Place) → evaluate p values (left_of (levels - 1) q l) ≡ fault_told p f) → IndexIs tag l levels values (Err f)
+  unfolding value_told Ranged
+  at_left f w = record { ranged = tt; same = λ p q. sym (at_operation p q ∙ ap (λ (r : Run ℤ). both p (operation_for tag) r (evaluate p values (right_of (levels - 1) q l))) (w p q) ∙ both_left p (operation_for tag) f _) }
 
-  pub at_right : (x : ℤ) (b : Value) → ((p q : Place) → evaluate p values (left_of (levels - 1) q l) ≡ value_told p (Is x))
-      → ((p q : Place) → evaluate p values (right_of (levels - 1) q l) ≡ value_told p b) → OneOf (1 ∷ 2 ∷ []) (tag_of value-type b)
-      → IndexIs tag l levels values b
-  at_right x b v w k = record { ranged = not_is_ranged b k; same = λ p q. sym (at_operation p q ∙ (λ j. both p (operation_for tag) (v p q j) (w p q j)) ∙ both_right p (operation_for tag) x b k) }
+  pub at_right : (x : ℤ) (f : Fault) → ((p q : Place) → evaluate p values (left_of (levels - 1) q l) ≡ value_told p (Ok x))
+      → ((p q : Place) → evaluate p values (right_of (levels - 1) q l) ≡ fault_told p f) → IndexIs tag l levels values (Err f)
+  unfolding value_told Ranged
+  at_right x f v w = record { ranged = tt; same = λ p q. sym (at_operation p q ∙ (λ j. both p (operation_for tag) (v p q j) (w p q j)) ∙ both_right p (operation_for tag) x f) }
 
-  pub at_both : (x y : ℤ) → ((p q : Place) → evaluate p values (left_of (levels - 1) q l) ≡ value_told p (Is x))
-      → ((p q : Place) → evaluate p values (right_of (levels - 1) q l) ≡ value_told p (Is y))
-      → (r : Value) → OperateIs tag x y r → IndexIs tag l levels values r
+  pub at_both : (x y : ℤ) → ((p q : Place) → evaluate p values (left_of (levels - 1) q l) ≡ value_told p (Ok x))
+      → ((p q : Place) → evaluate p values (right_of (levels - 1) q l) ≡ value_told p (Ok y))
+      → (r : Result ℤ Fault) → OperateIs tag x y r → IndexIs tag l levels values r
   at_both x y v w r o = record {
     ranged = o.ranged;
     same = λ p q. o.same (operation_for tag) (tag_is tag low high) p
@@ -216,43 +203,43 @@ module _ (tag : ℕ) (l : List ℕ) (levels : ℕ) (values : List ℤ) (h : leve
 
 -- the left part, and the right one after it
 module _ (l : List ℕ) (from to levels : ℕ) (values : List ℤ) where
-  pub left_none : OneOf (1 ∷ 2 ∷ []) (tag_of the_type (look_in l from to)) → (p q : Place) → evaluate p values (left_of levels q (slice from to l)) ≡ value_told p Stuck
-  unfolding value_told
-  left_none k p q = part_none levels l from to values p q (q + 3) k
+  pub left_none : {e : NoHeader} → look_in l from to ≡ Err e → (p q : Place) → evaluate p values (left_of levels q (slice from to l)) ≡ fault_told p Stuck
+  unfolding fault_told
+  left_none e p q = part_none levels l from to values e p q (q + 3)
 
-  module _ (first mid : ℕ) (e : look_in l from to ≡ Whole first mid) where
-    pub left_some : (v : Value) → IndexIs first (slice (from + 3) mid l) levels values v → (p q : Place) → evaluate p values (left_of levels q (slice from to l)) ≡ value_told p v
+  module _ (first mid : ℕ) (e : look_in l from to ≡ Ok (record { tag = first; next = mid })) where
+    pub left_some : (v : Result ℤ Fault) → IndexIs first (slice (from + 3) mid l) levels values v → (p q : Place) → evaluate p values (left_of levels q (slice from to l)) ≡ value_told p v
     left_some v w p q = part_some levels l from to values p q (q + 3) first mid v e w
 
     right_at : (q : Place) → drop 1 (fields (q + 3) (slice from to l)) ≡ fields (q + 3 + (mid - from)) (slice mid to l)
     right_at q = ap (drop 1) ((in_whole l from to first mid e).first (q + 3))
 
-    pub right_none : OneOf (1 ∷ 2 ∷ []) (tag_of the_type (look_in l mid to)) → (p q : Place) → evaluate p values (right_of levels q (slice from to l)) ≡ value_told p Stuck
-    unfolding value_told
-    right_none k p q = rw (right_at q) (part_none levels l mid to values p q (q + 3 + (mid - from)) k)
+    pub right_none : {k : NoHeader} → look_in l mid to ≡ Err k → (p q : Place) → evaluate p values (right_of levels q (slice from to l)) ≡ fault_told p Stuck
+    unfolding fault_told
+    right_none k p q = rw (right_at q) (part_none levels l mid to values k p q (q + 3 + (mid - from)))
 
-    pub right_some : (second end : ℕ) (v : Value) → look_in l mid to ≡ Whole second end → IndexIs second (slice (mid + 3) end l) levels values v
+    pub right_some : (second end : ℕ) (v : Result ℤ Fault) → look_in l mid to ≡ Ok (record { tag = second; next = end }) → IndexIs second (slice (mid + 3) end l) levels values v
         → (p q : Place) → evaluate p values (right_of levels q (slice from to l)) ≡ value_told p v
     right_some second end v f w p q = rw (right_at q) (part_some levels l mid to values p q (q + 3 + (mid - from)) second end v f w)
 
-pub is_ranged : (tag : ℕ) (l : List ℕ) (levels : ℕ) (values : List ℤ) (x : ℤ) → IndexIs tag l levels values (Is x) → in_range x ≡ true
+pub is_ranged : (tag : ℕ) (l : List ℕ) (levels : ℕ) (values : List ℤ) (x : ℤ) → IndexIs tag l levels values (Ok x) → in_range x ≡ true
 unfolding Ranged
 is_ranged tag l levels values x w = w.ranged
 
 -- ---- the index that is due
 
-pub index_none : (l : List ℕ) (at to : ℕ) (values : List ℤ) → OneOf (1 ∷ 2 ∷ []) (tag_of the_type (look_in l at to)) → IndexAt (slice at to l) 0 values Stuck
-unfolding value_told Ranged
-index_none l at to values k = record { ranged = tt; same = λ p q t. sym (part_none 16 l at to values p q t k) }
+pub index_none : (l : List ℕ) (at to : ℕ) (values : List ℤ) {e : NoHeader} → look_in l at to ≡ Err e → IndexAt (slice at to l) 0 values (Err Stuck)
+unfolding value_told fault_told Ranged
+index_none l at to values e = record { ranged = tt; same = λ p q t. sym (part_none 16 l at to values e p q t) }
 
-pub index_some : (l : List ℕ) (at to : ℕ) (values : List ℤ) (tag next : ℕ) (v : Value) → look_in l at to ≡ Whole tag next
+pub index_some : (l : List ℕ) (at to : ℕ) (values : List ℤ) (tag next : ℕ) (v : Result ℤ Fault) → look_in l at to ≡ Ok (record { tag = tag; next = next })
     → IndexIs tag (slice (at + 3) next l) 16 values v → IndexAt (slice at to l) 0 values v
 index_some l at to values tag next v e u = record { ranged = u.ranged; same = λ p q t. sym (part_some 16 l at to values p q t tag next v e u) }
 
 -- further on in the bytes
-pub index_later : (l : List ℕ) (from n to : ℕ) (values : List ℤ) (v : Value) → IndexAt (slice (from + n) to l) 0 values v → IndexAt (slice from to l) n values v
+pub index_later : (l : List ℕ) (from n to : ℕ) (values : List ℤ) (v : Result ℤ Fault) → IndexAt (slice (from + n) to l) 0 values v → IndexAt (slice from to l) n values v
 index_later l from n to values v u = record { ranged = u.ranged; same = λ p q t. rw (drop-drop n from (take to l)) (u.same p q t) }
 
-pub index_ranged : (l : List ℕ) (at : ℕ) (values : List ℤ) (x : ℤ) → IndexAt l at values (Is x) → in_range x ≡ true
+pub index_ranged : (l : List ℕ) (at : ℕ) (values : List ℤ) (x : ℤ) → IndexAt l at values (Ok x) → in_range x ≡ true
 unfolding Ranged
 index_ranged l at values x w = w.ranged

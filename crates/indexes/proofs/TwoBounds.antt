@@ -6,36 +6,29 @@ use native.Mathlib.Omega.{arith}
 use lib.ListN.{drop}
 use lib.Seq.{slice, drop-drop}
 use lib.IntN.{ℤ}
-use types.Run.{OneOf}
-use denote.Enum.Declared.{tag_of}
 use Rattle.language.specs.Tree.{Place, Index, bad_index}
 use Rattle.language.specs.Read.{Field, fields, due, outer_index, read_index}
 use Rattle.language.specs.Machine.{run_bounds, Outcome, going, ended, stuck, Run, evaluate, after, ◌>>=◌}
-use Rattle.fields.specs.declared.Header.TheVariants.{Whole}
-use Rattle.indexes.specs.declared.Value.{Value}
-use Rattle.indexes.specs.declared.Value.TheVariants.{Is, Over as v_over, Stuck as v_stuck}
-use Rattle.indexes.specs.Values.{value_told, IndexAt}
-use Rattle.fields.specs.contracts.Header.{the_type}
-use Rattle.indexes.specs.contracts.Value.{the_type as value-type}
-use Rattle.fields.proofs.Parts.{not_first}
-use Rattle.fields.proofs.Between.{look_in, in_whole}
-use Rattle.indexes.proofs.Operations.{part_none, index_ranged}
+use Rattle.std.specs.Prelude.{Result, Ok, Err}
+use Rattle.fields.specs.declared.NoHeader.{NoHeader}
+use Rattle.indexes.specs.declared.Fault.{Fault}
+use Rattle.indexes.specs.declared.Fault.TheVariants.{Stuck}
 use Rattle.indexes.specs.declared.Bounds.{Bounds}
-use Rattle.indexes.specs.declared.Bounds.TheVariants.{Are, Over, Stuck}
-use Rattle.indexes.specs.Bounds.{bound_of, bounding, Behind, BehindBounds, both, Bounded}
+use Rattle.indexes.specs.Values.{fault_told, value_told, IndexAt}
+use Rattle.indexes.specs.Bounds.{bounding, Behind, BehindBounds, both, Bounded}
+use Rattle.fields.proofs.Between.{look_in, in_whole}
+use Rattle.indexes.proofs.Leaves.{fault_on}
+use Rattle.indexes.proofs.Operations.{part_none, index_ranged, index_none}
 
 module _ (l : List ℕ) (from to : ℕ) (values : List ℤ) where
-  pub bounds_low : (v : Value) → IndexAt (slice from to l) 0 values v → OneOf (1 ∷ 2 ∷ []) (tag_of value-type v) → Bounded l from to values (bound_of v)
-  unfolding bound_of BehindBounds bounding run_bounds ◌>>=◌ after value_told
-  bounds_low (Is x) w h = absurd (not_first h)
-  bounds_low v_over w h = record { behind = tt; same = λ p q t. ap (λ (a : Run ℤ). a >>= (λ x. evaluate p values (due (read_index 16) (bad_index 4 q) (drop 1 (fields t (slice from to l)))) >>= (λ y. both x y))) (w.same p q t) }
-  bounds_low v_stuck w h = record { behind = tt; same = λ p q t. ap (λ (a : Run ℤ). a >>= (λ x. evaluate p values (due (read_index 16) (bad_index 4 q) (drop 1 (fields t (slice from to l)))) >>= (λ y. both x y))) (w.same p q t) }
+  pub bounds_low : (f : Fault) → IndexAt (slice from to l) 0 values (Err f) → Bounded l from to values (Err f)
+  unfolding BehindBounds bounding run_bounds value_told
+  bounds_low f w = record { behind = tt; same = λ p q t. sym (fault_on p f _) ∙ ap (λ (a : Run ℤ). a >>= (λ x. evaluate p values (due (read_index 16) (bad_index 4 q) (drop 1 (fields t (slice from to l)))) >>= (λ y. both x y))) (w.same p q t) }
 
-  pub bounds_none : OneOf (1 ∷ 2 ∷ []) (tag_of the_type (look_in l from to)) → Bounded l from to values Stuck
-  unfolding BehindBounds bounding run_bounds ◌>>=◌ after
-  bounds_none h = record { behind = tt; same = λ p q t. sym (ap (λ (a : Run ℤ). a >>= (λ x. evaluate p values (due (read_index 16) (bad_index 4 q) (drop 1 (fields t (slice from to l)))) >>= (λ y. both x y))) (part_none 16 l from to values p q t h)) }
+  pub bounds_none : {e : NoHeader} → look_in l from to ≡ Err e → Bounded l from to values (Err Stuck)
+  bounds_none e = bounds_low Stuck (index_none l from to values e)
 
-  module _ (x : ℤ) (w : IndexAt (slice from to l) 0 values (Is x)) (u mid : ℕ) (e : look_in l from to ≡ Whole u mid) where
+  module _ (x : ℤ) (w : IndexAt (slice from to l) 0 values (Ok x)) (u mid : ℕ) (e : look_in l from to ≡ Ok (record { tag = u; next = mid })) where
     next_at : (t : Place) → drop 1 (fields t (slice from to l)) ≡ fields (t + (mid - from)) (slice mid to l)
     next_at t = ap (drop 1) ((in_whole l from to u mid e).first t)
 
@@ -48,17 +41,14 @@ module _ (l : List ℕ) (from to : ℕ) (values : List ℤ) where
         ap (λ (a : Run ℤ). a >>= (λ x. evaluate p values (due (read_index 16) (bad_index 4 q) (drop 1 (fields t (slice from to l)))) >>= (λ y. both x y))) (sym (w.same p q t))
         ∙ ap (λ (fs : List Field). evaluate p values (due (read_index 16) (bad_index 4 q) fs) >>= (λ y. both x y)) (next_at t)
 
-    pub bounds_high : (v : Value) → IndexAt (slice mid to l) 0 values v → OneOf (1 ∷ 2 ∷ []) (tag_of value-type v) → Bounded l from to values (bound_of v)
-    unfolding bound_of BehindBounds bounding run_bounds ◌>>=◌ after value_told
-    bounds_high (Is y) w₂ h = absurd (not_first h)
-    bounds_high v_over w₂ h = record { behind = tt; same = λ p q t. ap (λ (a : Run ℤ). a >>= (λ y. both x y)) (w₂.same p q (t + (mid - from))) ∙ sym (second p q t) }
-    bounds_high v_stuck w₂ h = record { behind = tt; same = λ p q t. ap (λ (a : Run ℤ). a >>= (λ y. both x y)) (w₂.same p q (t + (mid - from))) ∙ sym (second p q t) }
+    pub bounds_high : (f : Fault) → IndexAt (slice mid to l) 0 values (Err f) → Bounded l from to values (Err f)
+    unfolding BehindBounds bounding run_bounds value_told
+    bounds_high f w₂ = record { behind = tt; same = λ p q t. sym (fault_on p f _) ∙ ap (λ (a : Run ℤ). a >>= (λ y. both x y)) (w₂.same p q (t + (mid - from))) ∙ sym (second p q t) }
 
-    pub bounds_cut : OneOf (1 ∷ 2 ∷ []) (tag_of the_type (look_in l mid to)) → Bounded l from to values Stuck
-    unfolding BehindBounds bounding run_bounds ◌>>=◌ after
-    bounds_cut h = record { behind = tt; same = λ p q t. sym (second p q t ∙ ap (λ (a : Run ℤ). a >>= (λ y. both x y)) (part_none 16 l mid to values p q (t + (mid - from)) h)) }
+    pub bounds_cut : {k : NoHeader} → look_in l mid to ≡ Err k → Bounded l from to values (Err Stuck)
+    bounds_cut k = bounds_high Stuck (index_none l mid to values k)
 
-    pub bounds_are : (y : ℤ) (v at : ℕ) → IndexAt (slice mid to l) 0 values (Is y) → look_in l mid to ≡ Whole v at → Bounded l from to values (Are x y at)
+    pub bounds_are : (y : ℤ) (v at : ℕ) → IndexAt (slice mid to l) 0 values (Ok y) → look_in l mid to ≡ Ok (record { tag = v; next = at }) → Bounded l from to values (Ok (record { low = x; high = y; next = at }))
     unfolding BehindBounds bounding run_bounds ◌>>=◌ after value_told
     bounds_are y v at w₂ f =
         let a = in_whole l from to u mid e in
@@ -84,11 +74,10 @@ module _ {A : Type 0} (k : ℤ → ℤ → Run A) where
   abbrev next : ℤ × ℤ → Run A
   next z = k z.0 z.1
 
-  told_then : (p : Place) (r : Bounds) → (bounding p r both >>= next) ≡ bounding p r k
+  told_then : (p : Place) (r : Result Bounds Fault) → (bounding p r both >>= next) ≡ bounding p r k
   unfolding bounding ◌>>=◌ after
-  told_then p (Are x y at) = refl
-  told_then p Over = refl
-  told_then p Stuck = refl
+  told_then p (Ok b) = refl
+  told_then p (Err f) = fault_on p f next
 
   run_then : (p : Place) (values : List ℤ) (i j : Index) → (run_bounds p values i j both >>= next) ≡ run_bounds p values i j k
   unfolding run_bounds ◌>>=◌ after
@@ -105,10 +94,10 @@ module _ {A : Type 0} (k : ℤ → ℤ → Run A) where
       low stuck = refl
 
   -- the first two indexes in the content, and what is done with their values
-  pub bounds_run : {l : List ℕ} {from to : ℕ} {values : List ℤ} {r : Bounds} → Bounded l from to values r → (p q t : Place) → bounding p r k
+  pub bounds_run : {l : List ℕ} {from to : ℕ} {values : List ℤ} {r : Result Bounds Fault} → Bounded l from to values r → (p q t : Place) → bounding p r k
       ≡ run_bounds p values (due outer_index (bad_index 4 q) (fields t (slice from to l))) (due outer_index (bad_index 4 q) (drop 1 (fields t (slice from to l)))) k
   bounds_run {values = values} {r = r} b p q t = sym (told_then p r) ∙ ap (λ (a : Run (ℤ × ℤ)). a >>= next) (b.same p q t) ∙ run_then p values _ _
 
-pub bounds_behind : {l : List ℕ} {from to : ℕ} {values : List ℤ} {x y : ℤ} {at : ℕ} → Bounded l from to values (Are x y at) → Behind l from to x y at
+pub bounds_behind : {l : List ℕ} {from to : ℕ} {values : List ℤ} {b : Bounds} → Bounded l from to values (Ok b) → Behind l from to b.low b.high b.next
 unfolding BehindBounds
 bounds_behind b = b.behind

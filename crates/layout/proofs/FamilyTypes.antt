@@ -6,16 +6,13 @@ use mathlib.Core.Bool.{true, false}
 use native.Mathlib.Omega.{arith}
 use native.Mathlib.Nat.{sub-zero}
 use borrow.Author.Tests.{ne_eqb}
-use types.Run.{OneOf}
-use denote.Enum.Declared.{tag_of}
 use lib.Seq.{slice}
 use Rattle.language.specs.Tree.{Place, ParameterType}
 use Rattle.language.specs.Read.{field, fields, read_type, read_family_type, family_type_of, parts_of, types_of, due, choose}
 use Rattle.language.specs.Machine.{has_family_type}
-use Rattle.fields.specs.declared.Header.{Header}
-use Rattle.fields.specs.declared.Header.TheVariants.{Whole, End, Cut}
-use Rattle.fields.specs.contracts.Header.{the_type}
-use Rattle.fields.proofs.Parts.{not_first}
+use Rattle.std.specs.Prelude.{Ok, Err}
+use Rattle.fields.specs.declared.NoHeader.{NoHeader}
+use Rattle.fields.specs.declared.NoHeader.TheVariants.{End, Cut}
 use Rattle.fields.proofs.Between.{look_in, in_whole, in_none, in_bad}
 use Rattle.layout.specs.Layout.{TakesFamily}
 
@@ -60,16 +57,15 @@ module _ (l : List ℕ) (from to count : ℕ) where
       one_more_lem : count - i ≡ suc (count - (i + 1))
       one_more_lem = omega arith
 
-      pub left_none : OneOf (1 ∷ 2 ∷ []) (tag_of the_type (look_in l at to)) → TakesFamily (slice from to l) count false
+      pub left_none : (e : NoHeader) → look_in l at to ≡ Err e → TakesFamily (slice from to l) count false
       unfolding parts_of due read_type has_family_type
-      left_none o p t = go (look_in l at to) refl o ∙ left p t
+      left_none e h p t = go e h ∙ left p t
         where
-          go : (f : Header) → look_in l at to ≡ f → OneOf (1 ∷ 2 ∷ []) (tag_of the_type f) → false ≡ has_family_type (types_of p (count - i) (fields (t + (at - from)) (slice at to l)))
-          go (Whole tag next) e o = absurd (not_first o)
-          go End e o = rw (one_more_lem, in_none l at to e (t + (at - from))) (sym (none_left p (count - (i + 1))))
-          go Cut e o = rw (one_more_lem, in_bad l at to e (t + (at - from))) (sym (none_left p (count - (i + 1))))
+          go : (e : NoHeader) → look_in l at to ≡ Err e → false ≡ has_family_type (types_of p (count - i) (fields (t + (at - from)) (slice at to l)))
+          go End e = rw (one_more_lem, in_none l at to e (t + (at - from))) (sym (none_left p (count - (i + 1))))
+          go Cut e = rw (one_more_lem, in_bad l at to e (t + (at - from))) (sym (none_left p (count - (i + 1))))
 
-      module _ (tag next : ℕ) (e : look_in l at to ≡ Whole tag next) where
+      module _ (tag next : ℕ) (e : look_in l at to ≡ Ok (record { tag = tag; next = next })) where
         abbrev later : (p t : Place) → List ParameterType
         later p t = types_of p (count - (i + 1)) (fields (t + (next - from)) (slice next to l))
 

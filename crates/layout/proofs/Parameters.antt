@@ -5,8 +5,6 @@ use mathlib.Core.List.{List, [], ◌∷◌, ◌++◌, map, map-append, append_as
 use mathlib.Core.Bool.{Bool, true, false, cond}
 use native.Mathlib.Omega.{arith}
 use borrow.Author.Tests.{le-leb, lt-leb, ne_eqb}
-use types.Run.{OneOf}
-use denote.Enum.Declared.{tag_of}
 use native.Mathlib.Nat.{sub-zero}
 use native.Mathlib.Numerals.{add-one}
 use lib.Dec.{eqb}
@@ -24,20 +22,23 @@ use Rattle.operands.specs.Meanings.{parameter_of, of_parameter, clipped}
 use Rattle.operands.specs.declared.Wire.{Wire}
 use Rattle.operands.specs.declared.Operand.{Operand}
 use Rattle.operands.specs.declared.Operand.TheVariants.{Single, Register}
-use Rattle.indexes.specs.declared.Value.{Value}
-use Rattle.indexes.specs.declared.Value.TheVariants as v
-use Rattle.indexes.specs.Values.{value_told, IndexAt}
+use Rattle.std.specs.Prelude.{Result, Ok, Err}
+use Rattle.refusals.specs.declared.Reason.{Reason}
+use Rattle.refusals.specs.declared.Reason.TheVariants.{TooManyWires, IndexOutOfRange}
+use Rattle.indexes.specs.declared.Fault.{Fault}
+use Rattle.indexes.specs.declared.Fault.TheVariants as faults
+use Rattle.operands.specs.declared.Scope.{Scope}
+use Rattle.indexes.specs.Values.{fault_told, value_told, IndexAt}
 use Rattle.operands.specs.declared.Parameter.{Parameter}
-use Rattle.fields.specs.declared.Header.{Header}
-use Rattle.fields.specs.declared.Header.TheVariants.{Whole, End, Cut}
-use Rattle.fields.specs.contracts.Header.{the_type}
-use Rattle.fields.proofs.Parts.{not_first}
+use Rattle.fields.specs.declared.NoHeader.{NoHeader}
+use Rattle.fields.specs.declared.NoHeader.TheVariants.{End, Cut}
 use Rattle.fields.proofs.Between.{look_in, FieldIn, in_whole, in_none, in_bad}
 use Rattle.layout.specs.declared.Placed.{Placed}
-use Rattle.layout.specs.declared.Placed.TheVariants.{Fits, Past, Over, Stuck}
-use Rattle.layout.specs.declared.Layout.{Layout}
-use Rattle.layout.specs.declared.Layout.TheVariants as a
-use Rattle.layout.specs.Layout.{placed, WithinWires, WireFrom, RegisterFrom, TypeFrom, came_out, laid_with, laid, LaysOut}
+use Rattle.layout.specs.declared.Unplaced.{Unplaced}
+use Rattle.layout.specs.declared.Unplaced.TheVariants.{Past, Over, Stuck}
+use Rattle.layout.specs.declared.Unlaid.{Unlaid}
+use Rattle.layout.specs.declared.Unlaid.TheVariants as unlaid
+use Rattle.layout.specs.Layout.{faulted, placed, WithinWires, WireFrom, RegisterFrom, TypeFrom, laid, LaysOut}
 
 pub natural_small : (z : ℤ) → in_range z ≡ true → nat_abs z ≤ furthest
 natural_small (pos n) h = omega (integers, range_true)
@@ -54,25 +55,25 @@ unfolding laid_out ◌>>◌ after
 laid_on p n then h = rw (le-leb n most_wires h)
 
 module _ (next : ℕ) where
-  pub wire_past : most_wires < next + 1 → WireFrom next Past
+  pub wire_past : most_wires < next + 1 → WireFrom next (Err Past)
   unfolding placed lay_wire WithinWires
   wire_past h = record { same = λ p rest. laid_past p (next + 1) _ h; within = tt }
 
-  pub wire_fits : (w : Wire) → w.0 ≡ next → next + 1 ≤ most_wires → WireFrom next (Fits (Single w) (next + 1))
+  pub wire_fits : (w : Wire) → w.0 ≡ next → next + 1 ≤ most_wires → WireFrom next (Ok (record { operand = Single w; next = next + 1 }))
   unfolding placed lay_wire WithinWires parameter_of
   wire_fits w e h = record { same = λ p rest. rw e (laid_on p (next + 1) _ h); within = h }
 
-  pub register_negative : (z : ℤ) → lt_z z (pos 0) ≡ true → RegisterFrom z next Stuck
+  pub register_negative : (z : ℤ) → lt_z z (pos 0) ≡ true → RegisterFrom z next (Err Stuck)
   unfolding placed lay_register WithinWires natural_of ◌>>=◌ after
   register_negative (pos n) h = absurd (omega integers)
   register_negative (negsuc n) h = record { same = λ p rest. refl; within = tt }
 
   module _ (z : ℤ) (n : ℕ) (natural : z ≡ pos n) where
-    pub register_past : most_wires < next + n → RegisterFrom z next Past
+    pub register_past : most_wires < next + n → RegisterFrom z next (Err Past)
     unfolding placed lay_register WithinWires natural_of ◌>>=◌ after
     register_past h = record { same = λ p rest. rw natural (laid_past p (next + n) _ h); within = tt }
 
-    pub register_fits : (w : Wire) → w.0 ≡ next → next + n ≤ most_wires → RegisterFrom z next (Fits (Register w n) (next + n))
+    pub register_fits : (w : Wire) → w.0 ≡ next → next + n ≤ most_wires → RegisterFrom z next (Ok (record { operand = Register w n; next = next + n }))
     unfolding placed lay_register WithinWires natural_of ◌>>=◌ after parameter_of
     register_fits w e h =
         let whole : clipped next n ≡ n = omega arith in
@@ -86,11 +87,11 @@ family_stuck values next p (v ∷ []) types = refl
 family_stuck values next p (v ∷ n ∷ rest) types = refl
 
 module _ (tag : ℕ) (l : List ℕ) (values : List ℤ) (next : ℕ) where
-  pub type_wire : (r : Placed) → tag ≡ 16 → WireFrom next r → TypeFrom tag l values next r
+  pub type_wire : (r : Result Placed Unplaced) → tag ≡ 16 → WireFrom next r → TypeFrom tag l values next r
   unfolding read_type read_plain choose read_qbit layout
   type_wire r t w = record { same = λ p types. w.same p (λ n. layout values n types) ∙ rw t; within = w.within }
 
-  pub type_other : (tag ≡ 16 → ⊥) → (tag ≡ 17 → ⊥) → TypeFrom tag l values next Stuck
+  pub type_other : (tag ≡ 16 → ⊥) → (tag ≡ 17 → ⊥) → TypeFrom tag l values next (Err Stuck)
   unfolding read_type read_plain choose layout placed WithinWires
   type_other a b = record { same = λ p types. rw (ne_eqb tag 16 a, ne_eqb tag 17 b) (go p types (eqb tag 18)); within = tt }
     where
@@ -98,22 +99,20 @@ module _ (tag : ℕ) (l : List ℕ) (values : List ℤ) (next : ℕ) where
       go p types true = sym (family_stuck values next p l types)
       go p types false = refl
 
-  module _ (t : tag ≡ 17) (x : Value) (u : IndexAt l 0 values x) where
-    sized_is : (p : Place) (types : List ParameterType) → layout values next (read_type (field p tag l) ∷ types) ≡ (value_told p x >>= (λ z. lay_register p z next (λ n. layout values n types)))
+  module _ (t : tag ≡ 17) where
+    sized_is : (x : Result ℤ Fault) → IndexAt l 0 values x → (p : Place) (types : List ParameterType)
+        → layout values next (read_type (field p tag l) ∷ types) ≡ (value_told p x >>= (λ z. lay_register p z next (λ n. layout values n types)))
     unfolding read_type read_plain choose qbits_of layout
-    sized_is p types = rw t (ap (λ (r : Run ℤ). r >>= (λ z. lay_register p z next (λ n. layout values n types))) (sym (u.same p p (p + 3))))
+    sized_is x u p types = rw t (ap (λ (r : Run ℤ). r >>= (λ z. lay_register p z next (λ n. layout values n types))) (sym (u.same p p (p + 3))))
 
-    pub type_stuck : x ≡ v.Stuck → TypeFrom tag l values next Stuck
-    unfolding value_told placed WithinWires ◌>>=◌ after
-    type_stuck e = record { same = λ p types. sym (sized_is p types ∙ rw e); within = tt }
+    pub type_fault : (f : Fault) → IndexAt l 0 values (Err f) → TypeFrom tag l values next (Err (faulted f))
+    unfolding value_told fault_told faulted placed WithinWires ◌>>=◌ after
+    type_fault faults.Over u = record { same = λ p types. sym (sized_is (Err faults.Over) u p types); within = tt }
+    type_fault faults.Stuck u = record { same = λ p types. sym (sized_is (Err faults.Stuck) u p types); within = tt }
 
-    pub type_over : x ≡ v.Over → TypeFrom tag l values next Over
-    unfolding value_told placed WithinWires ◌>>=◌ after
-    type_over e = record { same = λ p types. sym (sized_is p types ∙ rw e); within = tt }
-
-    pub type_sized : (z : ℤ) (r : Placed) → x ≡ v.Is z → RegisterFrom z next r → TypeFrom tag l values next r
+    pub type_sized : (z : ℤ) → IndexAt l 0 values (Ok z) → (r : Result Placed Unplaced) → RegisterFrom z next r → TypeFrom tag l values next r
     unfolding value_told ◌>>=◌ after
-    type_sized z r e w = record { same = λ p types. w.same p (λ n. layout values n types) ∙ sym (sized_is p types ∙ rw e); within = w.within }
+    type_sized z u r w = record { same = λ p types. w.same p (λ n. layout values n types) ∙ sym (sized_is (Ok z) u p types); within = w.within }
 
 -- ---- the parameters, one after the other
 
@@ -166,34 +165,40 @@ module _ (l : List ℕ) (from to count : ℕ) (values : List ℤ) where
   }
 
   module _ (params : List Parameter) (at next i : ℕ) (so_far : Laying l from to count values params at next i) where
-    -- an answer that stands for the whole layout
-    answers : (answer : Layout) → ((place : Place) → came_out answer (laid_so_far params count) ≡ layout values 0 (types_of place count (fields from (slice from to l))))
-        → LaysOut (slice from to l) from count values (laid_with answer count params)
-    unfolding laid
-    answers answer h = record { same = h; inside = refl; counted = refl }
+    pub laying_done : count ≤ i → LaysOut (slice from to l) from count values (Ok (record { params = params; count = count; top = false }))
+    unfolding laid parts_of layout ◌>>=◌ after
+    laying_done h = record {
+      same = λ place.
+          let e : i ≡ count = (let k = so_far.low in omega arith) in
+          let none : count - i ≡ 0 = omega arith in
+          ap give (sym (append-nil (laid_so_far params count)) ∙ rw e) ∙ (rw none at (so_far.same place));
+      inside = λ s e. cc;
+      counted = λ s e. cc;
+    }
 
-    pub laying_done : count ≤ i → LaysOut (slice from to l) from count values (laid_with a.Done count params)
-    unfolding came_out parts_of layout ◌>>=◌ after
-    laying_done h = answers a.Done λ place.
-        let e : i ≡ count = (let k = so_far.low in omega arith) in
-        let none : count - i ≡ 0 = omega arith in
-        ap give (sym (append-nil (laid_so_far params count)) ∙ rw e) ∙ (rw none at (so_far.same place))
+    -- an answer that the parameters are not laid out
+    answers : (u : Unlaid) → ((place : Place) → laid (Err u) ≡ layout values 0 (types_of place count (fields from (slice from to l))))
+        → LaysOut (slice from to l) from count values (Err u)
+    answers u h = record {
+      same = h;
+      inside = λ s e. absurd (let z : ◌≡◌ {A = ℕ} 0 1 = cc in omega arith);
+      counted = λ s e. absurd (let z : ◌≡◌ {A = ℕ} 0 1 = cc in omega arith);
+    }
 
     module _ (more : i < count) where
       one_more_lem : count - i ≡ suc (count - (i + 1))
       one_more_lem = omega arith
 
-      pub laying_none : OneOf (1 ∷ 2 ∷ []) (tag_of the_type (look_in l at to)) → LaysOut (slice from to l) from count values (laid_with a.Stuck count params)
-      unfolding came_out parts_of due read_type layout ◌>>=◌ after
-      laying_none h = answers a.Stuck λ place. go place (look_in l at to) refl h ∙ so_far.same place
+      pub laying_none : (e : NoHeader) → look_in l at to ≡ Err e → LaysOut (slice from to l) from count values (Err unlaid.Stuck)
+      unfolding laid parts_of due read_type layout ◌>>=◌ after
+      laying_none e h = answers unlaid.Stuck λ place. go place e h ∙ so_far.same place
         where
-          go : (place : Place) (f : Header) → look_in l at to ≡ f → OneOf (1 ∷ 2 ∷ []) (tag_of the_type f)
+          go : (place : Place) (e : NoHeader) → look_in l at to ≡ Err e
               → no_meaning ≡ (layout values next (types_left l to count at i place) >>= (λ ms. give (laid_so_far params i ++ ms)))
-          go place (Whole u n) e h = absurd (not_first h)
-          go place End e h = rw (one_more_lem, in_none l at to e at)
-          go place Cut e h = rw (one_more_lem, in_bad l at to e at)
+          go place End e = rw (one_more_lem, in_none l at to e at)
+          go place Cut e = rw (one_more_lem, in_bad l at to e at)
 
-      module _ (tag end : ℕ) (here : look_in l at to ≡ Whole tag end) (x : Placed) (w : TypeFrom tag (slice (at + 3) end l) values next x) where
+      module _ (tag end : ℕ) (here : look_in l at to ≡ Ok (record { tag = tag; next = end })) (x : Result Placed Unplaced) (w : TypeFrom tag (slice (at + 3) end l) values next x) where
         part : FieldIn l at to tag end
         part = in_whole l at to tag end here
 
@@ -205,19 +210,19 @@ module _ (l : List ℕ) (from to count : ℕ) (values : List ℤ) where
             let e : at + (end - at) ≡ end = (let k = part.low in omega arith) in
             rw (one_more_lem, part.first at, e) (sym (w.same at (types_left l to count end (i + 1) place)))
 
-        pub laying_past : x ≡ Past → LaysOut (slice from to l) from count values (laid_with (a.Past at) count params)
-        unfolding came_out placed ◌>>=◌ after
-        laying_past e = answers (a.Past at) λ place. rw (here_is place, e) at (so_far.same place)
+        pub laying_past : x ≡ Err Past → LaysOut (slice from to l) from count values (Err (unlaid.Refused TooManyWires at))
+        unfolding laid placed ◌>>=◌ after
+        laying_past e = answers (unlaid.Refused TooManyWires at) λ place. rw (here_is place, e) at (so_far.same place)
 
-        pub laying_over : x ≡ Over → LaysOut (slice from to l) from count values (laid_with (a.Over at) count params)
-        unfolding came_out placed ◌>>=◌ after
-        laying_over e = answers (a.Over at) λ place. rw (here_is place, e) at (so_far.same place)
+        pub laying_over : x ≡ Err Over → LaysOut (slice from to l) from count values (Err (unlaid.Refused IndexOutOfRange at))
+        unfolding laid placed ◌>>=◌ after
+        laying_over e = answers (unlaid.Refused IndexOutOfRange at) λ place. rw (here_is place, e) at (so_far.same place)
 
-        pub laying_stuck : x ≡ Stuck → LaysOut (slice from to l) from count values (laid_with a.Stuck count params)
-        unfolding came_out placed ◌>>=◌ after
-        laying_stuck e = answers a.Stuck λ place. rw (here_is place, e) at (so_far.same place)
+        pub laying_stuck : x ≡ Err Stuck → LaysOut (slice from to l) from count values (Err unlaid.Stuck)
+        unfolding laid placed ◌>>=◌ after
+        laying_stuck e = answers unlaid.Stuck λ place. rw (here_is place, e) at (so_far.same place)
 
-        pub laying_next : (o : Operand) (wire : ℕ) → x ≡ Fits o wire → count ≤ most_parameters → Laying l from to count values (set params i (record { operand = o })) end wire (i + 1)
+        pub laying_next : (o : Operand) (wire : ℕ) → x ≡ Ok (record { operand = o; next = wire }) → count ≤ most_parameters → Laying l from to count values (set params i (record { operand = o })) end wire (i + 1)
         unfolding placed laid_then WithinWires
         laying_next o wire e fits =
             let k = so_far.length_is in

@@ -5,8 +5,6 @@ use mathlib.Core.List.{List, [], ◌∷◌, map}
 use mathlib.Core.Bool.{Bool, true, false, cond}
 use mathlib.Core.Option.{Option, none, some}
 use native.Mathlib.Omega.{arith}
-use types.Run.{OneOf, miss}
-use denote.Enum.Declared.{tag_of}
 use borrow.Author.Tests.{lt-ltb, le-ltb}
 use lib.ListN.{length, get_or, get_elem?, take, length-take}
 use lib.Seq.{get_or-take}
@@ -20,7 +18,6 @@ use Rattle.language.specs.Form.{in_range}
 use Rattle.kinds.specs.declared.Kind.{Kind}
 use Rattle.kinds.specs.declared.Kind.TheVariants.{Qubit, Quantum, Classical, Family as family_kind}
 use Rattle.kinds.specs.Numbers.{kind_with}
-use Rattle.kinds.specs.contracts.Kind.{the_type as kind-type}
 use Rattle.operands.specs.declared.Wire.{Wire}
 use Rattle.operands.specs.declared.Bit.{Bit}
 use Rattle.language.specs.Tree.{Place}
@@ -28,10 +25,13 @@ use Rattle.language.specs.Machine.{Meaning, a_wire, a_bit, wires, bits, Run, giv
 use Rattle.operands.specs.declared.Operand.{Operand}
 use Rattle.operands.specs.declared.Operand.TheVariants.{Single, Register, Family}
 use Rattle.operands.specs.declared.Parameter.{Parameter}
-use Rattle.operands.specs.declared.OperandMeaning.{OperandMeaning}
-use Rattle.operands.specs.declared.OperandMeaning.TheVariants.{AWire, ABit, Wires, AFamily, Stuck}
-use Rattle.operands.specs.declared.Location.TheVariants.{At, Nowhere}
-use Rattle.operands.specs.Meanings.{of_parameter, parameter_of, register_of, registers_of, meaning_told, location_in, locations, clipped, location_of, the_wire, the_bit}
+use Rattle.std.specs.Prelude.{Ok, Err}
+use Rattle.std.specs.Prelude as prelude
+use Rattle.operands.specs.declared.Meaning as code
+use Rattle.operands.specs.declared.Meaning.TheVariants.{Wire as m_wire, Bit as m_bit, Wires, Family as m_family}
+use Rattle.indexes.specs.declared.Fault.TheVariants.{Stuck}
+use Rattle.indexes.specs.Values.{fault_told}
+use Rattle.operands.specs.Meanings.{of_parameter, parameter_of, register_of, registers_of, stood, meaning_told, location_in, locations, clipped, location_of, the_wire, the_bit}
 
 pub register_at : (n : ℕ) (l : List ℕ) → 3 * n + 2 < length l → get_elem? (registers_of l) n ≡ some (register_of (kind_with (get_or l (3 * n) 0)) (get_or l (3 * n + 1) 0) (get_or l (3 * n + 2) 0))
 unfolding registers_of
@@ -54,11 +54,11 @@ register_past zero (a ∷ b ∷ c ∷ l) h = absurd (omega arith)
 register_past (suc n) (a ∷ b ∷ c ∷ l) h = register_past n l (omega arith)
 
 -- a kind that is not classical
-pub register_quantum : (k : Kind) (first size : ℕ) → OneOf (0 ∷ 1 ∷ 3 ∷ []) (tag_of kind-type k) → register_of k first size ≡ wires (the_wire first) (clipped first size)
+pub register_quantum : (k : Kind) (first size : ℕ) → (k ≡ Classical → ⊥) → register_of k first size ≡ wires (the_wire first) (clipped first size)
 unfolding register_of
 register_quantum Qubit first size h = refl
 register_quantum Quantum first size h = refl
-register_quantum Classical first size h = absurd (miss (0 ∷ 1 ∷ 3 ∷ []) 2 tt h)
+register_quantum Classical first size h = absurd (h refl)
 register_quantum family_kind first size h = refl
 
 -- of the first `count` in a table
@@ -90,74 +90,74 @@ parameter_none zero (suc k) (x ∷ l) h = absurd (omega arith)
 parameter_none (suc n) (suc k) (x ∷ l) h = parameter_none n k l (omega arith)
 
 -- the code's answer for what a parameter holds
-abbrev parameter_answer : Operand → OperandMeaning
-parameter_answer (Single w) = AWire w
+abbrev pub parameter_answer : Operand → code.Meaning
+parameter_answer (Single w) = m_wire w
 parameter_answer (Register f n) = Wires f n
-parameter_answer (Family n) = AFamily n
+parameter_answer (Family n) = m_family n
 
-pub parameter_answer_lem : (p : Place) (o : Operand) → meaning_told p (parameter_answer o) ≡ give (parameter_of o)
-unfolding meaning_told parameter_of
-parameter_answer_lem p (Single w) = refl
-parameter_answer_lem p (Register f n) = refl
-parameter_answer_lem p (Family n) = refl
+pub parameter_answer_lem : (o : Operand) → stood (parameter_answer o) ≡ parameter_of o
+unfolding stood parameter_of
+parameter_answer_lem (Single w) = refl
+parameter_answer_lem (Register f n) = refl
+parameter_answer_lem (Family n) = refl
 
-pub nothing : (p : Place) {A : Option Meaning} → A ≡ none → meaning_told p Stuck ≡ found A
-unfolding meaning_told found
+pub nothing : (p : Place) {A : Option Meaning} → A ≡ none → meaning_told p (Err Stuck) ≡ found A
+unfolding meaning_told fault_told found
 nothing p e = rw e
 
-pub location_past : (first size i : ℕ) → size ≤ i → Nowhere ≡ location_in first size i
+pub location_past : (first size i : ℕ) → size ≤ i → prelude.None ≡ location_in first size i
 unfolding location_in
 location_past first size i h = simp (le-ltb i (clipped first size) (omega arith))
 
-pub location_high : (first size i : ℕ) → locations ≤ first + i → Nowhere ≡ location_in first size i
+pub location_high : (first size i : ℕ) → locations ≤ first + i → prelude.None ≡ location_in first size i
 unfolding location_in
 location_high first size i h = simp (le-ltb i (clipped first size) (omega arith))
 
-pub location_at : (first size i : ℕ) → i < size → first + i < locations → At (first + i) ≡ location_in first size i
+pub location_at : (first size i : ℕ) → i < size → first + i < locations → prelude.Some (first + i) ≡ location_in first size i
 unfolding location_in
 location_at first size i h k = simp (lt-ltb i (clipped first size) (omega arith))
 
 -- ---- elements
 
 module _ (p : Place) (f size : ℕ) where
-  pub wires_nowhere : (z : ℤ) → location_of f size z ≡ Nowhere → meaning_told p Stuck ≡ element_at (wires (the_wire f) (clipped f size)) z
-  unfolding location_of location_in element_at meaning_told
+  pub wires_nowhere : (z : ℤ) → location_of f size z ≡ prelude.None → no_meaning ≡ element_at (wires (the_wire f) (clipped f size)) z
+  unfolding location_of location_in element_at
   wires_nowhere (negsuc i) h = refl
   wires_nowhere (pos i) h = go (ltb i (clipped f size)) h
     where
-      go : (b : Bool) → cond b (At (f + i)) Nowhere ≡ Nowhere → no_meaning ≡ cond b (give (a_wire (the_wire (f + i)))) no_meaning
+      go : (b : Bool) → cond b (prelude.Some (f + i)) prelude.None ≡ prelude.None → no_meaning ≡ cond b (give (a_wire (the_wire (f + i)))) no_meaning
       go true h = absurd (let z : ◌≡◌ {A = ℕ} 0 1 = cc in omega arith)
       go false h = refl
 
-  pub wires_at : (z : ℤ) (w : Wire) → location_of f size z ≡ At w.0 → meaning_told p (AWire w) ≡ element_at (wires (the_wire f) (clipped f size)) z
-  unfolding location_of location_in element_at meaning_told
+  pub wires_at : (z : ℤ) (w : Wire) → location_of f size z ≡ prelude.Some w.0 → give (a_wire (the_wire w.0)) ≡ element_at (wires (the_wire f) (clipped f size)) z
+  unfolding location_of location_in element_at
   wires_at (negsuc i) w h = absurd (let z : ◌≡◌ {A = ℕ} 0 1 = cc in omega arith)
   wires_at (pos i) w h = go (ltb i (clipped f size)) h
     where
-      go : (b : Bool) → cond b (At (f + i)) Nowhere ≡ At w.0 → give (a_wire (the_wire w.0)) ≡ cond b (give (a_wire (the_wire (f + i)))) no_meaning
+      go : (b : Bool) → cond b (prelude.Some (f + i)) prelude.None ≡ prelude.Some w.0 → give (a_wire (the_wire w.0)) ≡ cond b (give (a_wire (the_wire (f + i)))) no_meaning
       go true h = let e : w.0 ≡ f + i = cc in ap (λ (n : ℕ). give (a_wire (the_wire n))) e
       go false h = absurd (let z : ◌≡◌ {A = ℕ} 0 1 = cc in omega arith)
 
-  pub bits_nowhere : (z : ℤ) → location_of f size z ≡ Nowhere → meaning_told p Stuck ≡ element_at (bits (the_bit f) (clipped f size)) z
-  unfolding location_of location_in element_at meaning_told
+  pub bits_nowhere : (z : ℤ) → location_of f size z ≡ prelude.None → no_meaning ≡ element_at (bits (the_bit f) (clipped f size)) z
+  unfolding location_of location_in element_at
   bits_nowhere (negsuc i) h = refl
   bits_nowhere (pos i) h = go (ltb i (clipped f size)) h
     where
-      go : (b : Bool) → cond b (At (f + i)) Nowhere ≡ Nowhere → no_meaning ≡ cond b (give (a_bit (the_bit (f + i)))) no_meaning
+      go : (b : Bool) → cond b (prelude.Some (f + i)) prelude.None ≡ prelude.None → no_meaning ≡ cond b (give (a_bit (the_bit (f + i)))) no_meaning
       go true h = absurd (let z : ◌≡◌ {A = ℕ} 0 1 = cc in omega arith)
       go false h = refl
 
-  pub bits_at : (z : ℤ) (w : Bit) → location_of f size z ≡ At w.0 → meaning_told p (ABit w) ≡ element_at (bits (the_bit f) (clipped f size)) z
-  unfolding location_of location_in element_at meaning_told
+  pub bits_at : (z : ℤ) (w : Bit) → location_of f size z ≡ prelude.Some w.0 → give (a_bit (the_bit w.0)) ≡ element_at (bits (the_bit f) (clipped f size)) z
+  unfolding location_of location_in element_at
   bits_at (negsuc i) w h = absurd (let z : ◌≡◌ {A = ℕ} 0 1 = cc in omega arith)
   bits_at (pos i) w h = go (ltb i (clipped f size)) h
     where
-      go : (b : Bool) → cond b (At (f + i)) Nowhere ≡ At w.0 → give (a_bit (the_bit w.0)) ≡ cond b (give (a_bit (the_bit (f + i)))) no_meaning
+      go : (b : Bool) → cond b (prelude.Some (f + i)) prelude.None ≡ prelude.Some w.0 → give (a_bit (the_bit w.0)) ≡ cond b (give (a_bit (the_bit (f + i)))) no_meaning
       go true h = let e : w.0 ≡ f + i = cc in ap (λ (n : ℕ). give (a_bit (the_bit n))) e
       go false h = absurd (let z : ◌≡◌ {A = ℕ} 0 1 = cc in omega arith)
 
 -- a negative index, and one that is not
-pub indexed_negative : (f size : ℕ) (z : ℤ) → lt_z z (pos 0) ≡ true → Nowhere ≡ location_of f size z
+pub indexed_negative : (f size : ℕ) (z : ℤ) → lt_z z (pos 0) ≡ true → prelude.None ≡ location_of f size z
 unfolding location_of
 indexed_negative f size (pos i) h = absurd (omega (integers))
 indexed_negative f size (negsuc i) h = refl

@@ -1,10 +1,10 @@
 -- What the code's operands stand for in the machine.
-use Rattle.std.specs.Prelude.{ℕ, ◌+◌, ◌*◌, ◌-◌, min, ◌≡◌, List, [], ◌∷◌, map, cond, ltb, ℤ, pos, negsuc, take, drop}
+use Rattle.std.specs.Prelude.{ℕ, ◌+◌, ◌*◌, ◌-◌, min, ◌≡◌, List, [], ◌∷◌, map, cond, ltb, ℤ, pos, negsuc, take, drop, Option, Some, None, Result, Ok, Err}
 use Rattle.std.proofs.Math.ListN.{get_elem?}
 use Rattle.language.specs.Limits.{most_registers}
-use Rattle.language.specs.Tree.{Place, bad_index, bad_operand}
-use Rattle.language.specs.Read.{field, read_operand, read_passed, due, outer_index, fields}
-use Rattle.language.specs.Machine.{Meaning, a_wire, a_bit, wires, bits, the_family, Run, give, end_at, no_meaning, found, element_at, slice_at, run_bounds, meaning_of, Frame, Direction, Condition, as_wire, as_bit, as_family, wire_of, bit_of, ◌>>=◌}
+use Rattle.language.specs.Tree.{Place, bad_operand}
+use Rattle.language.specs.Read.{field, read_operand, read_passed, due, fields}
+use Rattle.language.specs.Machine.{Meaning, a_wire, a_bit, wires, bits, the_family, Run, give, no_meaning, found, element_at, slice_at, meaning_of, Frame, Direction, Condition, as_wire, as_bit, as_family, wire_of, bit_of, ◌>>=◌}
 use Rattle.language.specs.Machine as machine
 use Rattle.kinds.specs.declared.Kind.{Kind}
 use Rattle.kinds.specs.declared.Kind.TheVariants.{Qubit, Quantum, Classical, Family as family_kind}
@@ -14,16 +14,11 @@ use Rattle.operands.specs.declared.Operand.{Operand}
 use Rattle.operands.specs.declared.Operand.TheVariants.{Single, Register, Family}
 use Rattle.operands.specs.declared.Parameter.{Parameter}
 use Rattle.operands.specs.declared.Scope.{Scope}
-use Rattle.operands.specs.declared.OperandMeaning.{OperandMeaning}
-use Rattle.operands.specs.declared.OperandMeaning.TheVariants.{AWire, ABit, Wires, Bits, AFamily, Over, Stuck}
-use Rattle.operands.specs.declared.Location.{Location}
-use Rattle.operands.specs.declared.BitMeaning.{BitMeaning}
-use Rattle.operands.specs.declared.BitMeaning.TheVariants.{Is as b_is, Over as b_over, Stuck as b_stuck}
-use Rattle.operands.specs.declared.WireMeaning.{WireMeaning}
-use Rattle.operands.specs.declared.WireMeaning.TheVariants.{Is, Over as w_over, Stuck as w_stuck}
-use Rattle.operands.specs.declared.FamilyMeaning.{FamilyMeaning}
-use Rattle.operands.specs.declared.FamilyMeaning.TheVariants.{Is as f_is, Stuck as f_stuck}
-use Rattle.operands.specs.declared.Location.TheVariants.{At, Nowhere}
+use Rattle.operands.specs.declared.Bit.{Bit}
+use Rattle.operands.specs.declared.Meaning as code
+use Rattle.operands.specs.declared.Meaning.TheVariants.{Wire as m_wire, Bit as m_bit, Wires, Bits, Family as m_family}
+use Rattle.indexes.specs.declared.Fault.{Fault}
+use Rattle.indexes.specs.Values.{fault_told}
 
 -- a table of registers has three numbers for each
 abbrev pub register_numbers : ℕ
@@ -69,88 +64,80 @@ registers_of (k ∷ f ∷ s ∷ l) = register_of (kind_with k) f s ∷ registers
 unfoldable pub operands_of : Scope → List ℕ → List Meaning
 operands_of s regs = cond s.top (registers_of (take (3 * s.count) regs)) (map of_parameter (take s.count s.params))
 
--- what the code's answer stands for, at the statement p
-unfoldable pub meaning_told : Place → OperandMeaning → Run Meaning
-meaning_told p (AWire w) = give (a_wire (the_wire w.0))
-meaning_told p (ABit b) = give (a_bit (the_bit b.0))
-meaning_told p (Wires f n) = give (wires (the_wire f.0) (clipped f.0 n))
-meaning_told p (Bits f n) = give (bits (the_bit f.0) (clipped f.0 n))
-meaning_told p (AFamily n) = give (the_family n)
-meaning_told p Over = end_at 24 p
-meaning_told p Stuck = no_meaning
+-- what the code's operand stands for
+unfoldable pub stood : code.Meaning → Meaning
+stood (m_wire w) = a_wire (the_wire w.0)
+stood (m_bit b) = a_bit (the_bit b.0)
+stood (Wires f n) = wires (the_wire f.0) (clipped f.0 n)
+stood (Bits f n) = bits (the_bit f.0) (clipped f.0 n)
+stood (m_family n) = the_family n
 
-unfoldable pub location_in : ℕ → ℕ → ℕ → Location
-location_in first size i = cond (ltb i (clipped first size)) (At (first + i)) Nowhere
+-- what the code's answer stands for, at the statement p
+unfoldable pub meaning_told : Place → Result code.Meaning Fault → Run Meaning
+meaning_told p (Ok m) = give (stood m)
+meaning_told p (Err f) = fault_told p f
+
+unfoldable pub location_in : ℕ → ℕ → ℕ → Option ℕ
+location_in first size i = cond (ltb i (clipped first size)) (Some (first + i)) None
 
 -- the operand number n stands for this
-abbrev pub OperandIs : List Meaning → ℕ → OperandMeaning → Type 0
+abbrev pub OperandIs : List Meaning → ℕ → Result code.Meaning Fault → Type 0
 OperandIs ms n r = (p : Place) → meaning_told p r ≡ found (get_elem? ms n)
 
-unfoldable pub location_of : ℕ → ℕ → ℤ → Location
+unfoldable pub location_of : ℕ → ℕ → ℤ → Option ℕ
 location_of first size (pos i) = location_in first size i
-location_of first size (negsuc i) = Nowhere
+location_of first size (negsuc i) = None
 
 -- the element z of what s stands for
-abbrev pub ElementIs : OperandMeaning → ℤ → OperandMeaning → Type 0
-ElementIs s z r = (p : Place) → meaning_told p r ≡ (meaning_told p s >>= (λ m. element_at m z))
+abbrev pub ElementIs : code.Meaning → ℤ → Result code.Meaning Fault → Type 0
+ElementIs s z r = (p : Place) → meaning_told p r ≡ element_at (stood s) z
 
 -- the run of wires from x to y in a register
-abbrev pub RunIs : Wire → ℕ → (x y : ℤ) → OperandMeaning → Type 0
+abbrev pub RunIs : Wire → ℕ → (x y : ℤ) → Result code.Meaning Fault → Type 0
 RunIs first size x y r = (p : Place) → meaning_told p r ≡ slice_at (wires (the_wire first.0) (clipped first.0 size)) x y
 
 -- the slice from x to y of what s stands for
-abbrev pub SliceIs : OperandMeaning → (x y : ℤ) → OperandMeaning → Type 0
-SliceIs s x y r = (p : Place) → meaning_told p r ≡ (meaning_told p s >>= (λ m. slice_at m x y))
-
--- an index out of range in a part of what s stands for
-abbrev pub OverIn : OperandMeaning → OperandMeaning → Type 0
-OverIn s r = (p : Place) → meaning_told p r ≡ (meaning_told p s >>= (λ m. end_at 24 p))
-
--- the slice whose two indexes are the first in this content, of what the operand number n stands for, wherever it stands
-abbrev pub SliceMeans : List ℕ → List ℤ → OperandMeaning → OperandMeaning → Type 0
-SliceMeans content values s r = (ms : List Meaning) (n : ℕ) → OperandIs ms n s → (p q t : Place) → meaning_told p r
-    ≡ (found (get_elem? ms n) >>= (λ m. run_bounds p values (due outer_index (bad_index 4 q) (fields t content)) (due outer_index (bad_index 4 q) (drop 1 (fields t content))) (slice_at m)))
+abbrev pub SliceIs : code.Meaning → (x y : ℤ) → Result code.Meaning Fault → Type 0
+SliceIs s x y r = (p : Place) → meaning_told p r ≡ slice_at (stood s) x y
 
 abbrev pub frame_of : Direction → Condition → List ℤ → List Meaning → Frame
 frame_of d c values ms = record { direction = d; condition = c; variables = values; operands = ms }
 
 -- the passed family with this content stands for this, wherever it stands
-abbrev pub PassedMeans : List ℕ → OperandMeaning → Type 0
+abbrev pub PassedMeans : List ℕ → Result code.Meaning Fault → Type 0
 PassedMeans content r = (p q : Place) (f : Frame) → meaning_told p r ≡ meaning_of p f (read_passed q content)
 
 -- the operand field with this tag and content stands for this, wherever it stands
-abbrev pub FieldMeans : ℕ → List ℕ → List ℤ → List Meaning → OperandMeaning → Type 0
+abbrev pub FieldMeans : ℕ → List ℕ → List ℤ → List Meaning → Result code.Meaning Fault → Type 0
 FieldMeans tag content values ms r = (p q : Place) (d : Direction) (c : Condition) → meaning_told p r ≡ meaning_of p (frame_of d c values ms) (read_operand (field q tag content))
 
-unfoldable pub wire_told : Place → WireMeaning → Run machine.Wire
-wire_told p (Is w) = give (the_wire w.0)
-wire_told p w_over = end_at 24 p
-wire_told p w_stuck = no_meaning
+unfoldable pub wire_told : Place → Result Wire Fault → Run machine.Wire
+wire_told p (Ok w) = give (the_wire w.0)
+wire_told p (Err f) = fault_told p f
 
-abbrev pub AsWire : OperandMeaning → WireMeaning → Type 0
-AsWire s r = (p : Place) → wire_told p r ≡ (meaning_told p s >>= as_wire)
+abbrev pub AsWire : code.Meaning → Result Wire Fault → Type 0
+AsWire s r = (p : Place) → wire_told p r ≡ as_wire (stood s)
 
 -- the wire of the operand field due at `at`, wherever it stands
-abbrev pub WireAt : List ℕ → ℕ → List ℤ → List Meaning → WireMeaning → Type 0
+abbrev pub WireAt : List ℕ → ℕ → List ℤ → List Meaning → Result Wire Fault → Type 0
 WireAt l at values ms r = (p q t : Place) (d : Direction) (c : Condition) → wire_told p r ≡ wire_of p (frame_of d c values ms) (due read_operand (bad_operand 4 q) (fields t (drop at l)))
 
-unfoldable pub bit_told : Place → BitMeaning → Run machine.Bit
-bit_told p (b_is b) = give (the_bit b.0)
-bit_told p b_over = end_at 24 p
-bit_told p b_stuck = no_meaning
+unfoldable pub bit_told : Place → Result Bit Fault → Run machine.Bit
+bit_told p (Ok b) = give (the_bit b.0)
+bit_told p (Err f) = fault_told p f
 
-abbrev pub AsBit : OperandMeaning → BitMeaning → Type 0
-AsBit s r = (p : Place) → bit_told p r ≡ (meaning_told p s >>= as_bit)
+abbrev pub AsBit : code.Meaning → Result Bit Fault → Type 0
+AsBit s r = (p : Place) → bit_told p r ≡ as_bit (stood s)
 
 -- the bit of the operand field due at `at`, wherever it stands
-abbrev pub BitAt : List ℕ → ℕ → List ℤ → List Meaning → BitMeaning → Type 0
+abbrev pub BitAt : List ℕ → ℕ → List ℤ → List Meaning → Result Bit Fault → Type 0
 BitAt l at values ms r =
     (p q t : Place) (d : Direction) (c : Condition) → bit_told p r ≡ bit_of p (frame_of d c values ms) (due read_operand (bad_operand 4 q) (fields t (drop at l)))
 
-unfoldable pub family_told : FamilyMeaning → Run ℕ
-family_told (f_is n) = give n
-family_told f_stuck = no_meaning
+unfoldable pub family_told : Option ℕ → Run ℕ
+family_told (Some n) = give n
+family_told None = no_meaning
 
 -- the family that the operand number n stands for
-abbrev pub FamilyOf : List Meaning → ℕ → FamilyMeaning → Type 0
+abbrev pub FamilyOf : List Meaning → ℕ → Option ℕ → Type 0
 FamilyOf ms n r = family_told r ≡ (found (get_elem? ms n) >>= as_family)
