@@ -9,8 +9,9 @@ use Rattle.language.specs.Read.{Field, due, outer_index}
 use Rattle.language.specs.Form.{Form, Loop}
 use Rattle.language.specs.Check.{Checked, good, refused, ◌>>=◌, form_of, check_bounds}
 use Rattle.fields.specs.Header.{fields_at}
-use Rattle.forms.specs.Flat.{as_form}
-use Rattle.check_index.specs.Answers.{checked_form, PastField, checked_part}
+use Rattle.forms.specs.Flat.{Kept, as_form}
+use Rattle.check_index.specs.Answers.{checked_form, PastField, FormPasses, checked_part}
+use Rattle.check_index.proofs.Answers.{beyond_none, beyond_more}
 use Rattle.check_index.specs.Bounds.{checked_bounds, bounds_due, BoundsPass}
 use Rattle.std.specs.Prelude.{Result, Ok, Err}
 use Rattle.refusals.specs.Reasons.{number_of}
@@ -52,6 +53,12 @@ module _ (s : C.Scope) (program : List ℕ) (at from to : ℕ) (r : Result ℕ R
     pub high_good : (end : ℕ) → t ≡ Ok end → checked_bounds (Ok end) l k ≡ bounds_due s at (fields_at program from to)
     unfolding checked_bounds checked_form ◌>>=◌
     high_good end w = sym (high_is ∙ ap (λ (x : Result ℕ Refusal). checked_form x k >>= λ g. good (record { low = as_form l; high = g })) w)
+
+-- the second index passes where the first did
+pub both_pass : (program : List ℕ) (at mid to : ℕ) (l : List ℤ) → PastField program at to mid × Kept l → (r : Result ℕ Refusal) (h : List ℤ) → FormPasses program mid to r h → BoundsPass program at to r l h
+both_pass program at mid to l v (Ok n) h w =
+    (beyond_more program at to 1 mid n (beyond_more program at to 0 at mid (beyond_none program at to) v.0) w.0, v.1, w.1, w.0.high)
+both_pass program at mid to l v (Err e) h w = tt
 
 pub bounds_upto : (program : List ℕ) (at to : ℕ) (r : Result ℕ Refusal) (a b : List ℤ) (m : ℕ) → r ≡ Ok m → BoundsPass program at to r a b → BoundsPass program at to (Ok m) a b
 bounds_upto program at to r a b m e h = rw e at h

@@ -14,7 +14,7 @@ ghost use Rattle.check_index.specs.Indexes.{IndexSays, tree_operation, scope_of}
 ghost use Rattle.check_index.specs.Answers.{checked_form, FormEndsAt, FormPasses};
 ghost use Rattle.check_index.specs.Bounds.{checked_bounds, bounds_due, BoundsPass};
 
-use fields::{Header, NoHeader};
+use fields::NoHeader;
 use forms::{FORM_NUMBERS, Form, NoProduct, OutOfRange};
 use limits::DEEPEST;
 use refusals::{Reason, Refusal};
@@ -157,10 +157,11 @@ pub fn index(
     match fields::header_at(program, at, to) {
         Err(NoHeader::End) => Err(Refusal(Reason::BadContent, parent)),
         Err(NoHeader::Cut) => Err(Refusal(Reason::BadHeader, at)),
-        Ok(Header { tag, next }) => {
-            let kind = index_tag(tag);
+        Ok(header) => {
+            let next = header.next;
+            let kind = index_tag(header.tag);
             if levels == 0 {
-                return Err(Refusal(too_deep(tag), at));
+                return Err(Refusal(too_deep(header.tag), at));
             }
             let below = levels - 1;
             let from = at + 3;
