@@ -6,10 +6,14 @@ use native.Mathlib.Omega.{arith}
 use lib.Seq.{slice}
 use Rattle.language.specs.Tree.{Place, Argument, bad_argument}
 use Rattle.language.specs.Read.{Field, field, read_argument}
-use Rattle.language.specs.Machine.{Run, Outcome, going, ended, stuck, give, end_at, no_meaning, after, ◌>>=◌, Direction, Condition}
-use Rattle.fields.specs.declared.Header.TheVariants.{Whole, End, Cut}
+use Rattle.language.specs.Machine.{Run, Outcome, going, ended, stuck, give, no_meaning, after, ◌>>=◌, Direction, Condition}
+use Rattle.std.specs.Prelude.{Ok, Err}
+use Rattle.indexes.specs.declared.Fault.{Fault}
+use Rattle.indexes.specs.declared.Fault.TheVariants.{Over, Stuck}
+use Rattle.indexes.specs.Values.{fault_told}
+use Rattle.fields.specs.declared.NoHeader.TheVariants.{End, Cut}
 use Rattle.fields.proofs.Between.{look_in, in_whole, in_none, in_bad}
-use Rattle.calls.specs.Arguments.{arguments_in, Gives, EndsOutOfRange, Sticks}
+use Rattle.calls.specs.Arguments.{arguments_in, Gives, Fails}
 
 -- ---- runs that give lists
 
@@ -44,13 +48,10 @@ module _ {A : Type 0} where
       go (ended n p s) = refl
       go stuck = refl
 
-  joined_ends : (xs : List A) (q : Place) (run : Run (List A)) → joined xs (led (end_at 24 q) run) ≡ end_at 24 q
-  unfolding joined led ◌>>=◌ after
-  joined_ends xs q run = refl
-
-  joined_sticks : (xs : List A) (run : Run (List A)) → joined xs (led no_meaning run) ≡ no_meaning
-  unfolding joined led ◌>>=◌ after
-  joined_sticks xs run = refl
+  joined_fails : (xs : List A) (q : Place) (f : Fault) (run : Run (List A)) → joined xs (led (fault_told q f) run) ≡ fault_told q f
+  unfolding joined led ◌>>=◌ after fault_told
+  joined_fails xs q Over run = refl
+  joined_fails xs q Stuck run = refl
 
   joined_stuck : (xs : List A) → joined {A = A} xs no_meaning ≡ no_meaning
   unfolding joined ◌>>=◌ after
@@ -79,16 +80,16 @@ module _ {A : Type 0} (of : Lister A) (l : List ℕ) (from to : ℕ) where
   sofar_start q t d c = let e : t + (from - from) ≡ t = omega arith in rw e (sym (joined_none (of q d c (arguments_in t (slice from to l)))))
 
   module _ (at : ℕ) (low : from ≤ at) (xs : List A) (s : Sofar of l from to at xs) where
-    pub sofar_end : look_in l at to ≡ End → ((q : Place) (d : Direction) (c : Condition) → of q d c [] ≡ give []) → Gives (λ q t d c. of q d c (arguments_in t (slice from to l))) xs
+    pub sofar_end : look_in l at to ≡ Err End → ((q : Place) (d : Direction) (c : Condition) → of q d c [] ≡ give []) → Gives (λ q t d c. of q d c (arguments_in t (slice from to l))) xs
     sofar_end e n q t d c =
         s q t d c ∙ ap (λ (fs : List Field). joined xs (of q d c (map read_argument fs))) (in_none l at to e (t + (at - from))) ∙ ap (joined xs) (n q d c) ∙ joined_end xs
 
-    pub sofar_cut : look_in l at to ≡ Cut → ((q t : Place) (d : Direction) (c : Condition) → of q d c (bad_argument 2 t ∷ []) ≡ no_meaning) → Sticks (λ q t d c. of q d c (arguments_in t (slice from to l)))
-    unfolding read_argument
+    pub sofar_cut : look_in l at to ≡ Err Cut → ((q t : Place) (d : Direction) (c : Condition) → of q d c (bad_argument 2 t ∷ []) ≡ no_meaning) → Fails (λ q t d c. of q d c (arguments_in t (slice from to l))) Stuck
+    unfolding read_argument fault_told
     sofar_cut e n q t d c =
         s q t d c ∙ ap (λ (fs : List Field). joined xs (of q d c (map read_argument fs))) (in_bad l at to e (t + (at - from))) ∙ ap (joined xs) (n q (t + (at - from)) d c) ∙ joined_stuck xs
 
-    module _ (tag next : ℕ) (e : look_in l at to ≡ Whole tag next) where
+    module _ (tag next : ℕ) (e : look_in l at to ≡ Ok (record { tag = tag; next = next })) where
       abbrev later : Place → List Argument
       later t = arguments_in (t + (next - from)) (slice next to l)
 
@@ -109,8 +110,5 @@ module _ {A : Type 0} (of : Lister A) (l : List ℕ) (from to : ℕ) where
         pub sofar_more : (x : A) → ((q : Place) → first q ≡ give x) → Sofar of l from to next (xs ++ (x ∷ []))
         sofar_more x f q t d c = sofar_leads q t d c ∙ ap (λ (r : Run A). joined xs (led r (of q d c (later t)))) (f q) ∙ joined_led xs x (of q d c (later t))
 
-        pub sofar_over : ((q : Place) → first q ≡ end_at 24 q) → EndsOutOfRange (λ q t d c. of q d c (arguments_in t (slice from to l)))
-        sofar_over f q t d c = sofar_leads q t d c ∙ ap (λ (r : Run A). joined xs (led r (of q d c (later t)))) (f q) ∙ joined_ends xs q (of q d c (later t))
-
-        pub sofar_stuck : ((q : Place) → first q ≡ no_meaning) → Sticks (λ q t d c. of q d c (arguments_in t (slice from to l)))
-        sofar_stuck f q t d c = sofar_leads q t d c ∙ ap (λ (r : Run A). joined xs (led r (of q d c (later t)))) (f q) ∙ joined_sticks xs (of q d c (later t))
+        pub sofar_fails : (f : Fault) → ((q : Place) → first q ≡ fault_told q f) → Fails (λ q t d c. of q d c (arguments_in t (slice from to l))) f
+        sofar_fails f g q t d c = sofar_leads q t d c ∙ ap (λ (r : Run A). joined xs (led r (of q d c (later t)))) (g q) ∙ joined_fails xs q f (of q d c (later t))

@@ -13,6 +13,8 @@ use Rattle.language.specs.Machine.{call_family, Meaning, Run, Direction, Conditi
 use Rattle.language.proofs.Families.{declaration_is, call_falls}
 use Rattle.fields.specs.Table.{past_of}
 use Rattle.operands.specs.Meanings.{frame_of}
+use Rattle.std.specs.Prelude.{Result}
+use Rattle.indexes.specs.declared.Fault.{Fault}
 use Rattle.calls.specs.declared.Taken.{Taken}
 use Rattle.calls.specs.Families.{FamilyHead, Entry, declared_at}
 use Rattle.calls.specs.Arguments.{arguments_in, gathered_operands, arguments_told, Arguments}
@@ -29,7 +31,7 @@ declared_at_lem l k at e =
 
 module _ (program : List ℕ) (k at seen : ℕ) (e : Entry program k at) (h : k < seen) where
   -- a call of the family, by its number, of which l are the arguments
-  pub call_is : (l : List ℕ) (values : List ℤ) (ms : List Meaning) (sizes : List ℤ) (numbers : List ℕ) (r : Taken) → Arguments l program at values ms sizes numbers r
+  pub call_is : (l : List ℕ) (values : List ℤ) (ms : List Meaning) (sizes : List ℤ) (numbers : List ℕ) (r : Result Taken Fault) → Arguments l program at values ms sizes numbers r
       → (limit out : ℕ) (q t : Place) (d : Direction) (c : Condition)
       → run_statement limit out (call q k (arguments_in t l)) (take seen (all_declared limit out (read program) [])) (frame_of d c values ms)
       ≡ (step limit out q >> arguments_told q r (λ n. run_statements limit out (declared_at program at).body (take k (all_declared limit out (read program) []))

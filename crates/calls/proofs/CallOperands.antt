@@ -4,8 +4,6 @@ use mathlib.Core.Bool.{Bool, true, false, cond, ◌&&◌}
 use mathlib.Core.List.{List, [], ◌∷◌, ◌++◌}
 use Prim.Native.Nat.{ℕ, zero, suc, ◌+◌, ◌*◌, ◌≤◌, ◌<◌}
 use native.Mathlib.Omega.{arith}
-use types.Run.{OneOf, miss}
-use denote.Enum.Declared.{tag_of}
 use borrow.Author.Tests.{ne_eqb, leb-true, leb-false}
 use lib.IntN.{ℤ}
 use lib.ListN.{length, take, set, length-append, length-take}
@@ -14,18 +12,20 @@ use lib.Dec.{leb}
 use Rattle.language.specs.Limits.{most_parameters}
 use Rattle.language.specs.Tree.{Place, qbit, qbits, bad_type, ParameterType, plain, family_type, operand, bad_argument}
 use Rattle.language.specs.Read.{field, read_argument, read_operand, choose, is_index_tag, is_operand_tag}
-use Rattle.language.specs.Machine.{Meaning, Run, Outcome, going, begin, give, no_meaning, after, ◌>>=◌, Direction, Condition, meanings_of, meaning_of, is_wire, is_quantum, is_family, takes, all_take}
+use Rattle.language.specs.Machine.{Meaning, Run, no_meaning, after, ◌>>=◌, Direction, Condition, meanings_of, meaning_of, is_wire, is_quantum, is_family, takes, all_take}
 use Rattle.kinds.specs.declared.Kind.{Kind}
 use Rattle.kinds.specs.Numbers.{number_of, kind_with, kind_back}
-use Rattle.operands.specs.declared.OperandMeaning.{OperandMeaning}
-use Rattle.operands.specs.declared.OperandMeaning.TheVariants.{AWire, ABit, Wires, Bits, AFamily, Over, Stuck}
-use Rattle.operands.specs.Meanings.{frame_of, meaning_told, FieldMeans}
-use Rattle.operands.specs.contracts.OperandMeaning.{the_type as meaning-type}
-use Rattle.fields.specs.declared.Header.TheVariants.{Whole, End, Cut}
+use Rattle.std.specs.Prelude.{Result, Ok, Err}
+use Rattle.indexes.specs.declared.Fault.{Fault}
+use Rattle.indexes.specs.declared.Fault.TheVariants.{Stuck}
+use Rattle.operands.specs.declared.Wire.{Wire}
+use Rattle.operands.specs.declared.Meaning as code
+use Rattle.operands.specs.declared.Meaning.TheVariants.{Wire as m_wire, Bit as m_bit, Wires, Bits, Family as m_family}
+use Rattle.operands.specs.Meanings.{frame_of, stood, meaning_told, FieldMeans}
+use Rattle.fields.specs.declared.NoHeader.TheVariants.{End, Cut}
 use Rattle.fields.proofs.Between.{look_in, in_whole}
-use Rattle.calls.specs.declared.Gathered.TheVariants.{Are, Over as g_over, Stuck as g_stuck}
-use Rattle.calls.specs.Arguments.{operand_numbers, operand_arguments, gathered_operand, gathered_operands, Unfit, OperandsKept, GathersMore, OperandsGathered, operands_are, operands_over, operands_stuck}
-use Rattle.calls.proofs.ArgumentLists.{Lister, Sofar, ListLeads, Skipped, led, sofar_start, sofar_end, sofar_cut, sofar_skip, sofar_more, sofar_over, sofar_stuck}
+use Rattle.calls.specs.Arguments.{operand_numbers, operand_arguments, gathered_operand, gathered_operands, Unfit, OperandsKept, GathersMore, OperandsGathered, operands_are, operands_fail}
+use Rattle.calls.proofs.ArgumentLists.{Lister, Sofar, ListLeads, Skipped, led, sofar_start, sofar_end, sofar_cut, sofar_skip, sofar_more, sofar_fails}
 
 -- ---- operands that no family takes
 
@@ -105,36 +105,35 @@ gathered_length (suc n) (a ∷ []) h = absurd (omega arith)
 gathered_length (suc n) (a ∷ b ∷ []) h = absurd (omega arith)
 gathered_length (suc n) (a ∷ b ∷ c ∷ l) h = let e : 3 * suc n ≡ suc (suc (suc (3 * n))) = omega arith in rw e (ap suc (gathered_length n l (omega arith)))
 
-give_same : {m n : Meaning} → give m ≡ give n → m ≡ n
-give_same {m} {n} e = let d : ◌≡◌ {A = Outcome Meaning} (going m begin) (going n begin) = ap (λ (r : Run Meaning). r begin) e in cc
+-- an operand that is no wire, no run of wires and no family
+classical_is : (m : code.Meaning) → ((w : Wire) → m ≡ m_wire w → ⊥) → ((w : Wire) (k : ℕ) → m ≡ Wires w k → ⊥) → ((k : ℕ) → m ≡ m_family k → ⊥)
+    → (is_wire (stood m) ≡ false) × (is_quantum (stood m) ≡ false) × (is_family (stood m) ≡ false)
+unfolding stood is_wire is_quantum is_family
+classical_is (m_wire w) a b d = absurd (a w refl)
+classical_is (m_bit x) a b d = (refl, refl, refl)
+classical_is (Wires w k) a b d = absurd (b w k refl)
+classical_is (Bits x k) a b d = (refl, refl, refl)
+classical_is (m_family k) a b d = absurd (d k refl)
 
-module _ (given : List ℕ) (n : ℕ) (s : OperandMeaning) where
+module _ (given : List ℕ) (n : ℕ) (s : code.Meaning) where
   -- one operand more than any family takes
   pub gathers_long : length given ≡ operand_numbers → most_parameters ≤ n → GathersMore given n s given too_many
-  gathers_long z h p ms m e k = record { same = λ i. absurd (omega arith); unfit = λ i. go (leb n most_parameters) (leb-true n most_parameters) (leb-false n most_parameters) }
+  gathers_long z h ms k = record { same = λ i. absurd (omega arith); unfit = λ i. go (leb n most_parameters) (leb-true n most_parameters) (leb-false n most_parameters) }
     where
-      go : (b : Bool) → (b ≡ true → n ≤ most_parameters) → (b ≡ false → most_parameters < n) → Unfit (ms ++ (m ∷ []))
-      go true f g = let i = f refl in unfit_long ms m (rw (k.same i) (omega (arith, gathered_length n given (omega arith))))
-      go false f g = unfit_more ms m (k.unfit (g refl))
+      go : (b : Bool) → (b ≡ true → n ≤ most_parameters) → (b ≡ false → most_parameters < n) → Unfit (ms ++ (stood s ∷ []))
+      go true f g = let i = f refl in unfit_long ms (stood s) (rw (k.same i) (omega (arith, gathered_length n given (omega arith))))
+      go false f g = unfit_more ms (stood s) (k.unfit (g refl))
 
   module _ (h : n < most_parameters) where
-    pub gathers_taken : (kind : Kind) (first size : ℕ) (after : List ℕ) → ((p : Place) → meaning_told p s ≡ give (gathered_operand kind first size))
+    pub gathers_taken : (kind : Kind) (first size : ℕ) (after : List ℕ) → stood s ≡ gathered_operand kind first size
         → gathered_operands (take (3 * (n + 1)) after) ≡ gathered_operands (take (3 * n) given) ++ (gathered_operand kind first size ∷ []) → GathersMore given n s after (n + 1)
-    gathers_taken kind first size after f g p ms m e k = record {
-      same = λ i. rw (give_same (sym e ∙ f p)) (ap (λ (x : List Meaning). x ++ (gathered_operand kind first size ∷ [])) (k.same (omega arith)) ∙ sym g);
+    gathers_taken kind first size after f g ms k = record {
+      same = λ i. rw f (ap (λ (x : List Meaning). x ++ (gathered_operand kind first size ∷ [])) (k.same (omega arith)) ∙ sym g);
       unfit = λ i. absurd (omega arith);
     }
 
-    pub gathers_classical : (c : Meaning) → ((p : Place) → meaning_told p s ≡ give c) → is_wire c ≡ false → is_quantum c ≡ false → is_family c ≡ false → GathersMore given n s given too_many
-    gathers_classical c f x y z p ms m e k = record { same = λ i. absurd (omega arith); unfit = λ i. rw (give_same (sym e ∙ f p)) (λ types j. all_take_classical types ms c x y z) }
-
-    pub gathers_over : s ≡ Over → GathersMore given n s given too_many
-    unfolding meaning_told
-    gathers_over f p ms m e k = absurd (let d : ◌≡◌ {A = Outcome Meaning} (meaning_told p Over begin) (going m begin) = ap (λ (r : Run Meaning). r begin) (ap (meaning_told p) (sym f) ∙ e) in let z : ◌≡◌ {A = ℕ} 0 1 = cc in omega arith)
-
-    pub gathers_stuck : s ≡ Stuck → GathersMore given n s given too_many
-    unfolding meaning_told
-    gathers_stuck f p ms m e k = absurd (let d : ◌≡◌ {A = Outcome Meaning} (meaning_told p Stuck begin) (going m begin) = ap (λ (r : Run Meaning). r begin) (ap (meaning_told p) (sym f) ∙ e) in let z : ◌≡◌ {A = ℕ} 0 1 = cc in omega arith)
+    pub gathers_classical : ((w : Wire) → s ≡ m_wire w → ⊥) → ((w : Wire) (k : ℕ) → s ≡ Wires w k → ⊥) → ((k : ℕ) → s ≡ m_family k → ⊥) → GathersMore given n s given too_many
+    gathers_classical a b d ms k = record { same = λ i. absurd (omega arith); unfit = λ i types j. (let x = classical_is s a b d in all_take_classical types ms (stood s) x.0 x.1 x.2) }
 
 -- before the first operand
 pub gathers_nothing : (given : List ℕ) → OperandsKept [] given 0
@@ -166,7 +165,7 @@ module _ (values : List ℤ) (ms : List Meaning) (tag : ℕ) (content : List ℕ
       other : {n : ℕ} → tag ≡ n → is_operand_tag tag ≡ false → is_operand_tag n ≡ true → ⊥
       other e h f = let z : ◌≡◌ {A = Bool} true false = sym f ∙ ap is_operand_tag (sym e) ∙ h in let y : ◌≡◌ {A = ℕ} 0 1 = cc in omega arith
 
-  operand_leads : is_index_tag tag ≡ false → (x : OperandMeaning) → FieldMeans tag content values ms x → ListLeads (meanings_by values ms) tag content (λ q. meaning_told q x)
+  operand_leads : is_index_tag tag ≡ false → (x : Result code.Meaning Fault) → FieldMeans tag content values ms x → ListLeads (meanings_by values ms) tag content (λ q. meaning_told q x)
   unfolding read_argument meanings_of led ◌>>=◌ after
   operand_leads h x w q t d c more = rw (w q t d c, h) (go (is_operand_tag tag) refl)
     where
@@ -174,34 +173,20 @@ module _ (values : List ℤ) (ms : List Meaning) (tag : ℕ) (content : List ℕ
       go true e = refl
       go false e = rw (no_operand e q t d c)
 
-pub not_over : (x : OperandMeaning) → OneOf (0 ∷ 1 ∷ 2 ∷ 3 ∷ 4 ∷ 6 ∷ []) (tag_of meaning-type x) → x ≡ Over → ⊥
-not_over x h e = miss (0 ∷ 1 ∷ 2 ∷ 3 ∷ 4 ∷ 6 ∷ []) 5 tt (rw e at h)
-
--- what an operand stands for, if for anything
-some_meaning : (x : OperandMeaning) → (x ≡ Over → ⊥) → (x ≡ Stuck → ⊥) → (m : Meaning) × ((q : Place) → meaning_told q x ≡ give m)
-unfolding meaning_told
-some_meaning (AWire w) a b = (_, λ q. refl)
-some_meaning (ABit w) a b = (_, λ q. refl)
-some_meaning (Wires w n) a b = (_, λ q. refl)
-some_meaning (Bits w n) a b = (_, λ q. refl)
-some_meaning (AFamily n) a b = (_, λ q. refl)
-some_meaning Over a b = absurd (a refl)
-some_meaning Stuck a b = absurd (b refl)
-
 module _ (l : List ℕ) (from to : ℕ) (values : List ℤ) (ms : List Meaning) where
   pub operands_start : (given : List ℕ) → OperandsSoFar l from to values ms given from 0
   operands_start given = record { operands = []; low = omega arith; sofar = sofar_start (meanings_by values ms) l from to; kept = gathers_nothing given }
 
   module _ (given : List ℕ) (at n : ℕ) (s : OperandsSoFar l from to values ms given at n) where
-    pub gathered_end : look_in l at to ≡ End → OperandsGathered (operand_arguments (slice from to l) values ms) given (Are n)
+    pub gathered_end : look_in l at to ≡ Err End → OperandsGathered (operand_arguments (slice from to l) values ms) given (Ok n)
     unfolding meanings_of
     gathered_end e = operands_are s.operands (sofar_end (meanings_by values ms) l from to at s.low s.operands s.sofar e (λ q d c. refl)) s.kept
 
-    pub gathered_cut : look_in l at to ≡ Cut → OperandsGathered (operand_arguments (slice from to l) values ms) given g_stuck
+    pub gathered_cut : look_in l at to ≡ Err Cut → OperandsGathered (operand_arguments (slice from to l) values ms) given (Err Stuck)
     unfolding meanings_of
-    gathered_cut e = operands_stuck (sofar_cut (meanings_by values ms) l from to at s.low s.operands s.sofar e (λ q t d c. refl))
+    gathered_cut e = operands_fail (sofar_cut (meanings_by values ms) l from to at s.low s.operands s.sofar e (λ q t d c. refl))
 
-    module _ (tag next : ℕ) (e : look_in l at to ≡ Whole tag next) where
+    module _ (tag next : ℕ) (e : look_in l at to ≡ Ok (record { tag = tag; next = next })) where
       further : from ≤ next
       further = omega (arith, (in_whole l at to tag next e).low, s.low)
 
@@ -213,24 +198,19 @@ module _ (l : List ℕ) (from to : ℕ) (values : List ℤ) (ms : List Meaning) 
         kept = s.kept;
       }
 
-      module _ (h : is_index_tag tag ≡ false) (x : OperandMeaning) (w : FieldMeans tag (slice (at + 3) next l) values ms x) where
+      module _ (h : is_index_tag tag ≡ false) (x : Result code.Meaning Fault) (w : FieldMeans tag (slice (at + 3) next l) values ms x) where
         leads : ListLeads (meanings_by values ms) tag (slice (at + 3) next l) (λ q. meaning_told q x)
         leads = operand_leads values ms tag (slice (at + 3) next l) h x w
 
-        pub gathered_over : x ≡ Over → OperandsGathered (operand_arguments (slice from to l) values ms) given g_over
+        pub gathered_fail : (f : Fault) → x ≡ Err f → OperandsGathered (operand_arguments (slice from to l) values ms) given (Err f)
         unfolding meaning_told
-        gathered_over f = operands_over (sofar_over (meanings_by values ms) l from to at s.low s.operands s.sofar tag next e (λ q. meaning_told q x) leads (λ q. ap (meaning_told q) f))
+        gathered_fail f g = operands_fail (sofar_fails (meanings_by values ms) l from to at s.low s.operands s.sofar tag next e (λ q. meaning_told q x) leads f (λ q. ap (meaning_told q) g))
 
-        pub gathered_stuck : x ≡ Stuck → OperandsGathered (operand_arguments (slice from to l) values ms) given g_stuck
+        pub gathered_one : (m : code.Meaning) → x ≡ Ok m → (after : List ℕ) (r : ℕ) → GathersMore given n m after r → OperandsSoFar l from to values ms after next r
         unfolding meaning_told
-        gathered_stuck f = operands_stuck (sofar_stuck (meanings_by values ms) l from to at s.low s.operands s.sofar tag next e (λ q. meaning_told q x) leads (λ q. ap (meaning_told q) f))
-
-        pub gathered_one : (x ≡ Over → ⊥) → (x ≡ Stuck → ⊥) → (after : List ℕ) (r : ℕ) → GathersMore given n x after r → OperandsSoFar l from to values ms after next r
-        gathered_one a b after r k =
-            let m = some_meaning x a b in
-            record {
-              operands = s.operands ++ (m.0 ∷ []);
-              low = further;
-              sofar = sofar_more (meanings_by values ms) l from to at s.low s.operands s.sofar tag next e (λ q. meaning_told q x) leads m.0 m.1;
-              kept = k 0 s.operands m.0 (m.1 0) s.kept;
-            }
+        gathered_one m f after r k = record {
+          operands = s.operands ++ (stood m ∷ []);
+          low = further;
+          sofar = sofar_more (meanings_by values ms) l from to at s.low s.operands s.sofar tag next e (λ q. meaning_told q x) leads (stood m) (λ q. ap (meaning_told q) f);
+          kept = k s.operands s.kept;
+        }

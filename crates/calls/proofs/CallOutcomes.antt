@@ -2,11 +2,8 @@
 use mathlib.Core.Path.{◌≡◌, refl, sym, ap, ◌∙◌}
 use mathlib.Core.Bool.{Bool, true, false, cond, ◌&&◌}
 use mathlib.Core.List.{List, [], ◌∷◌, map}
-use mathlib.Core.Logic.{⊎_elim}
 use Prim.Native.Nat.{ℕ, zero, suc, ◌+◌, ◌*◌, ◌≤◌, ◌<◌}
 use native.Mathlib.Omega.{arith}
-use types.Run.{OneOf}
-use denote.Enum.Declared.{tag_of}
 use lib.Dec.{eqb}
 use borrow.Author.Tests.{eqb-true}
 use lib.IntN.{ℤ}
@@ -15,79 +12,49 @@ use lib.Seq.{drop-cons}
 use Rattle.language.specs.Limits.{most_variables, most_parameters}
 use Rattle.language.specs.Tree.{Place, Argument}
 use Rattle.language.specs.Lookup.{meaning}
-use Rattle.language.specs.Machine.{call_family, Meaning, Run, give, end_at, no_meaning, after, ◌>>=◌, Direction, Condition, Frame, Family, sizes_of, meanings_of, all_take, enter, in_call, run_statements}
+use Rattle.language.specs.Machine.{call_family, Meaning, Run, give, no_meaning, after, ◌>>=◌, Direction, Condition, Frame, Family, sizes_of, meanings_of, all_take, enter, in_call, run_statements}
 use Rattle.operands.specs.declared.Parameter.{Parameter}
 use Rattle.operands.specs.declared.Scope.{Scope}
 use Rattle.operands.specs.Meanings.{frame_of, operands_of, of_parameter}
-use Rattle.calls.specs.declared.Gathered.{Gathered}
-use Rattle.calls.specs.declared.Gathered.TheVariants.{Are, Over as g_over, Stuck as g_stuck}
-use Rattle.calls.specs.declared.Fit.{Fit}
-use Rattle.calls.specs.declared.Fit.TheVariants.{From, Not}
-use Rattle.calls.specs.declared.Taken.TheVariants.{All, Over, Stuck}
-use Rattle.calls.specs.contracts.Gathered.{the_type as gathered-type}
+use Rattle.std.specs.Prelude.{Option as Maybe, Some, None, Result, Ok, Err}
+use Rattle.indexes.specs.declared.Fault.{Fault}
+use Rattle.indexes.specs.declared.Fault.TheVariants.{Over, Stuck}
+use Rattle.indexes.specs.Values.{fault_told}
 use Rattle.calls.specs.Families.{FamilyHead, declared_at, BodyFrom}
 use Rattle.kinds.specs.Numbers.{kind_with}
-use Rattle.calls.specs.Arguments.{arguments_in, size_arguments, operand_arguments, operand_numbers, gathered_operand, gathered_operands, Gives, SizesGathered, are, over, stuck, OperandsKept, OperandsGathered, operands_are, operands_over, operands_stuck, taking, FamilyTakes, Scopes, arguments_told, BodyBegins, Arguments}
-use Rattle.fields.proofs.Parts.{not_first}
+use Rattle.calls.specs.Arguments.{arguments_in, size_arguments, operand_arguments, operand_numbers, gathered_operand, gathered_operands, Gives, SizesGathered, are, fails, OperandsKept, OperandsGathered, operands_are, operands_fail, taking, FamilyTakes, Scopes, arguments_told, BodyBegins, Arguments}
 
 -- a family takes these sizes and operands, or does not
 unfoldable entered : Bool → Run (Unit {0}) → Run (Unit {0})
 entered b run = cond b run no_meaning
 
 module _ (q : Place) (f : Frame) (args : List Argument) (called : Family) where
-  ends_first : sizes_of q f args ≡ end_at 24 q → call_family q f args called ≡ end_at 24 q
-  unfolding call_family ◌>>=◌ after
-  ends_first e = rw e
-
-  sticks_first : sizes_of q f args ≡ no_meaning → call_family q f args called ≡ no_meaning
-  unfolding call_family ◌>>=◌ after
-  sticks_first e = rw e
+  fails_first : (fault : Fault) → sizes_of q f args ≡ fault_told q fault → call_family q f args called ≡ fault_told q fault
+  unfolding call_family ◌>>=◌ after fault_told
+  fails_first Over e = rw e
+  fails_first Stuck e = rw e
 
   module _ (zs : List ℤ) (z : sizes_of q f args ≡ give zs) where
-    ends_second : meanings_of q f args ≡ end_at 24 q → call_family q f args called ≡ end_at 24 q
-    unfolding call_family ◌>>=◌ after
-    ends_second e = rw (z, e)
-
-    sticks_second : meanings_of q f args ≡ no_meaning → call_family q f args called ≡ no_meaning
-    unfolding call_family ◌>>=◌ after
-    sticks_second e = rw (z, e)
+    fails_second : (fault : Fault) → meanings_of q f args ≡ fault_told q fault → call_family q f args called ≡ fault_told q fault
+    unfolding call_family ◌>>=◌ after fault_told
+    fails_second Over e = rw (z, e)
+    fails_second Stuck e = rw (z, e)
 
     enters : (ms : List Meaning) → meanings_of q f args ≡ give ms → call_family q f args called ≡ entered (eqb (length zs) called.variables && all_take called.types ms) (called.body (in_call f zs ms))
     unfolding call_family ◌>>=◌ after enter in_call entered
     enters ms e = rw (z, e)
 
 module _ (l program : List ℕ) (at : ℕ) (values : List ℤ) (ms : List Meaning) (stored : List ℤ) (numbers : List ℕ) where
-  -- a call that ends with a refusal, and one without meaning
-  ends_call : ((q t : Place) (d : Direction) (c : Condition) (called : Family) → call_family q (frame_of d c values ms) (arguments_in t l) called ≡ end_at 24 q) → Arguments l program at values ms stored numbers Over
+  -- a call that fails
+  fails_call : (f : Fault) → ((q t : Place) (d : Direction) (c : Condition) (called : Family) → call_family q (frame_of d c values ms) (arguments_in t l) called ≡ fault_told q f) → Arguments l program at values ms stored numbers (Err f)
   unfolding arguments_told BodyBegins
-  ends_call h = record { same = λ q t d c limit out fs. h q t d c (meaning limit out fs (declared_at program at)); begins = tt }
+  fails_call f h = record { same = λ q t d c limit out fs. h q t d c (meaning limit out fs (declared_at program at)); begins = tt }
 
-  sticks_call : ((q t : Place) (d : Direction) (c : Condition) (called : Family) → call_family q (frame_of d c values ms) (arguments_in t l) called ≡ no_meaning) → Arguments l program at values ms stored numbers Stuck
-  unfolding arguments_told BodyBegins
-  sticks_call h = record { same = λ q t d c limit out fs. h q t d c (meaning limit out fs (declared_at program at)); begins = tt }
-
-  module _ (s : Gathered) (z : SizesGathered (size_arguments l values ms) stored s) where
-    pub sizes_end : s ≡ g_over → Arguments l program at values ms stored numbers Over
-    sizes_end e = ends_call (go s e z)
-      where
-        go : (s : Gathered) → s ≡ g_over → SizesGathered (size_arguments l values ms) stored s → (q t : Place) (d : Direction) (c : Condition) (called : Family) → call_family q (frame_of d c values ms) (arguments_in t l) called ≡ end_at 24 q
-        go s e (are zs g n k) q t d c called = absurd (let z : ◌≡◌ {A = ℕ} 0 1 = cc in omega arith)
-        go s e (over g) q t d c called = ends_first q (frame_of d c values ms) (arguments_in t l) called (g q t d c)
-        go s e (stuck g) q t d c called = absurd (let z : ◌≡◌ {A = ℕ} 0 1 = cc in omega arith)
-
-    pub sizes_stick : s ≡ g_stuck → Arguments l program at values ms stored numbers Stuck
-    sizes_stick e = sticks_call (go s e z)
-      where
-        go : (s : Gathered) → s ≡ g_stuck → SizesGathered (size_arguments l values ms) stored s → (q t : Place) (d : Direction) (c : Condition) (called : Family) → call_family q (frame_of d c values ms) (arguments_in t l) called ≡ no_meaning
-        go s e (are zs g n k) q t d c called = absurd (let z : ◌≡◌ {A = ℕ} 0 1 = cc in omega arith)
-        go s e (over g) q t d c called = absurd (let z : ◌≡◌ {A = ℕ} 0 1 = cc in omega arith)
-        go s e (stuck g) q t d c called = sticks_first q (frame_of d c values ms) (arguments_in t l) called (g q t d c)
-
--- an answer that is neither of the others
-pub is_stuck : (s : Gathered) → OneOf (0 ∷ 2 ∷ []) (tag_of gathered-type s) → OneOf (1 ∷ 2 ∷ []) (tag_of gathered-type s) → s ≡ g_stuck
-is_stuck (Are k) a b = absurd (not_first b)
-is_stuck g_over a b = absurd (⊎_elim (λ z. omega arith) (λ z. omega arith) a)
-is_stuck g_stuck a b = refl
+  pub sizes_fail : (s : Result ℕ Fault) → SizesGathered (size_arguments l values ms) stored s → (f : Fault) → s ≡ Err f → Arguments l program at values ms stored numbers (Err f)
+  sizes_fail s (are zs g n k) f e = absurd (let z : ◌≡◌ {A = ℕ} 0 1 = cc in omega arith)
+  sizes_fail s (fails {f = x} g) f e =
+      let i : x ≡ f = cc in
+      fails_call f (λ q t d c called. fails_first q (frame_of d c values ms) (arguments_in t l) called f (g q t d c ∙ ap (fault_told q) i))
 
 -- the sizes of a call that are counted
 pub record SizesCounted (l : List ℕ) (values : List ℤ) (ms : List Meaning) (stored : List ℤ) (k : ℕ) : Type 0 where
@@ -96,37 +63,25 @@ pub record SizesCounted (l : List ℕ) (values : List ℤ) (ms : List Meaning) (
   pub many : length sizes ≡ k
   pub kept : k ≤ most_variables → sizes ≡ take k stored
 
-pub sizes_counted : (l : List ℕ) (values : List ℤ) (ms : List Meaning) (stored : List ℤ) (s : Gathered) (k : ℕ) → SizesGathered (size_arguments l values ms) stored s → s ≡ Are k → SizesCounted l values ms stored k
+pub sizes_counted : (l : List ℕ) (values : List ℤ) (ms : List Meaning) (stored : List ℤ) (s : Result ℕ Fault) (k : ℕ) → SizesGathered (size_arguments l values ms) stored s → s ≡ Ok k → SizesCounted l values ms stored k
 sizes_counted l values ms stored s k (are {k = j} zs g n f) e = let i : j ≡ k = cc in rw (← i) (record { sizes = zs; gives = g; many = n; kept = f })
-sizes_counted l values ms stored s k (over g) e = absurd (let z : ◌≡◌ {A = ℕ} 0 1 = cc in omega arith)
-sizes_counted l values ms stored s k (stuck g) e = absurd (let z : ◌≡◌ {A = ℕ} 0 1 = cc in omega arith)
+sizes_counted l values ms stored s k (fails g) e = absurd (let z : ◌≡◌ {A = ℕ} 0 1 = cc in omega arith)
 
-module _ (l program : List ℕ) (at : ℕ) (values : List ℤ) (ms : List Meaning) (stored : List ℤ) (k : ℕ) (z : SizesCounted l values ms stored k) (numbers : List ℕ) (o : Gathered) (w : OperandsGathered (operand_arguments l values ms) numbers o) where
-  pub operands_end : o ≡ g_over → Arguments l program at values ms stored numbers Over
-  operands_end e = ends_call l program at values ms stored numbers (go o e w)
-    where
-      go : (o : Gathered) → o ≡ g_over → OperandsGathered (operand_arguments l values ms) numbers o → (q t : Place) (d : Direction) (c : Condition) (called : Family) → call_family q (frame_of d c values ms) (arguments_in t l) called ≡ end_at 24 q
-      go o e (operands_are ns f n) q t d c called = absurd (let z : ◌≡◌ {A = ℕ} 0 1 = cc in omega arith)
-      go o e (operands_over f) q t d c called = ends_second q (frame_of d c values ms) (arguments_in t l) called z.sizes (z.gives q t d c) (f q t d c)
-      go o e (operands_stuck f) q t d c called = absurd (let z : ◌≡◌ {A = ℕ} 0 1 = cc in omega arith)
+module _ (l program : List ℕ) (at : ℕ) (values : List ℤ) (ms : List Meaning) (stored : List ℤ) (k : ℕ) (z : SizesCounted l values ms stored k) (numbers : List ℕ) where
+  pub operands_fail_lem : (o : Result ℕ Fault) → OperandsGathered (operand_arguments l values ms) numbers o → (f : Fault) → o ≡ Err f → Arguments l program at values ms stored numbers (Err f)
+  operands_fail_lem o (operands_are ns g n) f e = absurd (let z : ◌≡◌ {A = ℕ} 0 1 = cc in omega arith)
+  operands_fail_lem o (operands_fail {f = x} g) f e =
+      let i : x ≡ f = cc in
+      fails_call l program at values ms stored numbers f (λ q t d c called. fails_second q (frame_of d c values ms) (arguments_in t l) called z.sizes (z.gives q t d c) f (g q t d c ∙ ap (fault_told q) i))
 
-  pub operands_stick : o ≡ g_stuck → Arguments l program at values ms stored numbers Stuck
-  operands_stick e = sticks_call l program at values ms stored numbers (go o e w)
-    where
-      go : (o : Gathered) → o ≡ g_stuck → OperandsGathered (operand_arguments l values ms) numbers o → (q t : Place) (d : Direction) (c : Condition) (called : Family) → call_family q (frame_of d c values ms) (arguments_in t l) called ≡ no_meaning
-      go o e (operands_are ns f n) q t d c called = absurd (let z : ◌≡◌ {A = ℕ} 0 1 = cc in omega arith)
-      go o e (operands_over f) q t d c called = absurd (let z : ◌≡◌ {A = ℕ} 0 1 = cc in omega arith)
-      go o e (operands_stuck f) q t d c called = sticks_second q (frame_of d c values ms) (arguments_in t l) called z.sizes (z.gives q t d c) (f q t d c)
-
-  module _ (n : ℕ) (a : o ≡ Are n) where
+  module _ (o : Result ℕ Fault) (w : OperandsGathered (operand_arguments l values ms) numbers o) (n : ℕ) (a : o ≡ Ok n) where
     -- the operands that are kept
     kept : (ns : List Meaning) × Gives (operand_arguments l values ms) ns × OperandsKept ns numbers n
     kept = go o a w
       where
-        go : (o : Gathered) → o ≡ Are n → OperandsGathered (operand_arguments l values ms) numbers o → (ns : List Meaning) × Gives (operand_arguments l values ms) ns × OperandsKept ns numbers n
+        go : (o : Result ℕ Fault) → o ≡ Ok n → OperandsGathered (operand_arguments l values ms) numbers o → (ns : List Meaning) × Gives (operand_arguments l values ms) ns × OperandsKept ns numbers n
         go o a (operands_are {n = m} ns f v) = let i : m ≡ n = cc in (ns, f, rw i at v)
-        go o a (operands_over f) = absurd (let z : ◌≡◌ {A = ℕ} 0 1 = cc in omega arith)
-        go o a (operands_stuck f) = absurd (let z : ◌≡◌ {A = ℕ} 0 1 = cc in omega arith)
+        go o a (operands_fail f) = absurd (let z : ◌≡◌ {A = ℕ} 0 1 = cc in omega arith)
 
     is_entered : (b : Bool) → taking program at k kept.0 ≡ b → (q t : Place) (d : Direction) (c : Condition) (limit out : ℕ) (fs : List Family)
         → call_family q (frame_of d c values ms) (arguments_in t l) (meaning limit out fs (declared_at program at))
@@ -137,11 +92,11 @@ module _ (l program : List ℕ) (at : ℕ) (values : List ℤ) (ms : List Meanin
         enters q (frame_of d c values ms) (arguments_in t l) (meaning limit out fs (declared_at program at)) z.sizes (z.gives q t d c) kept.0 (kept.1 q t d c)
         ∙ ap (λ (x : Bool). entered x (run_statements limit out (declared_at program at).body fs (frame_of d c z.sizes kept.0))) e
 
-    pub not_taken : (f : Fit) → FamilyTakes program at k n numbers f → f ≡ Not → Arguments l program at values ms stored numbers Stuck
-    unfolding entered arguments_told FamilyTakes BodyBegins
+    pub not_taken : (f : Maybe ℕ) → FamilyTakes program at k n numbers f → f ≡ None → Arguments l program at values ms stored numbers (Err Stuck)
+    unfolding entered arguments_told FamilyTakes BodyBegins fault_told
     not_taken f v i = record { same = λ q t d c limit out fs. is_entered false ((rw i at v) kept.0 kept.2) q t d c limit out fs; begins = tt }
 
-    pub all_taken : (f : Fit) (start : ℕ) → FamilyHead program at → FamilyTakes program at k n numbers f → f ≡ From start → Arguments l program at values ms stored numbers (All n start)
+    pub all_taken : (f : Maybe ℕ) (start : ℕ) → FamilyHead program at → FamilyTakes program at k n numbers f → f ≡ Some start → Arguments l program at values ms stored numbers (Ok (record { count = n; start = start }))
     unfolding entered arguments_told FamilyTakes BodyBegins
     all_taken f start h v i =
         let u : (taking program at k (gathered_operands (take (3 * n) numbers)) ≡ true) × BodyFrom program at start × (n ≤ most_parameters) = rw i at v in

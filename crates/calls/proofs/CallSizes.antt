@@ -14,15 +14,15 @@ use Rattle.language.specs.Limits.{most_variables, deepest}
 use Rattle.language.specs.Tree.{Place, index, operand, bad_argument}
 use Rattle.language.specs.Read.{field, read_argument, read_index, read_operand, index_by, choose, is_index_tag, is_operand_tag}
 use Rattle.language.specs.Machine.{Meaning, no_meaning, after, ◌>>=◌, sizes_of, evaluate}
-use Rattle.indexes.specs.declared.Value.{Value}
-use Rattle.indexes.specs.declared.Value.TheVariants.{Is, Over, Stuck}
+use Rattle.std.specs.Prelude.{Result, Ok, Err}
+use Rattle.indexes.specs.declared.Fault.{Fault}
+use Rattle.indexes.specs.declared.Fault.TheVariants.{Stuck}
 use Rattle.indexes.specs.Values.{most_values, value_told, IndexIs}
 use Rattle.operands.specs.Meanings.{frame_of}
-use Rattle.fields.specs.declared.Header.TheVariants.{Whole, End, Cut}
+use Rattle.fields.specs.declared.NoHeader.TheVariants.{End, Cut}
 use Rattle.fields.proofs.Between.{look_in, in_whole}
-use Rattle.calls.specs.declared.Gathered.TheVariants.{Are, Over as g_over, Stuck as g_stuck}
-use Rattle.calls.specs.Arguments.{size_arguments, SizesGathered, are, over, stuck}
-use Rattle.calls.proofs.ArgumentLists.{Lister, Sofar, ListLeads, Skipped, led, sofar_start, sofar_end, sofar_cut, sofar_skip, sofar_more, sofar_over, sofar_stuck}
+use Rattle.calls.specs.Arguments.{size_arguments, SizesGathered, are, fails}
+use Rattle.calls.proofs.ArgumentLists.{Lister, Sofar, ListLeads, Skipped, led, sofar_start, sofar_end, sofar_cut, sofar_skip, sofar_more, sofar_fails}
 
 -- the sizes of arguments, as the machine lists them
 abbrev sizes_by : List ℤ → List Meaning → Lister ℤ
@@ -58,7 +58,7 @@ module _ (values : List ℤ) (ms : List Meaning) (tag : ℕ) (content : List ℕ
       other : {n : ℕ} → tag ≡ n → is_index_tag tag ≡ false → is_index_tag n ≡ true → ⊥
       other e h f = let z : ◌≡◌ {A = Bool} true false = sym f ∙ ap is_index_tag (sym e) ∙ h in let y : ◌≡◌ {A = ℕ} 0 1 = cc in omega arith
 
-  pub index_leads : is_operand_tag tag ≡ false → (v : Value) → IndexIs tag content deepest values v → ListLeads (sizes_by values ms) tag content (λ q. value_told q v)
+  pub index_leads : is_operand_tag tag ≡ false → (v : Result ℤ Fault) → IndexIs tag content deepest values v → ListLeads (sizes_by values ms) tag content (λ q. value_told q v)
   unfolding read_argument sizes_of led ◌>>=◌ after
   index_leads h v w q t d c more = rw (w.same q t) (go (is_index_tag tag) refl)
     where
@@ -71,15 +71,15 @@ module _ (l : List ℕ) (from to : ℕ) (values : List ℤ) (ms : List Meaning) 
   sizes_start stored = record { sizes = []; low = omega arith; sofar = sofar_start (sizes_by values ms) l from to; many = refl; kept = λ h. refl }
 
   module _ (stored : List ℤ) (at k : ℕ) (s : SizesSoFar l from to values stored ms at k) where
-    pub sizes_end : look_in l at to ≡ End → SizesGathered (size_arguments (slice from to l) values ms) stored (Are k)
+    pub sizes_end : look_in l at to ≡ Err End → SizesGathered (size_arguments (slice from to l) values ms) stored (Ok k)
     unfolding sizes_of
     sizes_end e = are s.sizes (sofar_end (sizes_by values ms) l from to at s.low s.sizes s.sofar e (λ q d c. refl)) s.many s.kept
 
-    pub sizes_cut : look_in l at to ≡ Cut → SizesGathered (size_arguments (slice from to l) values ms) stored g_stuck
+    pub sizes_cut : look_in l at to ≡ Err Cut → SizesGathered (size_arguments (slice from to l) values ms) stored (Err Stuck)
     unfolding sizes_of
-    sizes_cut e = stuck (sofar_cut (sizes_by values ms) l from to at s.low s.sizes s.sofar e (λ q t d c. refl))
+    sizes_cut e = fails (sofar_cut (sizes_by values ms) l from to at s.low s.sizes s.sofar e (λ q t d c. refl))
 
-    module _ (tag next : ℕ) (e : look_in l at to ≡ Whole tag next) where
+    module _ (tag next : ℕ) (e : look_in l at to ≡ Ok (record { tag = tag; next = next })) where
       further : from ≤ next
       further = omega (arith, (in_whole l at to tag next e).low, s.low)
 
@@ -92,19 +92,15 @@ module _ (l : List ℕ) (from to : ℕ) (values : List ℤ) (ms : List Meaning) 
         kept = s.kept;
       }
 
-      module _ (h : is_operand_tag tag ≡ false) (v : Value) (w : IndexIs tag (slice (at + 3) next l) deepest values v) where
+      module _ (h : is_operand_tag tag ≡ false) (v : Result ℤ Fault) (w : IndexIs tag (slice (at + 3) next l) deepest values v) where
         leads : ListLeads (sizes_by values ms) tag (slice (at + 3) next l) (λ q. value_told q v)
         leads = index_leads values ms tag (slice (at + 3) next l) h v w
 
-        pub sizes_over : v ≡ Over → SizesGathered (size_arguments (slice from to l) values ms) stored g_over
+        pub sizes_fail : (f : Fault) → v ≡ Err f → SizesGathered (size_arguments (slice from to l) values ms) stored (Err f)
         unfolding value_told
-        sizes_over f = over (sofar_over (sizes_by values ms) l from to at s.low s.sizes s.sofar tag next e (λ q. value_told q v) leads (λ q. ap (value_told q) f))
+        sizes_fail f g = fails (sofar_fails (sizes_by values ms) l from to at s.low s.sizes s.sofar tag next e (λ q. value_told q v) leads f (λ q. ap (value_told q) g))
 
-        pub sizes_stuck : v ≡ Stuck → SizesGathered (size_arguments (slice from to l) values ms) stored g_stuck
-        unfolding value_told
-        sizes_stuck f = stuck (sofar_stuck (sizes_by values ms) l from to at s.low s.sizes s.sofar tag next e (λ q. value_told q v) leads (λ q. ap (value_told q) f))
-
-        pub sizes_more : (z : ℤ) (after : List ℤ) → v ≡ Is z → (k < most_variables → after ≡ set stored k z) → length stored ≡ most_values → SizesSoFar l from to values after ms next (k + 1)
+        pub sizes_more : (z : ℤ) (after : List ℤ) → v ≡ Ok z → (k < most_variables → after ≡ set stored k z) → length stored ≡ most_values → SizesSoFar l from to values after ms next (k + 1)
         unfolding value_told
         sizes_more z after f g n = record {
           sizes = s.sizes ++ (z ∷ []);

@@ -13,11 +13,10 @@ ghost use Rattle.operands.specs.Meanings.{operands_of, of_parameter};
 ghost use Rattle.calls.specs.Families.{FamilyHead, PastFields, BodyFrom};
 ghost use Rattle.calls.specs.Arguments.{operand_numbers, gathered_operand, gathered_operands, operand_arguments, SizesAre, GathersMore, OperandsGathered, Takes, TypesTake, FamilyTakes, Scopes, Arguments};
 
-use fields::Header;
-use indexes::{VALUES, Value};
+use indexes::{Fault, VALUES};
 use kinds::Kind;
 use limits::{DEEPEST, MOST_PARAMETERS, MOST_VARIABLES};
-use operands::{Operand, OperandMeaning, Parameter, REGISTER_NUMBERS, Scope, Wire};
+use operands::{Meaning, Operand, Parameter, REGISTER_NUMBERS, Scope, Wire};
 
 // A call's operands are gathered with three numbers for each.
 pub const OPERAND_NUMBERS: usize = 3 * MOST_PARAMETERS;
@@ -39,13 +38,11 @@ fn past_fields(bytes: &[u8], from: usize, to: usize, k: usize) -> usize
     ensures { PastFields k bytes.now from to result }
 {
     let mut at = from;
-    let mut i: usize = 0;
-    while i < k {
-        let Header::Whole(_, next) = fields::header_at(bytes, at, to) else {
+    for _ in 0..k {
+        let Ok(header) = fields::header_at(bytes, at, to) else {
             return to;
         };
-        at = next;
-        i += 1;
+        at = header.next;
     }
     at
 }
@@ -57,7 +54,7 @@ pub fn body_start(program: &[u8], at: usize) -> usize
 {
     let to = past(program, at);
     let from = at + 5;
-    let many = fields::wide(program[at + 4]);
+    let many = usize::from(program[at + 4]);
     past_fields(program, from, to, many)
 }
 
@@ -69,14 +66,6 @@ pub fn body_of<'a>(program: &'a [u8], at: usize, start: usize) -> &'a [u8]
 {
     let to = past(program, at);
     &program[start..to]
-}
-
-// A call's sizes or operands: how many, or that an index is out of range or that one has no meaning.
-#[derive(Clone, Copy)]
-pub enum Gathered {
-    Are(usize),
-    Over,
-    Stuck,
 }
 
 // Whether a field with this tag is an index.
@@ -98,13 +87,12 @@ fn store_size(sizes: &mut [i32; VALUES], k: usize, z: i64)
     requires { in_range z ≡ true }
     ensures { (k < most_variables → sizes.new ≡ set sizes.old k z) × (length sizes.old ≡ most_values) }
 {
-    indexes::tell_values(*sizes);
     if k < MOST_VARIABLES {
         sizes[k] = z as i32;
     }
 }
 
-// The sizes among the arguments from `from` to `to`. The first that a family can have are stored.
+// The sizes among the arguments from `from` to `to`: how many. The first that a family can have are stored.
 fn sizes_of(
     bytes: &[u8],
     from: usize,
@@ -112,95 +100,67 @@ fn sizes_of(
     vars: &[i32; VALUES],
     many: usize,
     sizes: &mut [i32; VALUES],
-) -> Gathered
+) -> Result<usize, Fault>
     requires to_in_bounds { to ≤ length bytes.now }
     requires many_le_most_values { many ≤ most_values }
     ensures { SizesAre (slice from to bytes.now) (take many vars.now) sizes.new result }
 {
     let mut at = from;
     let mut k: usize = 0;
-    loop {
-        match fields::header_at(bytes, at, to) {
-            Header::End => return Gathered::Are(k),
-            Header::Cut => return Gathered::Stuck,
-            Header::Whole(tag, next) => {
-                let content = at + 3;
-                if is_operand(tag) {
-                    at = next;
-                    continue;
-                }
-                match indexes::evaluate(bytes, content, next, tag, vars, many, DEEPEST) {
-                    Value::Over => return Gathered::Over,
-                    Value::Stuck => return Gathered::Stuck,
-                    Value::Is(z) => {
-                        store_size(sizes, k, z);
-                        k += 1;
-                        at = next;
-                    }
-                }
-            }
+    while at < to {
+        let header = fields::header_at(bytes, at, to)?;
+        let content = at + 3;
+        at = header.next;
+        if is_operand(header.tag) {
+            continue;
         }
+        let z = indexes::evaluate(bytes, content, at, header.tag, vars, many, DEEPEST)?;
+        store_size(sizes, k, z);
+        k += 1;
     }
+    Ok(k)
 }
-
-// An array tells how long it is.
-fn tell_given(given: [u16; OPERAND_NUMBERS])
-    ensures { length given ≡ operand_numbers }
-{}
 
 // Puts an operand of a kind behind the n that are gathered, with its first wire and its size, or with its number.
 fn put(given: &mut [u16; OPERAND_NUMBERS], n: usize, kind: Kind, first: u16, size: u16)
     requires { n < most_parameters }
     ensures { gathered_operands (take (3 * (n + 1)) given.new) ≡ gathered_operands (take (3 * n) given.old) ++ (gathered_operand kind first size ∷ []) }
 {
-    tell_given(*given);
     let at = 3 * n;
     let second = at + 1;
     let third = at + 2;
-    given[at] = fields::wider(kinds::number(kind));
+    given[at] = u16::from(kind);
     given[second] = first;
     given[third] = size;
 }
 
 // Gathers one operand behind n, and says how many there are. No family takes a classical one, or more than it can have
 // parameters: then the answer is TOO_MANY.
-fn gather(given: &mut [u16; OPERAND_NUMBERS], n: usize, s: OperandMeaning) -> usize
+fn gather(given: &mut [u16; OPERAND_NUMBERS], n: usize, s: Meaning) -> usize
     ensures { GathersMore given.old n s given.new result }
 {
-    tell_given(*given);
     if MOST_PARAMETERS <= n {
         return TOO_MANY;
     }
     let more = n + 1;
     match s {
-        OperandMeaning::AWire(w) => {
+        Meaning::Wire(w) => {
             put(given, n, Kind::Qubit, w.0, 0);
-            return more;
+            more
         }
-        OperandMeaning::Wires(first, size) => {
+        Meaning::Wires(first, size) => {
             put(given, n, Kind::Quantum, first.0, size);
-            return more;
+            more
         }
-        OperandMeaning::AFamily(number) => {
+        Meaning::Family(number) => {
             put(given, n, Kind::Family, number, 0);
-            return more;
+            more
         }
-        OperandMeaning::ABit(_) => {
-            return TOO_MANY;
-        }
-        OperandMeaning::Bits(_, _) => {
-            return TOO_MANY;
-        }
-        OperandMeaning::Over => {
-            return TOO_MANY;
-        }
-        OperandMeaning::Stuck => {
-            return TOO_MANY;
-        }
+        _ => TOO_MANY,
     }
 }
 
-// The operands among the arguments from `from` to `to`, gathered as numbers.
+// The operands among the arguments from `from` to `to`, gathered as numbers: how many.
 fn operands_of(
     bytes: &[u8],
     from: usize,
@@ -210,98 +170,79 @@ fn operands_of(
     scope: Scope,
     regs: &[u16; REGISTER_NUMBERS],
     given: &mut [u16; OPERAND_NUMBERS],
-) -> Gathered
+) -> Result<usize, Fault>
     requires to_in_bounds { to ≤ length bytes.now }
     requires many_le_most_values { many ≤ most_values }
     ensures { OperandsGathered (operand_arguments (slice from to bytes.now) (take many vars.now) (operands_of scope regs.now)) given.new result }
 {
     let mut at = from;
     let mut n: usize = 0;
-    loop {
-        match fields::header_at(bytes, at, to) {
-            Header::End => return Gathered::Are(n),
-            Header::Cut => return Gathered::Stuck,
-            Header::Whole(tag, next) => {
-                let content = at + 3;
-                if is_index(tag) {
-                    at = next;
-                    continue;
-                }
-                let s = operands::meaning(bytes, content, next, tag, vars, many, scope, regs);
-                if let OperandMeaning::Over = s {
-                    return Gathered::Over;
-                }
-                if let OperandMeaning::Stuck = s {
-                    return Gathered::Stuck;
-                }
-                n = gather(given, n, s);
-                at = next;
-            }
+    while at < to {
+        let header = fields::header_at(bytes, at, to)?;
+        let content = at + 3;
+        at = header.next;
+        if is_index(header.tag) {
+            continue;
         }
+        let s = operands::meaning_of(bytes, content, at, header.tag, vars, many, scope, regs)?;
+        n = gather(given, n, s);
     }
+    Ok(n)
 }
 
 // Whether a parameter of the type with this tag takes an operand of a kind. None that is gathered is classical.
 fn takes(tag: u8, kind: Kind) -> bool
     ensures { Takes tag kind result }
 {
-    if let Kind::Quantum = kind {
-        return tag == fields::QBITS;
+    match kind {
+        Kind::Quantum => tag == fields::QBITS,
+        Kind::Family => tag == fields::FAMILY_TYPE,
+        _ => tag == fields::QBIT,
     }
-    if let Kind::Family = kind {
-        return tag == fields::FAMILY_TYPE;
-    }
-    tag == fields::QBIT
 }
 
-// Whether types take the operands gathered, and if so where the fields after them begin.
-#[derive(Clone, Copy)]
-pub enum Fit {
-    From(usize),
-    Not,
-}
-
-// Whether the first n operands are of the kinds that the n type fields from `from` on say.
-fn types_take(bytes: &[u8], from: usize, to: usize, n: usize, given: &[u16; OPERAND_NUMBERS]) -> Fit
+// Where the fields after the n types from `from` on begin, if those take the first n operands gathered.
+fn types_take(
+    bytes: &[u8],
+    from: usize,
+    to: usize,
+    n: usize,
+    given: &[u16; OPERAND_NUMBERS],
+) -> Option<usize>
     requires from_le_to { (from ≤ to) × (to ≤ length bytes.now) }
     requires n_le_most_parameters { n ≤ most_parameters }
     ensures { TypesTake bytes.now from to n given.now result }
 {
-    tell_given(*given);
     let mut at = from;
-    let mut i: usize = 0;
-    while i < n {
-        let Header::Whole(tag, next) = fields::header_at(bytes, at, to) else {
-            return Fit::Not;
+    for i in 0..n {
+        let Ok(header) = fields::header_at(bytes, at, to) else {
+            return None;
         };
-        let j = 3 * i;
-        let kind = kinds::with_number(given[j]);
-        if !takes(tag, kind) {
-            return Fit::Not;
+        let kind = Kind::from(given[3 * i]);
+        if !takes(header.tag, kind) {
+            return None;
         }
-        at = next;
-        i += 1;
+        at = header.next;
     }
-    Fit::From(at)
+    Some(at)
 }
 
-// Whether the family whose field is at `at` takes k sizes and the first n operands gathered, and if so where its body begins.
+// Where the body of the family whose field is at `at` begins, if it takes k sizes and the first n operands gathered.
 fn family_takes(
     program: &[u8],
     at: usize,
     k: usize,
     n: usize,
     given: &[u16; OPERAND_NUMBERS],
-) -> Fit
+) -> Option<usize>
     requires { FamilyHead program.now at }
     ensures { FamilyTakes program.now at k n given.now result }
 {
-    tell_given(*given);
-    if k != fields::wide(program[at + 3]) {
-        return Fit::Not;
+    if k != usize::from(program[at + 3]) {
+        return None;
     }
-    if n != fields::wide(program[at + 4]) {
-        return Fit::Not;
+    if n != usize::from(program[at + 4]) {
+        return None;
     }
     let to = past(program, at);
     let from = at + 5;
@@ -317,7 +258,7 @@ fn parameter(given: &[u16; OPERAND_NUMBERS], i: usize) -> Parameter
     let third = i + 2;
     let number = given[second];
     let first = Wire(number);
-    match kinds::with_number(given[i]) {
+    match Kind::from(given[i]) {
         Kind::Quantum => {
             let size = given[third];
             Parameter {
@@ -337,7 +278,6 @@ fn parameter(given: &[u16; OPERAND_NUMBERS], i: usize) -> Parameter
 pub fn scope_of(given: &[u16; OPERAND_NUMBERS], count: u8) -> Scope
     ensures { Scopes given.now count result }
 {
-    tell_given(*given);
     let a = parameter(given, 0);
     let b = parameter(given, 3);
     let c = parameter(given, 6);
@@ -354,13 +294,11 @@ pub fn scope_of(given: &[u16; OPERAND_NUMBERS], count: u8) -> Scope
     }
 }
 
-// How a call's arguments come out: all are taken, so many operands, and the family's body begins there; an index is out of
-// range; or the call has no meaning.
-#[derive(Clone, Copy)]
-pub enum Taken {
-    All(u8, usize),
-    Over,
-    Stuck,
+// A call whose arguments are all taken: how many operands, and where the family's body begins.
+#[derive(Clone, Copy, Debug, PartialEq, Eq)]
+pub struct Taken {
+    pub count: u8,
+    pub start: usize,
 }
 
 // The arguments from `from` to `to` of a call to the family whose field is at `at`: the sizes, and the operands gathered as
@@ -377,29 +315,19 @@ pub fn arguments(
     regs: &[u16; REGISTER_NUMBERS],
     sizes: &mut [i32; VALUES],
     given: &mut [u16; OPERAND_NUMBERS],
-) -> Taken
+) -> Result<Taken, Fault>
     requires to_in_bounds { to ≤ length bytes.now }
     requires many_le_most_values { many ≤ most_values }
     requires family_head { FamilyHead program.now at }
     ensures { Arguments (slice from to bytes.now) program.now at (take many vars.now) (operands_of scope regs.now) sizes.new given.new result }
 {
-    let s = sizes_of(bytes, from, to, vars, many, sizes);
-    if let Gathered::Over = s {
-        return Taken::Over;
-    }
-    let Gathered::Are(k) = s else {
-        return Taken::Stuck;
+    let k = sizes_of(bytes, from, to, vars, many, sizes)?;
+    let n = operands_of(bytes, from, to, vars, many, scope, regs, given)?;
+    let Some(start) = family_takes(program, at, k, n, given) else {
+        return Err(Fault::Stuck);
     };
-    let o = operands_of(bytes, from, to, vars, many, scope, regs, given);
-    if let Gathered::Over = o {
-        return Taken::Over;
-    }
-    let Gathered::Are(n) = o else {
-        return Taken::Stuck;
-    };
-    let Fit::From(start) = family_takes(program, at, k, n, given) else {
-        return Taken::Stuck;
-    };
-    let count = n as u8;
-    Taken::All(count, start)
+    Ok(Taken {
+        count: n as u8,
+        start,
+    })
 }

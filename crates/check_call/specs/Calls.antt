@@ -1,31 +1,25 @@
 -- The table of families, the forms of a call, and its operands.
-use Rattle.std.specs.Prelude.{List, [], ℕ, ◌+◌, ◌≤◌, ◌<◌, ℤ, length, get_or}
+use Rattle.std.specs.Prelude.{List, [], ℕ, ◌+◌, ◌≤◌, ◌<◌, ℤ, length, get_or, Result, Ok, Err}
+use Rattle.std.specs.Coded.{Unit-prop}
 use Rattle.std.proofs.Math.Option.{Option, none, some}
-use Rattle.language.specs.Limits.{most_families, most_variables, most_loops}
+use Rattle.language.specs.Limits.{most_families, most_variables}
 use Rattle.language.specs.Tree.{Operand}
 use Rattle.language.specs.Form.{Form}
 use Rattle.language.specs.Check.{Checked, good, refused, ◌>>◌, Formal, Kind, Signature, taken, declared_before, check_operand}
 use Rattle.forms.specs.Flat.{widened, as_form}
-use Rattle.forms.specs.Rows.{Rows, ShortRows, forms_of}
+use Rattle.forms.specs.Rows.{ShortRows, forms_of}
 use Rattle.kinds.specs.declared.Kind.TheVariants.{Qubit, Quantum, Classical, Family}
-use Rattle.check_operand.specs.Tables.{Formals, Known, kind_of_row, size_of_row, tabulated, kinds_at, scope_at}
-use Rattle.check_operand.specs.declared.Visible.{Visible}
-use Rattle.check_index.specs.declared.Read.{Read}
-use Rattle.check_index.specs.declared.Read.TheVariants.{Upto, Refused}
+use Rattle.check_operand.specs.Tables.{Formals, Known, kind_of_row, size_of_row, tabulated, kinds_at}
+use Rattle.check_operand.specs.declared.scope.Visible.{Visible}
+use Rattle.refusals.specs.Reasons.{number_of}
+use Rattle.refusals.specs.declared.Refusal.{Refusal}
 use Rattle.kinds.specs.declared.Kind as K
 use Rattle.language.specs.Check as C
 
--- the open loops in the tables
-pub record LoopsRight (s : Visible) (lows highs : List (List ℤ)) : Type 0 where
-  pub few : s.variables ≤ most_variables
-  pub nested : s.loops ≤ most_loops
-  pub low_rows : Rows lows most_loops
-  pub high_rows : Rows highs most_loops
-
 -- what the answer on a call's m indexes, with the forms beside it, stands for
-unfoldable pub checked_forms : Read → ℕ → List (List ℤ) → Checked (List Form)
-checked_forms (Upto n) m l = good (forms_of m l)
-checked_forms (Refused n p) m l = refused n p
+unfoldable pub checked_forms : Result ℕ Refusal → ℕ → List (List ℤ) → Checked (List Form)
+checked_forms (Ok n) m l = good (forms_of m l)
+checked_forms (Err e) m l = refused (number_of e.0) e.1
 
 -- the size of a parameter of a kind and an own size, if it is a Qbit[I]
 unfoldable pub plain_in : K.Kind → Form → Option Form
@@ -57,10 +51,6 @@ signature_at families kinds sizes k = signature_in (formal_at families kinds siz
 abbrev pub known_in : List (List ℕ) → List ℕ → List (List ℤ) → Known
 known_in families kinds sizes = record { declared = signature_at families kinds sizes; formals = formal_at families kinds sizes }
 
--- the scope that all tables stand for
-abbrev pub scope_full : Visible → List (List ℕ) → List ℕ → List (List ℤ) → List (List ℤ) → List (List ℤ) → C.Scope
-scope_full s families kinds sizes lows highs = scope_at (known_in families kinds sizes) s kinds sizes lows highs
-
 -- an operand of a call of a family with so many before it, for a parameter of a kind
 unfoldable pub call_operand : C.Scope → (before : ℕ) → List Form → Kind → Operand → Checked (Unit {0})
 call_operand s before forms k o = declared_before s before o >> check_operand s (taken forms k) o
@@ -81,6 +71,12 @@ IsPlain Qubit = Unit {0}
 IsPlain Quantum = Unit {0}
 IsPlain Classical = ⊥
 IsPlain Family = ⊥
+
+pub plain_prop : (k : K.Kind) → IsProp (IsPlain k)
+plain_prop Qubit = Unit-prop
+plain_prop Quantum = Unit-prop
+plain_prop Classical = λ x y. absurd x
+plain_prop Family = λ x y. absurd x
 
 -- every row of the table of families is right, a number in the table of operands has a row behind those of the families, and what a family parameter takes is plain
 pub record FamilyRows (families : List (List ℕ)) (kinds : List ℕ) : Type 0 where

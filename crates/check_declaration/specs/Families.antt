@@ -1,10 +1,11 @@
 -- The two numbers of a family or of a family type.
-use Rattle.std.specs.Prelude.{List, [], ◌∷◌, ℕ, ◌+◌, ◌≤◌}
+use Rattle.std.specs.Prelude.{List, [], ◌∷◌, ℕ, ◌+◌, ◌≤◌, Result, Ok, Err}
 use Rattle.language.specs.Limits.{most_variables, most_parameters}
 use Rattle.language.specs.Tree.{Place, Number, number, missing}
 use Rattle.language.specs.Check.{Checked, good, refused, check_counts}
 use Rattle.check_declaration.specs.declared.Counts.{Counts}
-use Rattle.check_declaration.specs.declared.Counts.TheVariants.{Both, Bad}
+use Rattle.refusals.specs.Reasons.{number_of}
+use Rattle.refusals.specs.declared.Refusal.{Refusal}
 
 -- the first and the second number in the content
 unfoldable pub first_in : List ℕ → Number
@@ -21,11 +22,11 @@ abbrev pub counts_in : Place → List ℕ → Checked (ℕ × ℕ)
 counts_in p content = check_counts p (first_in content) (second_in content)
 
 -- what an answer on them stands for
-unfoldable pub checked_counts : Counts → Checked (ℕ × ℕ)
-checked_counts (Both m n) = good (m, n)
-checked_counts (Bad r p) = refused r p
+unfoldable pub checked_counts : Result Counts Refusal → Checked (ℕ × ℕ)
+checked_counts (Ok c) = good (c.variables, c.parameters)
+checked_counts (Err e) = refused (number_of e.0) e.1
 
 -- the two numbers are within their limits, and stand in the field
-abbrev pub BothRight : ℕ → ℕ → Counts → Type 0
-BothRight at next (Both m n) = (m ≤ most_variables) × (1 ≤ n) × (n ≤ most_parameters) × (at + 5 ≤ next)
-BothRight at next (Bad r p) = Unit {0}
+abbrev pub BothRight : ℕ → ℕ → Result Counts Refusal → Type 0
+BothRight at next (Ok c) = (c.variables ≤ most_variables) × (1 ≤ c.parameters) × (c.parameters ≤ most_parameters) × (at + 5 ≤ next)
+BothRight at next (Err e) = Unit {0}

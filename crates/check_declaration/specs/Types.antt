@@ -1,15 +1,15 @@
 -- The rows of parameters, and what the answers on their types stand for.
-use Rattle.std.specs.Prelude.{List, [], ◌≡◌, ℕ, ◌+◌, ◌*◌, ◌/◌, ◌≤◌, ◌<◌, ℤ, length, get_or}
+use Rattle.std.specs.Prelude.{List, [], ◌≡◌, ℕ, ◌+◌, ◌*◌, ◌/◌, ◌≤◌, ◌<◌, ℤ, length, get_or, Result, Ok, Err}
 use Rattle.language.specs.Limits.{most_families, most_registers, most_variables}
 use Rattle.language.specs.Check.{Checked, good, refused, Kind, qubit, quantum}
 use Rattle.forms.specs.Flat.{Kept, as_form}
 use Rattle.forms.specs.Rows.{ShortRows}
 use Rattle.check_index.specs.Answers.{PastField}
-use Rattle.check_declaration.specs.declared.TypeRead.{TypeRead}
-use Rattle.check_declaration.specs.declared.TypeRead.TheVariants.{Single, Many, Bad}
-use Rattle.check_index.specs.declared.Read.{Read}
-use Rattle.check_index.specs.declared.Read.TheVariants.{Upto, Refused}
-use Rattle.kinds.specs.Numbers.{number_of}
+use Rattle.check_declaration.specs.declared.PlainType.{PlainType}
+use Rattle.check_declaration.specs.declared.PlainType.TheVariants.{Single, Many}
+use Rattle.refusals.specs.Reasons.{number_of}
+use Rattle.refusals.specs.declared.Refusal.{Refusal}
+use Rattle.kinds.specs.Numbers.{number_of as kind_number}
 use Rattle.check_operand.specs.Tables.{Formals, kind_of_row, size_of_row, kind_at, kinds_at}
 use Rattle.check_call.specs.Calls.{formal_at, IsPlain}
 use Rattle.kinds.specs.declared.Kind as K
@@ -21,7 +21,7 @@ size_row at registers = 1 + (at + 2 * registers) / 7
 
 -- the number in the table of operands for a kind whose size is in a row
 abbrev pub row_number : K.Kind → (row : ℕ) → ℕ
-row_number kind row = row * 4 + number_of kind
+row_number kind row = row * 4 + kind_number kind
 
 -- the first row of the plain types of the family type at a place, in a table of so many rows: its upper half is theirs
 abbrev pub plain_row : (rows at : ℕ) → ℕ
@@ -32,20 +32,20 @@ abbrev pub most_rows : ℕ
 most_rows = 65_535
 
 -- what the answer on a type Qbit[I], with the form beside it, stands for
-unfoldable pub checked_sized_type : Read → List ℤ → Checked Kind
-checked_sized_type (Upto n) l = good (quantum (as_form l))
-checked_sized_type (Refused n p) l = refused n p
+unfoldable pub checked_sized_type : Result ℕ Refusal → List ℤ → Checked Kind
+checked_sized_type (Ok n) l = good (quantum (as_form l))
+checked_sized_type (Err e) l = refused (number_of e.0) e.1
 
 -- what the answer on a plain type, with the form beside it, stands for
-unfoldable pub checked_type : TypeRead → List ℤ → Checked Kind
-checked_type (Single n) l = good qubit
-checked_type (Many n) l = good (quantum (as_form l))
-checked_type (Bad n p) l = refused n p
+unfoldable pub checked_type : Result PlainType Refusal → List ℤ → Checked Kind
+checked_type (Ok (Single n)) l = good qubit
+checked_type (Ok (Many n)) l = good (quantum (as_form l))
+checked_type (Err e) l = refused (number_of e.0) e.1
 
-abbrev pub TypePasses : List ℕ → ℕ → ℕ → TypeRead → List ℤ → Type 0
-TypePasses program at to (Single n) l = PastField program at to n
-TypePasses program at to (Many n) l = PastField program at to n × Kept l × (at + 7 ≤ n)
-TypePasses program at to (Bad n p) l = Unit {0}
+abbrev pub TypePasses : List ℕ → ℕ → ℕ → Result PlainType Refusal → List ℤ → Type 0
+TypePasses program at to (Ok (Single n)) l = PastField program at to n
+TypePasses program at to (Ok (Many n)) l = PastField program at to n × Kept l × (at + 7 ≤ n)
+TypePasses program at to (Err e) l = Unit {0}
 
 -- tables for what so many bytes can declare: in the lower half a row for each register and for each type, which takes 3 bytes at least, and one for each size
 pub record OperandTable (bytes : ℕ) (kinds : List ℕ) (sizes : List (List ℤ)) : Type 0 where
@@ -60,13 +60,13 @@ pub record InUse (rows registers at : ℕ) (kinds : List ℕ) : Type 0 where
   pub named : (j : ℕ) → size_of_row (get_or kinds j 0) < size_row at registers
 
 -- those in use after a part that is right: before its end, and before a place behind it
-abbrev pub InUseAfter : (rows registers : ℕ) → Read → List ℕ → Type 0
-InUseAfter rows registers (Upto n) kinds = InUse rows registers n kinds
-InUseAfter rows registers (Refused n p) kinds = Unit {0}
+abbrev pub InUseAfter : (rows registers : ℕ) → Result ℕ Refusal → List ℕ → Type 0
+InUseAfter rows registers (Ok n) kinds = InUse rows registers n kinds
+InUseAfter rows registers (Err e) kinds = Unit {0}
 
-abbrev pub InUseBefore : (rows registers to : ℕ) → Read → List ℕ → Type 0
-InUseBefore rows registers to (Upto n) kinds = InUse rows registers to kinds
-InUseBefore rows registers to (Refused n p) kinds = Unit {0}
+abbrev pub InUseBefore : (rows registers to : ℕ) → Result ℕ Refusal → List ℕ → Type 0
+InUseBefore rows registers to (Ok n) kinds = InUse rows registers to kinds
+InUseBefore rows registers to (Err e) kinds = Unit {0}
 
 -- tables whose rows are as before, but for so many from a first one on
 pub record Apart (bytes first count : ℕ) (kinds : List ℕ) (sizes : List (List ℤ)) (kinds' : List ℕ) (sizes' : List (List ℤ)) : Type 0 where
@@ -79,27 +79,27 @@ pub record Apart (bytes first count : ℕ) (kinds : List ℕ) (sizes : List (Lis
   pub kinds_above : (formals : Formals) (j : ℕ) → first + count ≤ j → kind_at formals j kinds' sizes' ≡ kind_at formals j kinds sizes
 
 -- what the answer on a parameter, with its row, stands for
-unfoldable pub checked_row : Formals → Read → ℕ → List ℕ → List (List ℤ) → Checked Kind
-checked_row formals (Upto n) row kinds sizes = good (kind_at formals row kinds sizes)
-checked_row formals (Refused n p) row kinds sizes = refused n p
+unfoldable pub checked_row : Formals → Result ℕ Refusal → ℕ → List ℕ → List (List ℤ) → Checked Kind
+checked_row formals (Ok n) row kinds sizes = good (kind_at formals row kinds sizes)
+checked_row formals (Err e) row kinds sizes = refused (number_of e.0) e.1
 
 -- what the answer on parameters, with their rows, stands for
-unfoldable pub checked_rows : Formals → Read → (count first : ℕ) → List ℕ → List (List ℤ) → Checked (List Kind)
-checked_rows formals (Upto n) count first kinds sizes = good (kinds_at formals count first kinds sizes)
-checked_rows formals (Refused n p) count first kinds sizes = refused n p
+unfoldable pub checked_rows : Formals → Result ℕ Refusal → (count first : ℕ) → List ℕ → List (List ℤ) → Checked (List Kind)
+checked_rows formals (Ok n) count first kinds sizes = good (kinds_at formals count first kinds sizes)
+checked_rows formals (Err e) count first kinds sizes = refused (number_of e.0) e.1
 
 -- so many rows from a first one on are plain
 abbrev pub PlainRows : (count first : ℕ) → List ℕ → Type 0
 PlainRows count first kinds = (i : ℕ) → i < count → IsPlain (kind_of_row (get_or kinds (first + i) 0))
 
-abbrev pub PlainAfter : Read → (count first : ℕ) → List ℕ → Type 0
-PlainAfter (Upto n) count first kinds = PlainRows count first kinds
-PlainAfter (Refused n p) count first kinds = Unit {0}
+abbrev pub PlainAfter : Result ℕ Refusal → (count first : ℕ) → List ℕ → Type 0
+PlainAfter (Ok n) count first kinds = PlainRows count first kinds
+PlainAfter (Err e) count first kinds = Unit {0}
 
 -- so many types take 3 bytes each, and are in the field
-abbrev pub TypesWithin : (at to count : ℕ) → Read → Type 0
-TypesWithin at to count (Upto n) = (at + 3 * count ≤ n) × (n ≤ to)
-TypesWithin at to count (Refused n p) = Unit {0}
+abbrev pub TypesWithin : (at to count : ℕ) → Result ℕ Refusal → Type 0
+TypesWithin at to count (Ok n) = (at + 3 * count ≤ n) × (n ≤ to)
+TypesWithin at to count (Err e) = Unit {0}
 
 -- a row of what a family parameter takes is right: few index variables, and plain types in rows of the upper half, before a row
 pub record FormalRight (row : List ℕ) (before : ℕ) (kinds : List ℕ) : Type 0 where
@@ -113,13 +113,13 @@ pub record FormalRight (row : List ℕ) (before : ℕ) (kinds : List ℕ) : Type
 abbrev pub FormalsIn : (at : ℕ) → List (List ℕ) → List ℕ → Type 0
 FormalsIn at families kinds = (x : ℕ) → FormalRight (get_or families (most_families + x) []) (plain_row (length kinds) at) kinds
 
-abbrev pub FormalsAfter : Read → List (List ℕ) → List ℕ → Type 0
-FormalsAfter (Upto n) families kinds = FormalsIn n families kinds
-FormalsAfter (Refused n p) families kinds = Unit {0}
+abbrev pub FormalsAfter : Result ℕ Refusal → List (List ℕ) → List ℕ → Type 0
+FormalsAfter (Ok n) families kinds = FormalsIn n families kinds
+FormalsAfter (Err e) families kinds = Unit {0}
 
-abbrev pub FormalsBefore : (to : ℕ) → Read → List (List ℕ) → List ℕ → Type 0
-FormalsBefore to (Upto n) families kinds = FormalsIn to families kinds
-FormalsBefore to (Refused n p) families kinds = Unit {0}
+abbrev pub FormalsBefore : (to : ℕ) → Result ℕ Refusal → List (List ℕ) → List ℕ → Type 0
+FormalsBefore to (Ok n) families kinds = FormalsIn to families kinds
+FormalsBefore to (Err e) families kinds = Unit {0}
 
 -- the table of families has a row behind those of the families for each row of a size
 abbrev pub FamilyTable : List (List ℕ) → List (List ℤ) → Type 0

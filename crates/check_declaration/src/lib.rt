@@ -16,48 +16,52 @@ ghost use Rattle.check_declaration.specs.Types.{size_row, plain_row, most_rows, 
 ghost use Rattle.check_declaration.specs.Families.{checked_counts, counts_in, BothRight};
 
 use check_call::FamilyRow;
-use check_index::Read;
 use check_operand::KINDS;
-use fields::{Header, Tagged};
-use forms::{FORM_NUMBERS, Form, SIZE_NUMBERS, Size};
+use fields::NoHeader;
+use forms::{FORM_NUMBERS, Form, Ranges, SIZE_NUMBERS, Size};
 use limits::{DEEPEST, MOST_FAMILIES, MOST_PARAMETERS, MOST_REGISTERS, MOST_VARIABLES};
+use refusals::{Reason, Refusal};
 
-// What a parameter's type is: Qbit, or Qbit[I], whose form lies beside; each with the position past it. Or a refusal.
-#[derive(Clone, Copy)]
-pub enum TypeRead {
+// A plain type, with the position past it: Qbit, or Qbit[I], whose form lies beside.
+#[derive(Clone, Copy, Debug, PartialEq, Eq)]
+pub enum PlainType {
     Single(usize),
     Many(usize),
-    Bad(u32, usize),
 }
 
-// The numbers of index variables and of parameters of a family or a family type, or a refusal's number and place.
-#[derive(Clone, Copy)]
-pub enum Counts {
-    Both(usize, usize),
-    Bad(u32, usize),
+// The numbers of index variables and of parameters of a family or a family type.
+#[derive(Clone, Copy, Debug, PartialEq, Eq)]
+pub struct Counts {
+    pub variables: usize,
+    pub parameters: usize,
 }
 
 // The content of the type Qbit[I] at `at`, in a family of m index variables; its size goes to f.
-fn sized_type(program: &[u8], at: usize, next: usize, m: usize, f: &mut Form) -> Read
+fn sized_type(
+    program: &[u8],
+    at: usize,
+    next: usize,
+    m: usize,
+    f: &mut Form,
+) -> Result<usize, Refusal>
     requires at_bound { (at + 3 ≤ next) × (next ≤ length program.now) }
     requires m_le_most_variables { m ≤ most_variables }
     ensures f_after { (fs : List Signature) (ks : List Kind) → checked_sized_type result f.new ≡ plain_kind (scope_with fs ks m []) (qbits_of at (fields_at program.now (at + 3) next)) }
     ensures form_ends_at { FormEndsAt next result f.new }
 {
     let from = at + 3;
-    let r = check_index::index(program, from, next, at, DEEPEST, m, f);
-    let Read::Upto(end) = r else {
-        return r;
-    };
+    let end = check_index::index(program, from, next, at, DEEPEST, m, f)?;
     if end < next {
-        return Read::Refused(4, at);
+        return Err(Refusal(Reason::BadContent, at));
     }
-    let none = [[0i64; FORM_NUMBERS]; 1];
-    let t = check_operand::must_show(f, at, next, m, 0, &none, &none);
-    let Read::Upto(_) = t else {
-        return t;
+    let ranges = Ranges {
+        variables: m,
+        loops: 0,
+        lows: &[],
+        highs: &[],
     };
-    Read::Upto(next)
+    check_operand::must_show(f, at, next, &ranges)?;
+    Ok(next)
 }
 
 // The plain type that is due at `at` in the field at `parent` whose content ends at `to`, over m index variables; its size goes to f.
@@ -68,29 +72,30 @@ fn plain_type(
     parent: usize,
     m: usize,
     f: &mut Form,
-) -> TypeRead
+) -> Result<PlainType, Refusal>
     requires to_in_bounds { to ≤ length program.now }
     requires m_le_most_variables { m ≤ most_variables }
     ensures f_after { (fs : List Signature) (ks : List Kind) → checked_type result f.new ≡ plain_kind (scope_with fs ks m []) (due read_plain (bad_type 4 parent) (fields_at program.now at to)) }
     ensures type_passes { TypePasses program.now at to result f.new }
 {
     match fields::header_at(program, at, to) {
-        Header::End => TypeRead::Bad(4, parent),
-        Header::Cut => TypeRead::Bad(2, at),
-        Header::Whole(tag, next) => {
+        Err(NoHeader::End) => Err(Refusal(Reason::BadContent, parent)),
+        Err(NoHeader::Cut) => Err(Refusal(Reason::BadHeader, at)),
+        Ok(header) => {
+            let next = header.next;
             let from = at + 3;
-            match tag {
-                16 => {
+            match header.tag {
+                fields::QBIT => {
                     if from < next {
-                        return TypeRead::Bad(4, at);
+                        return Err(Refusal(Reason::BadContent, at));
                     }
-                    TypeRead::Single(next)
+                    Ok(PlainType::Single(next))
                 }
-                17 => match sized_type(program, at, next, m, f) {
-                    Read::Upto(_) => TypeRead::Many(next),
-                    Read::Refused(n, q) => TypeRead::Bad(n, q),
-                },
-                _ => TypeRead::Bad(3, at),
+                fields::QBITS => {
+                    sized_type(program, at, next, m, f)?;
+                    Ok(PlainType::Many(next))
+                }
+                _ => Err(Refusal(Reason::BadTag, at)),
             }
         }
     }
@@ -111,7 +116,7 @@ fn row_number(kind: kinds::Kind, row: usize) -> u16
     requires { row < 16384 }
     ensures { result ≡ row_number kind row }
 {
-    (row as u16) * KINDS + fields::wider(kinds::number(kind))
+    (row as u16) * KINDS + u16::from(kind)
 }
 
 // The plain type that is due at `at` in the field at `parent`, over m index variables, put into a row of the tables, after so many
@@ -126,7 +131,7 @@ fn plain_row(
     registers: usize,
     kinds: &mut [u16],
     sizes: &mut [Size],
-) -> Read
+) -> Result<usize, Refusal>
     requires to_in_bounds { to ≤ length program.now }
     requires m_le_most_variables { m ≤ most_variables }
     requires program_len_bound { length program.now ≤ longest_program }
@@ -140,20 +145,19 @@ fn plain_row(
     ensures apart { Apart (length program.now) row 1 kinds.old sizes.old kinds.new sizes.new }
 {
     let mut f = [0i64; FORM_NUMBERS];
-    match plain_type(program, at, to, parent, m, &mut f) {
-        TypeRead::Single(next) => {
+    match plain_type(program, at, to, parent, m, &mut f)? {
+        PlainType::Single(next) => {
             kinds[row] = row_number(kinds::Kind::Qubit, 0);
-            Read::Upto(next)
+            Ok(next)
         }
-        TypeRead::Many(next) => {
+        PlainType::Many(next) => {
             let mut size = [0i32; SIZE_NUMBERS];
             forms::store(&mut size, &f);
             let own = size_row(at, registers);
             kinds[row] = row_number(kinds::Kind::Quantum, own);
             sizes[own] = size;
-            Read::Upto(next)
+            Ok(next)
         }
-        TypeRead::Bad(n, q) => Read::Refused(n, q),
     }
 }
 
@@ -169,7 +173,7 @@ fn plain_rows(
     registers: usize,
     kinds: &mut [u16],
     sizes: &mut [Size],
-) -> Read
+) -> Result<usize, Refusal>
     requires to_in_bounds { to ≤ length program.now }
     requires m_le_most_variables { m ≤ most_variables }
     requires at_le_to { (at ≤ to) × (length program.now ≤ longest_program) }
@@ -186,13 +190,10 @@ fn plain_rows(
     let mut from = at;
     for j in 0..count {
         let row = first + j;
-        let r = plain_row(program, from, to, parent, m, row, registers, kinds, sizes);
-        let Read::Upto(next) = r else {
-            return r;
-        };
+        let next = plain_row(program, from, to, parent, m, row, registers, kinds, sizes)?;
         from = next;
     }
-    Read::Upto(from)
+    Ok(from)
 }
 
 // The first row of the plain types of the family type at `at`, in a table of so many rows: its upper half is theirs. Each takes 3 bytes
@@ -214,7 +215,7 @@ fn family_row(
     families: &mut [FamilyRow],
     kinds: &mut [u16],
     sizes: &mut [Size],
-) -> Read
+) -> Result<usize, Refusal>
     requires at_bound { (at + 3 ≤ next) × (next ≤ length program.now) }
     requires program_len_bound { (length program.now ≤ longest_program) × (length kinds.old ≤ most_rows) }
     requires in_use { InUse row registers at kinds.old }
@@ -227,28 +228,23 @@ fn family_row(
     ensures formals_after { FormalsAfter result families.new kinds.new }
     ensures stays { Stays (length program.now) row at registers families.old kinds.old sizes.old families.new kinds.new sizes.new }
 {
-    match two_counts(program, at, next) {
-        Counts::Bad(k, q) => Read::Refused(k, q),
-        Counts::Both(m, count) => {
-            let from = at + 5;
-            let first = plain_from(kinds.len(), at);
-            let r = plain_rows(
-                program, from, next, at, m, count, first, registers, kinds, sizes,
-            );
-            let Read::Upto(end) = r else {
-                return r;
-            };
-            if end < next {
-                return Read::Refused(4, at);
-            }
-            let own = size_row(at, registers);
-            kinds[row] = row_number(kinds::Kind::Family, own);
-            let entry = [m as u16, count as u16, first as u16];
-            let formal = MOST_FAMILIES + own;
-            families[formal] = entry;
-            Read::Upto(next)
-        }
+    let counts = two_counts(program, at, next)?;
+    let m = counts.variables;
+    let count = counts.parameters;
+    let from = at + 5;
+    let first = plain_from(kinds.len(), at);
+    let end = plain_rows(
+        program, from, next, at, m, count, first, registers, kinds, sizes,
+    )?;
+    if end < next {
+        return Err(Refusal(Reason::BadContent, at));
     }
+    let own = size_row(at, registers);
+    kinds[row] = row_number(kinds::Kind::Family, own);
+    let entry = [m as u16, count as u16, first as u16];
+    let formal = MOST_FAMILIES + own;
+    families[formal] = entry;
+    Ok(next)
 }
 
 // The type that is due at `at` in the family at `parent` of m index variables, put into a row of the tables, after so many registers.
@@ -263,7 +259,7 @@ fn typed_row(
     families: &mut [FamilyRow],
     kinds: &mut [u16],
     sizes: &mut [Size],
-) -> Read
+) -> Result<usize, Refusal>
     requires at_le_to { (at ≤ to) × (to ≤ length program.now) }
     requires m_le_most_variables { m ≤ most_variables }
     requires program_len_bound { (length program.now ≤ longest_program) × (length kinds.old ≤ most_rows) }
@@ -277,7 +273,7 @@ fn typed_row(
     ensures formals_after { FormalsAfter result families.new kinds.new }
     ensures stays { Stays (length program.now) row at registers families.old kinds.old sizes.old families.new kinds.new sizes.new }
 {
-    if let Tagged::Upto(next) = fields::with_tag(program, at, to, fields::FAMILY_TYPE) {
+    if let Some(next) = fields::with_tag(program, at, to, fields::FAMILY_TYPE) {
         return family_row(program, at, next, row, registers, families, kinds, sizes);
     }
     plain_row(program, at, to, parent, m, row, registers, kinds, sizes)
@@ -296,7 +292,7 @@ pub fn parameter_types(
     families: &mut [FamilyRow],
     kinds: &mut [u16],
     sizes: &mut [Size],
-) -> Read
+) -> Result<usize, Refusal>
     requires to_in_bounds { to ≤ length program.now }
     requires m_le_most_variables { m ≤ most_variables }
     requires at_le_to { (at ≤ to) × (length program.now ≤ longest_program) × (length kinds.old ≤ most_rows) }
@@ -313,43 +309,43 @@ pub fn parameter_types(
     let mut from = at;
     for j in 0..count {
         let row = first + j;
-        let r = typed_row(
+        let next = typed_row(
             program, from, to, parent, m, row, registers, families, kinds, sizes,
-        );
-        let Read::Upto(next) = r else {
-            return r;
-        };
+        )?;
         from = next;
     }
-    Read::Upto(from)
+    Ok(from)
 }
 
 // The two numbers of the family or the family type at `at`, whose field ends at `next`.
-pub fn two_counts(program: &[u8], at: usize, next: usize) -> Counts
+pub fn two_counts(program: &[u8], at: usize, next: usize) -> Result<Counts, Refusal>
     requires { (at + 3 ≤ next) × (next ≤ length program.now) }
     ensures result_value { checked_counts result ≡ counts_in at (slice (at + 3) next program.now) }
     ensures both_right { BothRight at next result }
 {
     let from = at + 3;
     if next <= from {
-        return Counts::Bad(4, at);
+        return Err(Refusal(Reason::BadContent, at));
     }
-    let m = fields::wide(program[from]);
+    let m = usize::from(program[from]);
     if MOST_VARIABLES < m {
-        return Counts::Bad(6, at);
+        return Err(Refusal(Reason::TooMany, at));
     }
     let second = at + 4;
     if next <= second {
-        return Counts::Bad(4, at);
+        return Err(Refusal(Reason::BadContent, at));
     }
-    let n = fields::wide(program[second]);
+    let n = usize::from(program[second]);
     if n == 0 {
-        return Counts::Bad(6, at);
+        return Err(Refusal(Reason::TooMany, at));
     }
     if MOST_PARAMETERS < n {
-        return Counts::Bad(6, at);
+        return Err(Refusal(Reason::TooMany, at));
     }
-    Counts::Both(m, n)
+    Ok(Counts {
+        variables: m,
+        parameters: n,
+    })
 }
 
 // The size of the register at `at`, whose field ends at `next`, after `count` registers with `total` qubits or bits, of which there may be at most `most`.
@@ -360,27 +356,27 @@ fn register_size(
     count: usize,
     total: usize,
     most: usize,
-) -> Read
+) -> Result<usize, Refusal>
     requires at_bound { (at + 3 ≤ next) × (next ≤ length program.now) }
     requires total_le_most { total ≤ most }
     requires most_le_furthest { most ≤ furthest }
     ensures { checked_register result ≡ register_in at count total most (slice (at + 3) next program.now) }
 {
     if MOST_REGISTERS <= count {
-        return Read::Refused(6, at);
+        return Err(Refusal(Reason::TooMany, at));
     }
     let from = at + 3;
     if next - from < 2 {
-        return Read::Refused(4, at);
+        return Err(Refusal(Reason::BadContent, at));
     }
     let n = fields::two_bytes(program, from);
     if most < total + n {
-        return Read::Refused(7, at);
+        return Err(Refusal(Reason::TooLarge, at));
     }
     if next - from != 2 {
-        return Read::Refused(4, at);
+        return Err(Refusal(Reason::BadContent, at));
     }
-    Read::Upto(n)
+    Ok(n)
 }
 
 // The register of a kind at `at`, put into its row; the rest is as for its size.
@@ -394,7 +390,7 @@ pub fn register(
     most: usize,
     kinds: &mut [u16],
     sizes: &mut [Size],
-) -> Read
+) -> Result<usize, Refusal>
     requires at_bound { (at + 3 ≤ next) × (next ≤ length program.now) }
     requires total_le_most { total ≤ most }
     requires most_le_furthest { most ≤ furthest }
@@ -404,10 +400,7 @@ pub fn register(
     ensures result_value { checked_register result ≡ register_in at count total most (slice (at + 3) next program.now) }
     ensures register_set { RegisterSet (length program.now) next result kind count total most kinds.old sizes.old kinds.new sizes.new }
 {
-    let r = register_size(program, at, next, count, total, most);
-    let Read::Upto(size) = r else {
-        return r;
-    };
+    let size = register_size(program, at, next, count, total, most)?;
     let mut f = [0i64; FORM_NUMBERS];
     forms::set_constant(&mut f, size as i64);
     let mut short = [0i32; SIZE_NUMBERS];
@@ -415,5 +408,5 @@ pub fn register(
     let own = size_row(at, count);
     kinds[count] = row_number(kind, own);
     sizes[own] = short;
-    Read::Upto(size)
+    Ok(size)
 }

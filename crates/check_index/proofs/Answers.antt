@@ -6,8 +6,6 @@ use native.Mathlib.Omega.{arith}
 use native.Mathlib.Numerals.{add-one}
 use lib.IntN.{ℤ}
 use lib.ListN.{length, drop}
-use types.Run.{OneOf}
-use denote.Enum.Declared.{tag_of}
 use Rattle.language.specs.Tree.{ended, leftover}
 use Rattle.language.specs.Read.{Field, ending}
 use Rattle.language.specs.Form.{Form}
@@ -15,36 +13,24 @@ use Rattle.language.specs.Check.{Checked, good, refused, ◌>>=◌, ◌>>◌, no
 use Rattle.fields.specs.Header.{fields_at}
 use Rattle.fields.proofs.Headers.{Wholly, View, ends, cuts, goes, view, fields_end}
 use Rattle.forms.specs.Flat.{Kept, as_form}
-use Rattle.check_index.specs.contracts.Read.{the_type}
 use Rattle.check_index.specs.Answers.{checked_form, FormEndsAt, FormPasses, PastField, checked_part, EndsAt, Passes, Beyond, PassesCount}
-use Rattle.check_index.specs.declared.Read.{Read}
-use Rattle.check_index.specs.declared.Read.TheVariants.{Upto, Refused}
+use Rattle.std.specs.Prelude.{Result, Ok, Err}
+use Rattle.refusals.specs.declared.Refusal.{Refusal}
 
-pub not_first : {A : Type 0} → OneOf (1 ∷ []) 0 → A
-not_first h = absurd (let z : ◌≡◌ {A = ℕ} 0 1 = h in omega arith)
-
-pub not_second : {A : Type 0} → OneOf (0 ∷ []) 1 → A
-not_second h = absurd (let z : ◌≡◌ {A = ℕ} 1 0 = h in omega arith)
-
-pub checked_then : {B : Type 0} (r : Read) (l : List ℤ) (m : ℕ) (next : Form → Checked B) → r ≡ Upto m → (checked_form r l >>= next) ≡ next (as_form l)
+pub checked_then : {B : Type 0} (r : Result ℕ Refusal) (l : List ℤ) (m : ℕ) (next : Form → Checked B) → r ≡ Ok m → (checked_form r l >>= next) ≡ next (as_form l)
 unfolding checked_form ◌>>=◌
-checked_then r l m next e = ap (λ (x : Read). checked_form x l >>= next) e
+checked_then r l m next e = ap (λ (x : Result ℕ Refusal). checked_form x l >>= next) e
 
-pub checked_stop : (r : Read) (l k : List ℤ) (next : Form → Checked Form) → OneOf (1 ∷ []) (tag_of the_type r) → checked_form r k ≡ (checked_form r l >>= next)
+pub checked_stop : (r : Result ℕ Refusal) (l k : List ℤ) (next : Form → Checked Form) {e : Refusal} → r ≡ Err e → checked_form (Err e) k ≡ (checked_form r l >>= next)
 unfolding checked_form ◌>>=◌
-checked_stop (Upto m) l k next h = not_first h
-checked_stop (Refused n p) l k next h = refl
-
-pub form_passes_refused : (program : List ℕ) (at to : ℕ) (r : Read) (l : List ℤ) → OneOf (1 ∷ []) (tag_of the_type r) → FormPasses program at to r l
-form_passes_refused program at to (Upto m) l h = not_first h
-form_passes_refused program at to (Refused n q) l h = tt
+checked_stop r l k next h = sym (ap (λ (x : Result ℕ Refusal). checked_form x l >>= next) h)
 
 pub passed : (program : List ℕ) (at to tag next : ℕ) → Wholly program at to tag next → PastField program at to next
 passed program at to tag next w = record { rest = ap (drop 1) w.first; low = w.low; high = w.high }
 
-pub form_ends_passes : (program : List ℕ) (at to tag next : ℕ) (r : Read) (l : List ℤ) → Wholly program at to tag next → FormEndsAt next r l → FormPasses program at to r l
-form_ends_passes program at to tag next (Upto m) l w e = rw e.0 (passed program at to tag next w, e.1)
-form_ends_passes program at to tag next (Refused n q) l w e = tt
+pub form_ends_passes : (program : List ℕ) (at to tag next : ℕ) (r : Result ℕ Refusal) (l : List ℤ) → Wholly program at to tag next → FormEndsAt next r l → FormPasses program at to r l
+form_ends_passes program at to tag next (Ok m) l w e = rw e.0 (passed program at to tag next w, e.1)
+form_ends_passes program at to tag next (Err q) l w e = tt
 
 pub drop_two : {A : Type 0} (l : List A) → drop 2 l ≡ drop 1 (drop 1 l)
 drop_two [] = refl
@@ -64,45 +50,33 @@ pub none_left : (program : List ℕ) (at to : ℕ) → to ≤ at → ending (fie
 unfolding ending
 none_left program at to h = ap ending (fields_end program at to h)
 
-pub form_passes_upto : (program : List ℕ) (at to : ℕ) (r : Read) (l : List ℤ) (m : ℕ) → r ≡ Upto m → FormPasses program at to r l → PastField program at to m × Kept l
+pub form_passes_upto : (program : List ℕ) (at to : ℕ) (r : Result ℕ Refusal) (l : List ℤ) (m : ℕ) → r ≡ Ok m → FormPasses program at to r l → PastField program at to m × Kept l
 form_passes_upto program at to r l m e h = rw e at h
 
-pub then_upto : {B : Type 0} (r : Read) (m : ℕ) (next : Checked B) → r ≡ Upto m → (checked_part r >> next) ≡ next
+pub then_upto : {B : Type 0} (r : Result ℕ Refusal) (m : ℕ) (next : Checked B) → r ≡ Ok m → (checked_part r >> next) ≡ next
 unfolding checked_part ◌>>◌
-then_upto r m next e = ap (λ (x : Read). checked_part x >> next) e
+then_upto r m next e = ap (λ (x : Result ℕ Refusal). checked_part x >> next) e
 
--- an answer that goes on, whatever its position
-pub then_goes : {B : Type 0} (r : Read) (next : Checked B) → OneOf (0 ∷ []) (tag_of the_type r) → (checked_part r >> next) ≡ next
+pub then_stops : (r : Result ℕ Refusal) (next : Checked (Unit {0})) {e : Refusal} → r ≡ Err e → checked_part (Err e) ≡ (checked_part r >> next)
 unfolding checked_part ◌>>◌
-then_goes (Upto n) next h = refl
-then_goes (Refused n p) next h = not_second h
+then_stops r next h = sym (ap (λ (x : Result ℕ Refusal). checked_part x >> next) h)
 
-pub then_stops : (r : Read) (next : Checked (Unit {0})) → OneOf (1 ∷ []) (tag_of the_type r) → checked_part r ≡ (checked_part r >> next)
-unfolding checked_part ◌>>◌
-then_stops (Upto n) next h = not_first h
-then_stops (Refused n p) next h = refl
+pub ends_passes : (program : List ℕ) (at to tag next : ℕ) (r : Result ℕ Refusal) → Wholly program at to tag next → EndsAt next r → Passes program at to r
+ends_passes program at to tag next (Ok n) w e = rw e (passed program at to tag next w)
+ends_passes program at to tag next (Err q) w e = tt
 
-pub ends_stops : (r : Read) (next : ℕ) → OneOf (1 ∷ []) (tag_of the_type r) → EndsAt next r
-ends_stops (Upto n) next h = not_first h
-ends_stops (Refused n p) next h = tt
-
-pub ends_passes : (program : List ℕ) (at to tag next : ℕ) (r : Read) → Wholly program at to tag next → EndsAt next r → Passes program at to r
-ends_passes program at to tag next (Upto n) w e = rw e (passed program at to tag next w)
-ends_passes program at to tag next (Refused n q) w e = tt
-
-pub form_stops : (r : Read) (l : List ℤ) (next : Form → Checked (Unit {0})) → OneOf (1 ∷ []) (tag_of the_type r) → checked_part r ≡ (checked_form r l >>= next)
+pub form_stops : (r : Result ℕ Refusal) (l : List ℤ) (next : Form → Checked (Unit {0})) {e : Refusal} → r ≡ Err e → checked_part (Err e) ≡ (checked_form r l >>= next)
 unfolding checked_form checked_part ◌>>=◌
-form_stops (Upto m) l next h = not_first h
-form_stops (Refused n p) l next h = refl
+form_stops r l next h = sym (ap (λ (x : Result ℕ Refusal). checked_form x l >>= next) h)
 
-module _ {B : Type 0} (r : Read) (x : Checked (Unit {0})) (e : checked_part r ≡ x) where
-  pub part_goes : (m : ℕ) (next : Checked B) → r ≡ Upto m → (x >> next) ≡ next
+module _ {B : Type 0} (r : Result ℕ Refusal) (x : Checked (Unit {0})) (e : checked_part r ≡ x) where
+  pub part_goes : (m : ℕ) (next : Checked B) → r ≡ Ok m → (x >> next) ≡ next
   part_goes m next u = ap (λ (c : Checked (Unit {0})). c >> next) (sym e) ∙ then_upto r m next u
 
-pub part_stops : (r : Read) (x next : Checked (Unit {0})) → checked_part r ≡ x → OneOf (1 ∷ []) (tag_of the_type r) → checked_part r ≡ (x >> next)
+pub part_stops : (r : Result ℕ Refusal) (x next : Checked (Unit {0})) → checked_part r ≡ x → {e : Refusal} → r ≡ Err e → checked_part (Err e) ≡ (x >> next)
 part_stops r x next e h = then_stops r next h ∙ ap (λ (c : Checked (Unit {0})). c >> next) e
 
-pub passes_upto : (program : List ℕ) (at to : ℕ) (r : Read) (m : ℕ) → r ≡ Upto m → Passes program at to r → PastField program at to m
+pub passes_upto : (program : List ℕ) (at to : ℕ) (r : Result ℕ Refusal) (m : ℕ) → r ≡ Ok m → Passes program at to r → PastField program at to m
 passes_upto program at to r m e h = rw e at h
 
 pub left_some : (program : List ℕ) (at from to end : ℕ) → PastField program from to end → end < to → to ≤ length program → no_leftover at (ending (drop 1 (fields_at program from to))) ≡ refused 4 at
@@ -130,17 +104,5 @@ beyond_more program at to i mid next b v =
     by : {A : Type 0} (l : List A) (i : ℕ) → drop (i + 1) l ≡ drop 1 (drop i l)
     by l i = rw add-one (more l i)
 
-pub beyond_stops : (program : List ℕ) (at to i : ℕ) (r : Read) → OneOf (1 ∷ []) (tag_of the_type r) → PassesCount program at to i r
-beyond_stops program at to i (Upto n) h = not_first h
-beyond_stops program at to i (Refused n q) h = tt
-
-pub count_upto : (program : List ℕ) (at to n : ℕ) (r : Read) (m : ℕ) → r ≡ Upto m → PassesCount program at to n r → Beyond program at to n m
+pub count_upto : (program : List ℕ) (at to n : ℕ) (r : Result ℕ Refusal) (m : ℕ) → r ≡ Ok m → PassesCount program at to n r → Beyond program at to n m
 count_upto program at to n r m e h = rw e at h
-
--- an answer that goes on
-pub part_went : {B : Type 0} (r : Read) (x : Checked (Unit {0})) (next : Checked B) → checked_part r ≡ x → OneOf (0 ∷ []) (tag_of the_type r) → (x >> next) ≡ next
-part_went r x next e h = ap (λ (c : Checked (Unit {0})). c >> next) (sym e) ∙ then_goes r next h
-
-pub form_ends_stops : (next : ℕ) (r : Read) (l : List ℤ) → OneOf (1 ∷ []) (tag_of the_type r) → FormEndsAt next r l
-form_ends_stops next (Upto n) l h = not_first h
-form_ends_stops next (Refused n p) l h = tt

@@ -10,8 +10,6 @@ use lib.IntN.{ℤ, pos}
 use lib.ListN.{length, drop}
 use lib.Seq.{slice}
 use borrow.Author.Tests.{le-leb, lt-ltb, le-ltb, lt-leb}
-use types.Run.{OneOf}
-use denote.Enum.Declared.{tag_of}
 use Rattle.language.specs.Tree.{bad_index}
 use Rattle.language.specs.Read.{Field, field, bad_header, ending, due, read_literal, read_variable, operation_of, is_index_tag, deep_index, index_by, read_index, two_bytes}
 use Rattle.language.specs.Form.{Form, Built, constant_form, variable_form}
@@ -19,14 +17,15 @@ use Rattle.language.specs.Check.{Checked, good, refused, ◌>>=◌, ◌>>◌, re
 use Rattle.fields.specs.Header.{fields_at}
 use Rattle.fields.proofs.Headers.{Wholly}
 use Rattle.forms.specs.Flat.{as_form, built_of}
-use Rattle.check_index.specs.contracts.Read.{the_type}
 use Rattle.check_index.specs.Indexes.{index_reader, IndexSays, scope_of, tree_operation}
 use Rattle.check_index.specs.Answers.{checked_form, PastField}
 use Rattle.check_index.specs.declared.Operation.{Operation}
 use Rattle.check_index.specs.declared.IndexTag.{IndexTag}
 use Rattle.check_index.specs.declared.IndexTag.TheVariants.{Both}
-use Rattle.check_index.specs.declared.Read.{Read}
-use Rattle.check_index.specs.declared.Read.TheVariants.{Upto, Refused}
+use Rattle.std.specs.Prelude.{Result, Ok, Err}
+use Rattle.refusals.specs.declared.Refusal.{Refusal}
+use Rattle.refusals.specs.declared.Reason.TheVariants.{FormOutOfRange}
+use Rattle.forms.specs.declared.OutOfRange.{OutOfRange}
 use Rattle.check_index.proofs.Answers.{checked_then, checked_stop, drop_two, more_left, none_left}
 use Rattle.language.specs.Tree as T
 
@@ -81,13 +80,13 @@ module _ (p n v : ℕ) (l more : List ℕ) (e : l ≡ (v ∷ more)) where
   unfolding require ◌>>◌ no_leftover ending
   variable_good h k = sym (read_is ∙ rw (add-zero n, lt-ltb v n h, k))
 
-pub made : (p next : ℕ) (l : List ℤ) {t : Bool} {b : Built} → built_of t l ≡ b → t ≡ true → checked_form (Upto next) l ≡ in_form p b
-unfolding checked_form in_form
-made p next l e q = ap (λ (t : Bool). in_form p (built_of t l)) (sym q) ∙ ap (in_form p) e
+pub made : (p next : ℕ) (l : List ℤ) {t : Result (Unit {0}) OutOfRange} {b : Built} {u : Unit {0}} → built_of t l ≡ b → t ≡ Ok u → checked_form (Ok next) l ≡ in_form p b
+unfolding checked_form in_form built_of
+made p next l e q = ap (λ (t : Result (Unit {0}) OutOfRange). in_form p (built_of t l)) (sym q) ∙ ap (in_form p) e
 
-pub unmade : (p : ℕ) (l m : List ℤ) {t : Bool} {b : Built} → built_of t l ≡ b → t ≡ false → checked_form (Refused 11 p) m ≡ in_form p b
-unfolding checked_form in_form
-unmade p l m e q = ap (λ (t : Bool). in_form p (built_of t l)) (sym q) ∙ ap (in_form p) e
+pub unmade : (p : ℕ) (l m : List ℤ) {t : Result (Unit {0}) OutOfRange} {b : Built} {o : OutOfRange} → built_of t l ≡ b → t ≡ Err o → checked_form (Err (record { 0 = FormOutOfRange; 1 = p })) m ≡ in_form p b
+unfolding checked_form in_form built_of
+unmade p l m e q = ap (λ (t : Result (Unit {0}) OutOfRange). in_form p (built_of t l)) (sym q) ∙ ap (in_form p) e
 
 module _ (program : List ℕ) (at to parent levels n : ℕ) where
   abbrev pub meant : Checked Form
@@ -138,14 +137,14 @@ module _ (program : List ℕ) (at next n below : ℕ) (o : Operation) where
   unfolding form_of operation_of fields_at
   both_is = refl
 
-  module _ (r : Read) (l : List ℤ) (checked_part : checked_form r l ≡ side (fields_at program (at + 3) next)) where
-    pub both_left : OneOf (1 ∷ []) (tag_of the_type r) → checked_form r l ≡ both
+  module _ (r : Result ℕ Refusal) (l : List ℤ) (checked_part : checked_form r l ≡ side (fields_at program (at + 3) next)) where
+    pub both_left : {e : Refusal} → r ≡ Err e → checked_form (Err e) l ≡ both
     both_left h =
         checked_stop r l l (after (drop 1 (fields_at program (at + 3) next)) (drop 2 (fields_at program (at + 3) next))) h
         ∙ ap (λ (c : Checked Form). c >>= after (drop 1 (fields_at program (at + 3) next)) (drop 2 (fields_at program (at + 3) next))) checked_part
         ∙ sym both_is
 
-    module _ (mid : ℕ) (e : r ≡ Upto mid) (w : PastField program (at + 3) next mid) where
+    module _ (mid : ℕ) (e : r ≡ Ok mid) (w : PastField program (at + 3) next mid) where
       both_mid : both ≡ after (fields_at program mid next) (drop 1 (fields_at program mid next)) (as_form l)
       both_mid =
           both_is
@@ -153,14 +152,14 @@ module _ (program : List ℕ) (at next n below : ℕ) (o : Operation) where
           ∙ checked_then r l mid (after (drop 1 (fields_at program (at + 3) next)) (drop 2 (fields_at program (at + 3) next))) e
           ∙ (λ j. after (w.rest j) ((drop_two (fields_at program (at + 3) next) ∙ ap (drop 1) w.rest) j) (as_form l))
 
-      module _ (s : Read) (k : List ℤ) (tells : checked_form s k ≡ side (fields_at program mid next)) where
-        pub both_right : (m : List ℤ) → OneOf (1 ∷ []) (tag_of the_type s) → checked_form s m ≡ both
+      module _ (s : Result ℕ Refusal) (k : List ℤ) (tells : checked_form s k ≡ side (fields_at program mid next)) where
+        pub both_right : (m : List ℤ) {e : Refusal} → s ≡ Err e → checked_form (Err e) m ≡ both
         both_right m h =
             checked_stop s k m (λ g. no_leftover at (ending (drop 1 (fields_at program mid next))) >> combined at (tree_operation o) (as_form l) g) h
             ∙ ap (λ (c : Checked Form). c >>= λ g. (no_leftover at (ending (drop 1 (fields_at program mid next))) >> combined at (tree_operation o) (as_form l) g)) tells
             ∙ sym both_mid
 
-        module _ (end : ℕ) (d : s ≡ Upto end) (v : PastField program mid next end) where
+        module _ (end : ℕ) (d : s ≡ Ok end) (v : PastField program mid next end) where
           both_end : both ≡ (no_leftover at (ending (fields_at program end next)) >> combined at (tree_operation o) (as_form l) (as_form k))
           both_end =
               both_mid

@@ -1,3 +1,4 @@
 -- The definitions of crate check_operand, file by file.
 pub mod Operands
 pub mod Tables
+pub mod Scopes

@@ -1,13 +1,13 @@
 -- What an operand is due to be, and what the answers on operands stand for.
-use Rattle.std.specs.Prelude.{◌≡◌, List, Bool, true, ◌&&◌, ◌||◌, ℕ, ◌+◌, ◌<◌, ℤ, eqb, length, get_or, drop}
+use Rattle.std.specs.Prelude.{◌≡◌, List, Bool, ◌&&◌, ◌||◌, ℕ, ◌+◌, ◌<◌, ℤ, eqb, length, get_or, drop, OnOk, Result, Ok, Err}
 use Rattle.language.specs.Form.{Form, same_form}
 use Rattle.language.specs.Tree.{Ending, Operand, whole, element, slice, passed, bad_operand}
 use Rattle.language.specs.Check.{Checked, good, refused, ◌>>◌, by_showing, form_of, check_one_wire, check_two, check_wires}
 use Rattle.language.specs.Read.{Field, ending, operand_due}
 use Rattle.forms.specs.Flat.{Kept, as_form, built_of, shown_of}
-use Rattle.forms.specs.declared.Verdict.{Verdict}
-use Rattle.check_index.specs.declared.Read.{Read}
-use Rattle.check_index.specs.declared.Read.TheVariants.{Upto, Refused}
+use Rattle.forms.specs.declared.Unshown.{Unshown}
+use Rattle.refusals.specs.Reasons.{number_of}
+use Rattle.refusals.specs.declared.Refusal.{Refusal}
 use Rattle.check_operand.specs.declared.Wanted.{Wanted}
 use Rattle.check_operand.specs.declared.Wanted.TheVariants.{Wire, Bit, Register, Family}
 use Rattle.check_operand.specs.Tables.{Known}
@@ -21,19 +21,19 @@ wanted_of k (Register t) l = C.register (built_of t l)
 wanted_of k (Family x) l = C.fitting (k.formals x)
 
 -- what the answer on the kind of an operand whose element is due stands for: its size
-unfoldable pub checked_size : Read → Form → Checked Form
-checked_size (Upto n) f = good f
-checked_size (Refused n p) f = refused n p
+unfoldable pub checked_size : Result ℕ Refusal → Form → Checked Form
+checked_size (Ok n) f = good f
+checked_size (Err e) f = refused (number_of e.0) e.1
 
 -- what a verdict for the field at p, with a form beside it, stands for
-unfoldable pub shown_form : ℕ → Verdict → List ℤ → Checked Form
+unfoldable pub shown_form : ℕ → Result (Unit {0}) Unshown → List ℤ → Checked Form
 shown_form p v l = by_showing p (shown_of v) >> good (as_form l)
 
 -- the form beside it is right, if it was built
 abbrev pub SizeRight : Wanted → List ℤ → Type 0
 SizeRight Wire l = Unit {0}
 SizeRight Bit l = Unit {0}
-SizeRight (Register t) l = t ≡ true → Kept l
+SizeRight (Register t) l = OnOk t (Kept l)
 SizeRight (Family x) l = Unit {0}
 
 -- an operand that is not a family
@@ -77,9 +77,9 @@ FormOf s (passed p n e) l = Unit {0}
 FormOf s (bad_operand n p) l = Unit {0}
 
 -- it is beside the answer on an operand that is right
-abbrev pub Leaves : C.Scope → Operand → Read → List ℤ → Type 0
-Leaves s o (Upto n) l = FormOf s o l
-Leaves s o (Refused n p) l = Unit {0}
+abbrev pub Leaves : C.Scope → Operand → Result ℕ Refusal → List ℤ → Type 0
+Leaves s o (Ok n) l = FormOf s o l
+Leaves s o (Err e) l = Unit {0}
 
 -- ---- one wire twice, by the bytes at two places and the forms beside them
 

@@ -4,10 +4,10 @@ use Rattle.language.specs.Limits.{most_variables, most_loops}
 use Rattle.language.specs.Form.{Form, Loop}
 use Rattle.language.specs.Check.{Formal, Kind, qubit, quantum, classical, formal, Signature}
 use Rattle.forms.specs.Flat.{widened, as_form}
-use Rattle.forms.specs.Rows.{Rows, ShortRows, loops_of}
+use Rattle.forms.specs.Rows.{Rows, ShortRows}
 use Rattle.kinds.specs.Numbers.{kind_with}
 use Rattle.kinds.specs.declared.Kind.TheVariants.{Qubit, Quantum, Classical, Family}
-use Rattle.check_operand.specs.declared.Visible.{Visible}
+use Rattle.check_operand.specs.declared.scope.Visible.{Visible}
 use Rattle.kinds.specs.declared.Kind as K
 use Rattle.language.specs.Check as C
 
@@ -51,11 +51,6 @@ kinds_at formals n i kinds sizes = tabulated (λ j. kind_at formals j kinds size
 -- a scope by its parts
 abbrev pub scope_with : List Signature → List Kind → ℕ → List Loop → C.Scope
 scope_with fs ks m ls = record { families = fs; operands = ks; variables = m; loops = ls; rules = C.all_rules }
-
--- the scope that the tables stand for, with what is known of families
-abbrev pub scope_at : Known → Visible → List ℕ → List (List ℤ) → List (List ℤ) → List (List ℤ) → C.Scope
-scope_at k s kinds sizes lows highs =
-    scope_with (tabulated k.declared s.families 0) (kinds_at k.formals s.count s.first kinds sizes) s.variables (loops_of s.loops lows highs)
 
 -- what the tables hold is right
 pub record TablesRight (s : Visible) (kinds : List ℕ) (sizes lows highs : List (List ℤ)) : Type 0 where

@@ -1,7 +1,7 @@
 // The check of operands: what is due, and what is shown of it.
 #![tactic(auto)]
 
-ghost use Rattle.std.specs.Prelude.{◌≡◌, true, List, ℕ, ◌+◌, ◌≤◌, length, replicate, ℤ, pos};
+ghost use Rattle.std.specs.Prelude.{◌≡◌, true, OnOk, List, ℕ, ◌+◌, ◌≤◌, length, replicate, ℤ, pos};
 ghost use Rattle.std.proofs.Math.Seq.{slice};
 ghost use Rattle.language.specs.Tree.{Place, Operand, bad_operand};
 ghost use Rattle.language.specs.Read.{due, read_operand, read_whole, read_element, read_slice, read_passed};
@@ -10,36 +10,31 @@ ghost use Rattle.language.specs.Check.{Formal, Kind, Signature, size_scope, elem
 ghost use Rattle.language.specs.Limits.{most_variables, all_variables};
 ghost use Rattle.fields.specs.Header.{fields_at};
 ghost use Rattle.forms.specs.Flat.{form_numbers, Kept, Short, widened, as_form, built_of, shown_of};
-ghost use Rattle.forms.specs.Rows.{Rows, loops_of};
-ghost use Rattle.check_operand.specs.Tables.{Known, kind_in, kind_of_row, size_of_row, TablesRight, scope_with, scope_at};
+ghost use Rattle.forms.specs.Ranges.{all_loops};
+ghost use Rattle.check_operand.specs.Tables.{Known, kind_in, kind_of_row, size_of_row, scope_with};
+ghost use Rattle.check_operand.specs.Scopes.{scope_at};
 ghost use Rattle.check_operand.specs.Operands.{checked_size, shown_form, wanted_of, SizeRight, Answerable, one_wire, two_operands, Leaves, Comparable, same_by};
 ghost use Rattle.check_index.specs.Answers.{checked_part, EndsAt, Passes};
 
-use check_index::Read;
-use fields::Header;
-use forms::{FORM_NUMBERS, Form, Size, Verdict};
+use fields::NoHeader;
+use forms::{FORM_NUMBERS, Form, OutOfRange, Ranges, Size, Unshown};
 use limits::DEEPEST;
+use refusals::{Reason, Refusal};
+
+mod scope;
+
+pub use scope::{Scope, Visible};
 
 // A number in the table of operands stands for a kind and for the row of a size: it is so many times that row, and the number of the kind.
 pub const KINDS: u16 = 4;
 
-// What is in scope: how many families, the rows of the table of operands, and how many index variables and open loops.
-#[derive(Clone, Copy)]
-pub struct Visible {
-    pub families: usize,
-    pub first: usize,
-    pub count: usize,
-    pub variables: usize,
-    pub loops: usize,
-}
-
 // What an operand is due to be: a wire, a bit, a register of at least a size, which lies beside, if it was built, or a family for the
 // family parameter whose number this is.
-#[derive(Clone, Copy)]
+#[derive(Clone, Copy, Debug, PartialEq, Eq)]
 pub enum Wanted {
     Wire,
     Bit,
-    Register(bool),
+    Register(Result<(), OutOfRange>),
     Family(usize),
 }
 
@@ -47,181 +42,107 @@ pub enum Wanted {
 pub fn kind_by(number: u16) -> kinds::Kind
     ensures { result ≡ kind_of_row number }
 {
-    kinds::with_number(number % KINDS)
+    kinds::Kind::from(number % KINDS)
 }
 
 // The row of the size that a number in the table of operands stands for.
 pub fn size_by(number: u16) -> usize
     ensures { result ≡ size_of_row number }
 {
-    fields::long(number / KINDS)
+    usize::from(number / KINDS)
 }
 
 // What a verdict answers for the field from `at` to `next`.
-fn answered(verdict: Verdict, at: usize, next: usize) -> Read
+fn answered(verdict: Result<(), Unshown>, at: usize, next: usize) -> Result<usize, Refusal>
     ensures result_value { checked_part result ≡ by_showing at (shown_of verdict) }
     ensures ends_at { EndsAt next result }
 {
     match verdict {
-        Verdict::Shown => Read::Upto(next),
-        Verdict::NotShown => Read::Refused(12, at),
-        Verdict::OutOfRange => Read::Refused(11, at),
+        Ok(()) => Ok(next),
+        Err(Unshown::NotShown) => Err(Refusal(Reason::NotShown, at)),
+        Err(Unshown::OutOfRange) => Err(Refusal(Reason::FormOutOfRange, at)),
     }
 }
 
 // Shows f to be 0 or more.
-fn show(f: &Form, variables: usize, loops: usize, lows: &[Form], highs: &[Form]) -> Verdict
+fn show(f: &Form, ranges: &Ranges) -> Result<(), Unshown>
     requires kept { Kept f.now }
-    requires loops_bound { variables + loops ≤ all_variables }
-    requires rows { Rows lows.now loops }
-    requires rows_2 { Rows highs.now loops }
-    ensures { shown_of result ≡ showing variables (loops_of loops lows.now highs.now) (built (as_form f.now)) }
+    ensures { shown_of result ≡ showing ranges.now.variables (all_loops ranges.now) (built (as_form f.now)) }
 {
-    let s = forms::show(f, variables, loops, lows, highs);
-    s.verdict
+    forms::show(f, ranges).verdict
 }
 
 // Shows f to be 0 or more, for the field from `at` to `next`.
-pub fn must_show(
-    f: &Form,
-    at: usize,
-    next: usize,
-    variables: usize,
-    loops: usize,
-    lows: &[Form],
-    highs: &[Form],
-) -> Read
+pub fn must_show(f: &Form, at: usize, next: usize, ranges: &Ranges) -> Result<usize, Refusal>
     requires kept { Kept f.now }
-    requires loops_bound { variables + loops ≤ all_variables }
-    requires rows { Rows lows.now loops }
-    requires rows_2 { Rows highs.now loops }
-    ensures result_value { (fs : List Signature) (ks : List Kind) → checked_part result ≡ must_show at (scope_with fs ks variables (loops_of loops lows.now highs.now)) (built (as_form f.now)) }
+    ensures result_value { (fs : List Signature) (ks : List Kind) → checked_part result ≡ must_show at (scope_with fs ks ranges.now.variables (all_loops ranges.now)) (built (as_form f.now)) }
     ensures ends_at { EndsAt next result }
 {
-    let v = show(f, variables, loops, lows, highs);
-    answered(v, at, next)
+    answered(show(f, ranges), at, next)
 }
 
 // Shows that a register of a size goes on after the index f: size − 1 − f is 0 or more.
-fn room_after(
-    f: &Form,
-    size: &Size,
-    variables: usize,
-    loops: usize,
-    lows: &[Form],
-    highs: &[Form],
-) -> Verdict
+fn room_after(f: &Form, size: &Size, ranges: &Ranges) -> Result<(), Unshown>
     requires kept { Kept f.now }
     requires short { Short size.now }
-    requires loops_bound { variables + loops ≤ all_variables }
-    requires rows { Rows lows.now loops }
-    requires rows_2 { Rows highs.now loops }
-    ensures { shown_of result ≡ showing variables (loops_of loops lows.now highs.now) (room_after (as_form (widened size.now)) (as_form f.now)) }
+    ensures { shown_of result ≡ showing ranges.now.variables (all_loops ranges.now) (room_after (as_form (widened size.now)) (as_form f.now)) }
 {
     let mut room = [0i64; FORM_NUMBERS];
     forms::load(&mut room, size);
-    if forms::add_constant(&mut room, -1) {
-        if forms::subtract(&mut room, f) {
-            return show(&room, variables, loops, lows, highs);
-        }
-        return Verdict::OutOfRange;
-    }
-    Verdict::OutOfRange
+    forms::add_constant(&mut room, -1)?;
+    forms::subtract(&mut room, f)?;
+    show(&room, ranges)
 }
 
 // Shows the index f to be within a size.
-fn within(
-    f: &Form,
-    size: &Size,
-    variables: usize,
-    loops: usize,
-    lows: &[Form],
-    highs: &[Form],
-) -> Verdict
+fn within(f: &Form, size: &Size, ranges: &Ranges) -> Result<(), Unshown>
     requires kept { Kept f.now }
     requires short { Short size.now }
-    requires loops_bound { variables + loops ≤ all_variables }
-    requires rows { Rows lows.now loops }
-    requires rows_2 { Rows highs.now loops }
-    ensures { (p : Place) (fs : List Signature) (ks : List Kind) → by_showing p (shown_of result) ≡ check_within p (scope_with fs ks variables (loops_of loops lows.now highs.now)) (as_form (widened size.now)) (as_form f.now) }
+    ensures { (p : Place) (fs : List Signature) (ks : List Kind) → by_showing p (shown_of result) ≡ check_within p (scope_with fs ks ranges.now.variables (all_loops ranges.now)) (as_form (widened size.now)) (as_form f.now) }
 {
-    let v = show(f, variables, loops, lows, highs);
-    let Verdict::Shown = v else {
-        return v;
-    };
-    room_after(f, size, variables, loops, lows, highs)
+    show(f, ranges)?;
+    room_after(f, size, ranges)
 }
 
-// The size of the slice from `first` to `last`, which becomes last − first + 1; false where a number is out of range.
-fn slice_size(first: &Form, last: &mut Form) -> bool
+// The size of the slice from `first` to `last`, which becomes last − first + 1.
+fn slice_size(first: &Form, last: &mut Form) -> Result<(), OutOfRange>
     requires kept { Kept first.now }
     requires kept_2 { Kept last.old }
     ensures last_after { built_of result last.new ≡ slice_size (as_form first.now) (as_form last.old) }
-    ensures kept_3 { result ≡ true → Kept last.new }
+    ensures kept_3 { OnOk result (Kept last.new) }
 {
-    if forms::subtract(last, first) {
-        return forms::add_constant(last, 1);
-    }
-    false
+    forms::subtract(last, first)?;
+    forms::add_constant(last, 1)
 }
 
 // Shows the slice from `first` to `last` to be within a size; `last` becomes the slice's own size.
-fn slice_within(
-    first: &Form,
-    last: &mut Form,
-    size: &Size,
-    variables: usize,
-    loops: usize,
-    lows: &[Form],
-    highs: &[Form],
-) -> Verdict
+fn slice_within(first: &Form, last: &mut Form, size: &Size, ranges: &Ranges) -> Result<(), Unshown>
     requires kept { Kept first.now }
     requires kept_2 { Kept last.old }
     requires short { Short size.now }
-    requires loops_bound { variables + loops ≤ all_variables }
-    requires rows { Rows lows.now loops }
-    requires rows_2 { Rows highs.now loops }
-    ensures last_after { (p : Place) (fs : List Signature) (ks : List Kind) → shown_form p result last.new ≡ check_slice p (scope_with fs ks variables (loops_of loops lows.now highs.now)) (as_form (widened size.now)) (as_form first.now) (as_form last.old) }
+    ensures last_after { (p : Place) (fs : List Signature) (ks : List Kind) → shown_form p result last.new ≡ check_slice p (scope_with fs ks ranges.now.variables (all_loops ranges.now)) (as_form (widened size.now)) (as_form first.now) (as_form last.old) }
     ensures kept_3 { shown_of result ≡ shown → Kept last.new }
 {
-    let v = show(first, variables, loops, lows, highs);
-    let Verdict::Shown = v else {
-        return v;
-    };
-    let w = room_after(last, size, variables, loops, lows, highs);
-    let Verdict::Shown = w else {
-        return w;
-    };
-    if slice_size(first, last) {
-        return show(last, variables, loops, lows, highs);
-    }
-    Verdict::OutOfRange
+    show(first, ranges)?;
+    room_after(last, size, ranges)?;
+    slice_size(first, last)?;
+    show(last, ranges)
 }
 
 // Shows a register's own size, which becomes what it is more, to be at least the size due.
 fn large_enough(
-    known: bool,
+    known: Result<(), OutOfRange>,
     size: &Form,
     own: &mut Form,
-    variables: usize,
-    loops: usize,
-    lows: &[Form],
-    highs: &[Form],
-) -> Verdict
-    requires kept { known ≡ true → Kept size.now }
+    ranges: &Ranges,
+) -> Result<(), Unshown>
+    requires kept { OnOk known (Kept size.now) }
     requires kept_2 { Kept own.old }
-    requires loops_bound { variables + loops ≤ all_variables }
-    requires rows { Rows lows.now loops }
-    requires rows_2 { Rows highs.now loops }
-    ensures { shown_of result ≡ showing variables (loops_of loops lows.now highs.now) (built_of known size.now then_build difference_of (as_form own.old)) }
+    ensures { shown_of result ≡ showing ranges.now.variables (all_loops ranges.now) (built_of known size.now then_build difference_of (as_form own.old)) }
 {
-    if known {
-        if forms::subtract(own, size) {
-            return show(own, variables, loops, lows, highs);
-        }
-        return Verdict::OutOfRange;
-    }
-    Verdict::OutOfRange
+    known?;
+    forms::subtract(own, size)?;
+    show(own, ranges)
 }
 
 // Whether an operand of a kind and an own size, taken whole, is what is due.
@@ -232,54 +153,49 @@ fn whole_fits(
     own: &Size,
     at: usize,
     next: usize,
-    variables: usize,
-    loops: usize,
-    lows: &[Form],
-    highs: &[Form],
-) -> Read
+    ranges: &Ranges,
+) -> Result<usize, Refusal>
     requires size_right { SizeRight wanted size.now }
     requires short { Short own.now }
-    requires loops_bound { variables + loops ≤ all_variables }
-    requires rows { Rows lows.now loops }
-    requires rows_2 { Rows highs.now loops }
-    ensures result_value { (fs : List Signature) (ks : List Kind) (k : Known) (g : Formal) → checked_part result ≡ whole_fits at (scope_with fs ks variables (loops_of loops lows.now highs.now)) (wanted_of k wanted size.now) (kind_in kind (as_form (widened own.now)) g) }
+    ensures result_value { (fs : List Signature) (ks : List Kind) (k : Known) (g : Formal) → checked_part result ≡ whole_fits at (scope_with fs ks ranges.now.variables (all_loops ranges.now)) (wanted_of k wanted size.now) (kind_in kind (as_form (widened own.now)) g) }
     ensures ends_at { EndsAt next result }
 {
     match wanted {
         Wanted::Wire => match kind {
-            kinds::Kind::Qubit => Read::Upto(next),
-            _ => Read::Refused(9, at),
+            kinds::Kind::Qubit => Ok(next),
+            _ => Err(Refusal(Reason::WrongKind, at)),
         },
-        Wanted::Bit => Read::Refused(9, at),
+        Wanted::Bit => Err(Refusal(Reason::WrongKind, at)),
         Wanted::Register(known) => match kind {
             kinds::Kind::Quantum => {
                 let mut room = [0i64; FORM_NUMBERS];
                 forms::load(&mut room, own);
-                let v = large_enough(known, size, &mut room, variables, loops, lows, highs);
+                let v = large_enough(known, size, &mut room, ranges);
                 answered(v, at, next)
             }
-            _ => Read::Refused(9, at),
+            _ => Err(Refusal(Reason::WrongKind, at)),
         },
-        Wanted::Family(_) => Read::Refused(9, at),
+        Wanted::Family(_) => Err(Refusal(Reason::WrongKind, at)),
     }
 }
 
 // Whether an element of an operand of a kind is what is due, for the field from `at` to `next`.
-fn element_kind(wanted: Wanted, kind: kinds::Kind, at: usize, next: usize) -> Read
+fn element_kind(wanted: Wanted, kind: kinds::Kind, at: usize, next: usize) -> Result<usize, Refusal>
     ensures f_value { (f : Form) (l : List ℤ) (k : Known) (g : Formal) → checked_size result f ≡ element_size at (wanted_of k wanted l) (kind_in kind f g) }
     ensures ends_at { EndsAt next result }
 {
+    let wrong = Refusal(Reason::WrongKind, at);
     match wanted {
         Wanted::Wire => match kind {
-            kinds::Kind::Quantum => Read::Upto(next),
-            _ => Read::Refused(9, at),
+            kinds::Kind::Quantum => Ok(next),
+            _ => Err(wrong),
         },
         Wanted::Bit => match kind {
-            kinds::Kind::Classical => Read::Upto(next),
-            _ => Read::Refused(9, at),
+            kinds::Kind::Classical => Ok(next),
+            _ => Err(wrong),
         },
-        Wanted::Register(_) => Read::Refused(9, at),
-        Wanted::Family(_) => Read::Refused(9, at),
+        Wanted::Register(_) => Err(wrong),
+        Wanted::Family(_) => Err(wrong),
     }
 }
 
@@ -290,44 +206,36 @@ fn whole(
     next: usize,
     wanted: Wanted,
     size: &Form,
-    s: Visible,
-    kinds: &[u16],
-    sizes: &[Size],
-    lows: &[Form],
-    highs: &[Form],
-) -> Read
+    scope: &Scope,
+) -> Result<usize, Refusal>
     requires at_bound { (at + 3 ≤ next) × (next ≤ length program.now) }
     requires size_right { SizeRight wanted size.now }
-    requires tables_right { TablesRight s kinds.now sizes.now lows.now highs.now }
-    ensures result_value { (k : Known) → checked_part result ≡ check_operand (scope_at k s kinds.now sizes.now lows.now highs.now) (wanted_of k wanted size.now) (read_whole at (slice (at + 3) next program.now)) }
+    ensures result_value { (k : Known) → checked_part result ≡ check_operand (scope_at k scope.now) (wanted_of k wanted size.now) (read_whole at (slice (at + 3) next program.now)) }
     ensures ends_at { EndsAt next result }
 {
     let from = at + 3;
     if next <= from {
-        return Read::Refused(4, at);
+        return Err(Refusal(Reason::BadContent, at));
     }
-    let n = fields::wide(program[from]);
-    if s.count <= n {
-        return Read::Refused(8, at);
+    let n = usize::from(program[from]);
+    if scope.visible.count <= n {
+        return Err(Refusal(Reason::NotInScope, at));
     }
     if next - from != 1 {
-        return Read::Refused(4, at);
+        return Err(Refusal(Reason::BadContent, at));
     }
-    let row = s.first + n;
-    let number = kinds[row];
+    let row = scope.visible.first + n;
+    let number = scope.kinds[row];
     let kind = kind_by(number);
     let own = size_by(number);
     whole_fits(
         wanted,
         size,
         kind,
-        &sizes[own],
+        &scope.sizes[own],
         at,
         next,
-        s.variables,
-        s.loops,
-        lows,
-        highs,
+        &scope.ranges(),
     )
 }
 
@@ -338,44 +246,33 @@ fn element(
     next: usize,
     wanted: Wanted,
     form: &mut Form,
-    s: Visible,
-    kinds: &[u16],
-    sizes: &[Size],
-    lows: &[Form],
-    highs: &[Form],
-) -> Read
+    scope: &Scope,
+) -> Result<usize, Refusal>
     requires at_bound { (at + 3 ≤ next) × (next ≤ length program.now) }
-    requires tables_right { TablesRight s kinds.now sizes.now lows.now highs.now }
-    ensures result_value { (k : Known) (l : List ℤ) → checked_part result ≡ check_operand (scope_at k s kinds.now sizes.now lows.now highs.now) (wanted_of k wanted l) (read_element at (slice (at + 3) next program.now)) }
+    ensures result_value { (k : Known) (l : List ℤ) → checked_part result ≡ check_operand (scope_at k scope.now) (wanted_of k wanted l) (read_element at (slice (at + 3) next program.now)) }
     ensures ends_at { EndsAt next result }
-    ensures leaves { (k : Known) → Leaves (scope_at k s kinds.now sizes.now lows.now highs.now) (read_element at (slice (at + 3) next program.now)) result form.new }
+    ensures leaves { (k : Known) → Leaves (scope_at k scope.now) (read_element at (slice (at + 3) next program.now)) result form.new }
 {
     let from = at + 3;
     if next <= from {
-        return Read::Refused(4, at);
+        return Err(Refusal(Reason::BadContent, at));
     }
-    let n = fields::wide(program[from]);
-    if s.count <= n {
-        return Read::Refused(8, at);
+    let n = usize::from(program[from]);
+    if scope.visible.count <= n {
+        return Err(Refusal(Reason::NotInScope, at));
     }
-    let row = s.first + n;
+    let row = scope.visible.first + n;
     let inner = at + 4;
-    let variables = s.variables + s.loops;
-    let r = check_index::index(program, inner, next, at, DEEPEST, variables, form);
-    let Read::Upto(end) = r else {
-        return r;
-    };
+    let variables = scope.visible.variables + scope.visible.loops;
+    let end = check_index::index(program, inner, next, at, DEEPEST, variables, form)?;
     if end < next {
-        return Read::Refused(4, at);
+        return Err(Refusal(Reason::BadContent, at));
     }
-    let number = kinds[row];
+    let number = scope.kinds[row];
     let kind = kind_by(number);
-    let fits = element_kind(wanted, kind, at, next);
-    let Read::Upto(_) = fits else {
-        return fits;
-    };
+    element_kind(wanted, kind, at, next)?;
     let own = size_by(number);
-    let v = within(form, &sizes[own], s.variables, s.loops, lows, highs);
+    let v = within(form, &scope.sizes[own], &scope.ranges());
     answered(v, at, next)
 }
 
@@ -389,32 +286,26 @@ fn slice_fits(
     last: &mut Form,
     at: usize,
     next: usize,
-    variables: usize,
-    loops: usize,
-    lows: &[Form],
-    highs: &[Form],
-) -> Read
+    ranges: &Ranges,
+) -> Result<usize, Refusal>
     requires size_right { SizeRight wanted size.now }
     requires short { Short own.now }
     requires kept { Kept first.now }
     requires kept_2 { Kept last.old }
-    requires loops_bound { variables + loops ≤ all_variables }
-    requires rows { Rows lows.now loops }
-    requires rows_2 { Rows highs.now loops }
-    ensures result_value { (fs : List Signature) (ks : List Kind) (k : Known) (g : Formal) → checked_part result ≡ slice_fits at (scope_with fs ks variables (loops_of loops lows.now highs.now)) (wanted_of k wanted size.now) (kind_in kind (as_form (widened own.now)) g) (as_form first.now) (as_form last.old) }
+    ensures result_value { (fs : List Signature) (ks : List Kind) (k : Known) (g : Formal) → checked_part result ≡ slice_fits at (scope_with fs ks ranges.now.variables (all_loops ranges.now)) (wanted_of k wanted size.now) (kind_in kind (as_form (widened own.now)) g) (as_form first.now) (as_form last.old) }
     ensures ends_at { EndsAt next result }
 {
     let Wanted::Register(known) = wanted else {
-        return Read::Refused(9, at);
+        return Err(Refusal(Reason::WrongKind, at));
     };
     let kinds::Kind::Quantum = kind else {
-        return Read::Refused(9, at);
+        return Err(Refusal(Reason::WrongKind, at));
     };
-    let v = slice_within(first, last, own, variables, loops, lows, highs);
-    let Verdict::Shown = v else {
+    let v = slice_within(first, last, own, ranges);
+    if v.is_err() {
         return answered(v, at, next);
-    };
-    let w = large_enough(known, size, last, variables, loops, lows, highs);
+    }
+    let w = large_enough(known, size, last, ranges);
     answered(w, at, next)
 }
 
@@ -425,76 +316,71 @@ fn part(
     next: usize,
     wanted: Wanted,
     size: &Form,
-    s: Visible,
-    kinds: &[u16],
-    sizes: &[Size],
-    lows: &[Form],
-    highs: &[Form],
-) -> Read
+    scope: &Scope,
+) -> Result<usize, Refusal>
     requires at_bound { (at + 3 ≤ next) × (next ≤ length program.now) }
     requires size_right { SizeRight wanted size.now }
-    requires tables_right { TablesRight s kinds.now sizes.now lows.now highs.now }
-    ensures result_value { (k : Known) → checked_part result ≡ check_operand (scope_at k s kinds.now sizes.now lows.now highs.now) (wanted_of k wanted size.now) (read_slice at (slice (at + 3) next program.now)) }
+    ensures result_value { (k : Known) → checked_part result ≡ check_operand (scope_at k scope.now) (wanted_of k wanted size.now) (read_slice at (slice (at + 3) next program.now)) }
     ensures ends_at { EndsAt next result }
 {
     let from = at + 3;
     if next <= from {
-        return Read::Refused(4, at);
+        return Err(Refusal(Reason::BadContent, at));
     }
-    let n = fields::wide(program[from]);
-    if s.count <= n {
-        return Read::Refused(8, at);
+    let n = usize::from(program[from]);
+    if scope.visible.count <= n {
+        return Err(Refusal(Reason::NotInScope, at));
     }
-    let row = s.first + n;
+    let row = scope.visible.first + n;
     let inner = at + 4;
-    let variables = s.variables + s.loops;
+    let variables = scope.visible.variables + scope.visible.loops;
     let mut first = [0i64; FORM_NUMBERS];
     let mut last = [0i64; FORM_NUMBERS];
-    let r = check_index::two_indexes(program, inner, next, at, variables, &mut first, &mut last);
-    let Read::Upto(end) = r else {
-        return r;
-    };
+    let end = check_index::two_indexes(program, inner, next, at, variables, &mut first, &mut last)?;
     if end < next {
-        return Read::Refused(4, at);
+        return Err(Refusal(Reason::BadContent, at));
     }
-    let number = kinds[row];
+    let number = scope.kinds[row];
     let kind = kind_by(number);
     let own = size_by(number);
     slice_fits(
         wanted,
         size,
         kind,
-        &sizes[own],
+        &scope.sizes[own],
         &first,
         &mut last,
         at,
         next,
-        s.variables,
-        s.loops,
-        lows,
-        highs,
+        &scope.ranges(),
     )
 }
 
 // The passed family at `at`, whose field ends at `next`, where no family is due.
-fn misplaced(program: &[u8], at: usize, next: usize, wanted: Wanted, s: Visible) -> Read
+fn misplaced(
+    program: &[u8],
+    at: usize,
+    next: usize,
+    wanted: Wanted,
+    scope: &Scope,
+) -> Result<usize, Refusal>
     requires at_bound { (at + 3 ≤ next) × (next ≤ length program.now) }
     requires answerable { Answerable wanted (read_passed at (slice (at + 3) next program.now)) }
-    ensures result_value { (k : Known) (l : List ℤ) (kinds : List ℕ) (sizes lows highs : List (List ℤ)) → checked_part result ≡ check_operand (scope_at k s kinds sizes lows highs) (wanted_of k wanted l) (read_passed at (slice (at + 3) next program.now)) }
+    ensures result_value { (k : Known) (l : List ℤ) → checked_part result ≡ check_operand (scope_at k scope.now) (wanted_of k wanted l) (read_passed at (slice (at + 3) next program.now)) }
     ensures ends_at { EndsAt next result }
 {
     let from = at + 3;
     if next - from < 2 {
-        return Read::Refused(4, at);
+        return Err(Refusal(Reason::BadContent, at));
     }
     let n = fields::two_bytes(program, from);
-    if s.families <= n {
-        return Read::Refused(8, at);
+    if scope.visible.families <= n {
+        return Err(Refusal(Reason::NotInScope, at));
     }
     if next - from != 2 {
-        return Read::Refused(4, at);
+        return Err(Refusal(Reason::BadContent, at));
     }
-    Read::Refused(9, at)
+    Err(Refusal(Reason::WrongKind, at))
 }
 
 // The operand that is due at `at` in the field at `parent` whose content ends at `to`; the form of an element's index is left in
@@ -507,41 +393,36 @@ pub fn operand(
     wanted: Wanted,
     size: &Form,
     form: &mut Form,
-    s: Visible,
-    kinds: &[u16],
-    sizes: &[Size],
-    lows: &[Form],
-    highs: &[Form],
-) -> Read
+    scope: &Scope,
+) -> Result<usize, Refusal>
     requires to_in_bounds { to ≤ length program.now }
     requires size_right { SizeRight wanted size.now }
     requires answerable { Answerable wanted (due read_operand (bad_operand 4 parent) (fields_at program.now at to)) }
-    requires tables_right { TablesRight s kinds.now sizes.now lows.now highs.now }
-    ensures result_value { (k : Known) → checked_part result ≡ check_operand (scope_at k s kinds.now sizes.now lows.now highs.now) (wanted_of k wanted size.now) (due read_operand (bad_operand 4 parent) (fields_at program.now at to)) }
+    ensures result_value { (k : Known) → checked_part result ≡ check_operand (scope_at k scope.now) (wanted_of k wanted size.now) (due read_operand (bad_operand 4 parent) (fields_at program.now at to)) }
     ensures passes { Passes program.now at to result }
-    ensures leaves { (k : Known) → Leaves (scope_at k s kinds.now sizes.now lows.now highs.now) (due read_operand (bad_operand 4 parent) (fields_at program.now at to)) result form.new }
+    ensures leaves { (k : Known) → Leaves (scope_at k scope.now) (due read_operand (bad_operand 4 parent) (fields_at program.now at to)) result form.new }
 {
     match fields::header_at(program, at, to) {
-        Header::End => Read::Refused(4, parent),
-        Header::Cut => Read::Refused(2, at),
-        Header::Whole(tag, next) => match tag {
-            48 => whole(
-                program, at, next, wanted, size, s, kinds, sizes, lows, highs,
-            ),
-            49 => element(
-                program, at, next, wanted, form, s, kinds, sizes, lows, highs,
-            ),
-            50 => part(
-                program, at, next, wanted, size, s, kinds, sizes, lows, highs,
-            ),
-            51 => misplaced(program, at, next, wanted, s),
-            _ => Read::Refused(3, at),
+        Err(NoHeader::End) => Err(Refusal(Reason::BadContent, parent)),
+        Err(NoHeader::Cut) => Err(Refusal(Reason::BadHeader, at)),
+        Ok(header) => match header.tag {
+            fields::WHOLE => whole(program, at, header.next, wanted, size, scope),
+            fields::ELEMENT => element(program, at, header.next, wanted, form, scope),
+            fields::SLICE => part(program, at, header.next, wanted, size, scope),
+            fields::PASSED => misplaced(program, at, header.next, wanted, scope),
+            _ => Err(Refusal(Reason::BadTag, at)),
         },
     }
 }
 
 // Shows that a size is at least another, over m index variables and without loops, for the field from `at` to `next`.
-pub fn at_least(size: &Size, other: &Size, m: usize, at: usize, next: usize) -> Read
+pub fn at_least(
+    size: &Size,
+    other: &Size,
+    m: usize,
+    at: usize,
+    next: usize,
+) -> Result<usize, Refusal>
     requires short { Short size.now }
     requires short_2 { Short other.now }
     requires m_le_most_variables { m ≤ most_variables }
@@ -552,9 +433,13 @@ pub fn at_least(size: &Size, other: &Size, m: usize, at: usize, next: usize) -> 
     forms::load(&mut room, size);
     let mut less = [0i64; FORM_NUMBERS];
     forms::load(&mut less, other);
-    let none = [[0i64; FORM_NUMBERS]; 1];
-    let v = large_enough(true, &less, &mut room, m, 0, &none, &none);
-    answered(v, at, next)
+    let ranges = Ranges {
+        variables: m,
+        loops: 0,
+        lows: &[],
+        highs: &[],
+    };
+    answered(large_enough(Ok(()), &less, &mut room, &ranges), at, next)
 }
 
 // One wire, and no more, from `from` to `next` in the field at `at`.
@@ -563,20 +448,15 @@ pub fn one_wire(
     from: usize,
     next: usize,
     at: usize,
-    s: Visible,
-    kinds: &[u16],
-    sizes: &[Size],
-    lows: &[Form],
-    highs: &[Form],
-) -> Read
+    scope: &Scope,
+) -> Result<usize, Refusal>
     requires next_in_bounds { next ≤ length program.now }
-    requires tables_right { TablesRight s kinds.now sizes.now lows.now highs.now }
-    ensures result_value { (k : Known) → checked_part result ≡ one_wire (scope_at k s kinds.now sizes.now lows.now highs.now) at (fields_at program.now from next) }
+    ensures result_value { (k : Known) → checked_part result ≡ one_wire (scope_at k scope.now) at (fields_at program.now from next) }
     ensures ends_at { EndsAt next result }
 {
     let none = [0i64; FORM_NUMBERS];
     let mut form = [0i64; FORM_NUMBERS];
-    let r = operand(
+    let end = operand(
         program,
         from,
         next,
@@ -584,19 +464,12 @@ pub fn one_wire(
         Wanted::Wire,
         &none,
         &mut form,
-        s,
-        kinds,
-        sizes,
-        lows,
-        highs,
-    );
-    let Read::Upto(end) = r else {
-        return r;
-    };
+        scope,
+    )?;
     if end < next {
-        return Read::Refused(4, at);
+        return Err(Refusal(Reason::BadContent, at));
     }
-    Read::Upto(next)
+    Ok(next)
 }
 
 // Whether the wires at two places, whose fields are right, are one: both are whole, or elements of equal forms, and have the same
@@ -628,54 +501,28 @@ pub fn two_operands(
     next: usize,
     at: usize,
     second: Wanted,
-    s: Visible,
-    kinds: &[u16],
-    sizes: &[Size],
-    lows: &[Form],
-    highs: &[Form],
-) -> Read
+    scope: &Scope,
+) -> Result<usize, Refusal>
     requires next_in_bounds { next ≤ length program.now }
     requires answerable { ((l : List ℤ) → SizeRight second l) × ((o : Operand) → Answerable second o) }
-    requires tables_right { TablesRight s kinds.now sizes.now lows.now highs.now }
-    ensures result_value { (k : Known) → checked_part result ≡ two_operands (scope_at k s kinds.now sizes.now lows.now highs.now) (wanted_of k second (replicate form_numbers (pos 0))) at (fields_at program.now from next) }
+    ensures result_value { (k : Known) → checked_part result ≡ two_operands (scope_at k scope.now) (wanted_of k second (replicate form_numbers (pos 0))) at (fields_at program.now from next) }
     ensures ends_at { EndsAt next result }
 {
     let none = [0i64; FORM_NUMBERS];
     let mut f = [0i64; FORM_NUMBERS];
     let mut g = [0i64; FORM_NUMBERS];
-    let r = operand(
-        program,
-        from,
-        next,
-        at,
-        Wanted::Wire,
-        &none,
-        &mut f,
-        s,
-        kinds,
-        sizes,
-        lows,
-        highs,
-    );
-    let Read::Upto(mid) = r else {
-        return r;
-    };
-    let t = operand(
-        program, mid, next, at, second, &none, &mut g, s, kinds, sizes, lows, highs,
-    );
-    let Read::Upto(end) = t else {
-        return t;
-    };
+    let mid = operand(program, from, next, at, Wanted::Wire, &none, &mut f, scope)?;
+    let end = operand(program, mid, next, at, second, &none, &mut g, scope)?;
     if end < next {
-        return Read::Refused(4, at);
+        return Err(Refusal(Reason::BadContent, at));
     }
     let Wanted::Wire = second else {
-        return Read::Upto(next);
+        return Ok(next);
     };
     if same_wire(program, from, mid, &f, &g) {
-        return Read::Refused(35, at);
+        return Err(Refusal(Reason::SameWire, at));
     }
-    Read::Upto(next)
+    Ok(next)
 }
 
 // Two wires, and no more, from `from` to `next` in the field at `at`.
@@ -684,26 +531,10 @@ pub fn two_wires(
     from: usize,
     next: usize,
     at: usize,
-    s: Visible,
-    kinds: &[u16],
-    sizes: &[Size],
-    lows: &[Form],
-    highs: &[Form],
-) -> Read
+    scope: &Scope,
+) -> Result<usize, Refusal>
     requires next_in_bounds { next ≤ length program.now }
-    requires tables_right { TablesRight s kinds.now sizes.now lows.now highs.now }
-    ensures { (k : Known) → checked_part result ≡ two_operands (scope_at k s kinds.now sizes.now lows.now highs.now) wire at (fields_at program.now from next) }
+    ensures { (k : Known) → checked_part result ≡ two_operands (scope_at k scope.now) wire at (fields_at program.now from next) }
 {
-    two_operands(
-        program,
-        from,
-        next,
-        at,
-        Wanted::Wire,
-        s,
-        kinds,
-        sizes,
-        lows,
-        highs,
-    )
+    two_operands(program, from, next, at, Wanted::Wire, scope)
 }

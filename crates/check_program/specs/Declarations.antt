@@ -1,15 +1,17 @@
 -- What the tables say is declared.
-use Rattle.std.specs.Prelude.{List, [], ℕ, ◌≤◌, ◌<◌, ℤ, length, get_or, drop}
+use Rattle.std.specs.Prelude.{List, [], ℕ, ◌≤◌, ◌<◌, ℤ, length, get_or, drop, Result, Ok, Err}
 use Rattle.language.specs.Limits.{longest_program, most_families, most_registers, most_wires, most_bits}
 use Rattle.language.specs.Tree.{Place}
 use Rattle.language.specs.Read.{Field, types_of, statements_by, outer_statement}
 use Rattle.language.specs.Check.{Checked, good, refused, Kind, Declared, check_family}
-use Rattle.check_operand.specs.Tables.{kinds_at, tabulated}
+use Rattle.check_operand.specs.Tables.{scope_with, kinds_at, tabulated}
+use Rattle.check_operand.specs.declared.scope.Visible.{Visible}
 use Rattle.check_call.specs.Calls.{formal_at, signature_at, FamilyRight}
 use Rattle.check_program.specs.declared.SoFar.{SoFar}
-use Rattle.check_program.specs.declared.Step.{Step}
-use Rattle.check_program.specs.declared.Step.TheVariants.{Going, Stopped}
+use Rattle.refusals.specs.Reasons.{number_of}
+use Rattle.refusals.specs.declared.Refusal.{Refusal}
 use Rattle.check_declaration.specs.Types.{most_rows, OperandTable, InUse, FormalsIn, FamilyTable}
+use Rattle.language.specs.Check as C
 
 -- bytes of a program that is short
 abbrev pub short_program : ℕ
@@ -39,14 +41,18 @@ pub record DeclaredRight (bytes at : ℕ) (t : SoFar) (families : List (List ℕ
 abbrev pub none_so_far : SoFar
 none_so_far = record { families = 0; rows = most_registers; registers = 0; qubits = 0; bits = 0 }
 
--- what the answer on a top field, with the tables, stands for
-unfoldable pub checked_step : Step → List (List ℕ) → List ℕ → List (List ℤ) → Checked Declared
-checked_step (Going t) families kinds sizes = good (declared_in t families kinds sizes)
-checked_step (Stopped n p) families kinds sizes = refused n p
+-- the scope of rows of the tables, outside loops
+abbrev pub scope_in : Visible → List (List ℕ) → List ℕ → List (List ℤ) → C.Scope
+scope_in s families kinds sizes = scope_with (tabulated (signature_at families kinds sizes) s.families 0) (kinds_at (formal_at families kinds sizes) s.count s.first kinds sizes) s.variables []
 
-abbrev pub StepRight : (bytes next : ℕ) → Step → List (List ℕ) → List ℕ → List (List ℤ) → Type 0
-StepRight bytes next (Going t) families kinds sizes = DeclaredRight bytes next t families kinds sizes
-StepRight bytes next (Stopped n p) families kinds sizes = Unit {0}
+-- what the answer on a top field, with the tables, stands for
+unfoldable pub checked_step : Result SoFar Refusal → List (List ℕ) → List ℕ → List (List ℤ) → Checked Declared
+checked_step (Ok t) families kinds sizes = good (declared_in t families kinds sizes)
+checked_step (Err e) families kinds sizes = refused (number_of e.0) e.1
+
+abbrev pub StepRight : (bytes next : ℕ) → Result SoFar Refusal → List (List ℕ) → List ℕ → List (List ℤ) → Type 0
+StepRight bytes next (Ok t) families kinds sizes = DeclaredRight bytes next t families kinds sizes
+StepRight bytes next (Err e) families kinds sizes = Unit {0}
 
 -- the kinds of the parameters of the family at q with these fields, of m index variables and n parameters
 abbrev pub family_in : Declared → Place → (m n : ℕ) → List Field → Checked (List Kind)

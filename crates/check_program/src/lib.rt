@@ -9,20 +9,22 @@ ghost use Rattle.language.specs.Tree.{qreg, creg};
 ghost use Rattle.language.specs.Result.{verdict, check_result};
 ghost use Rattle.language.specs.Limits.{longest_program, most_families, most_variables, most_parameters};
 ghost use Rattle.fields.specs.Header.{fields_at};
-ghost use Rattle.check_call.specs.Calls.{formal_at};
+ghost use Rattle.check_operand.specs.Tables.{TablesRight};
+ghost use Rattle.check_call.specs.Calls.{formal_at, FamiliesRight};
+ghost use Rattle.check_call.specs.Scopes.{scope_full};
 ghost use Rattle.check_declaration.specs.Types.{InUseBefore, checked_rows, FormalsBefore, Stays};
-ghost use Rattle.check_program.specs.Declarations.{short_program, family_in, declared_in, DeclaredRight, checked_step, StepRight, none_so_far};
+ghost use Rattle.check_program.specs.Declarations.{short_program, family_in, declared_in, DeclaredRight, checked_step, StepRight, none_so_far, scope_in};
 ghost use Rattle.check_program.specs.Answers.{result_told};
 
-use check_call::FamilyRow;
-use check_declaration::Counts;
-use check_index::Read;
-use check_operand::Visible;
-use fields::Header;
-use forms::{FORM_NUMBERS, SIZE_NUMBERS, Size};
+use check_call::{FamilyRow, FullScope};
+use check_operand::{Scope, Visible};
+use fields::NoHeader;
+use forms::{FORM_NUMBERS, Form, SIZE_NUMBERS, Size};
+use kinds::Kind;
 use limits::{
     DEEPEST, LONGEST_PROGRAM, MOST_BITS, MOST_FAMILIES, MOST_LOOPS, MOST_REGISTERS, MOST_WIRES,
 };
+use refusals::{Reason, Refusal};
 
 // Bytes of a program that is short.
 const SHORT_PROGRAM: usize = 4_096;
@@ -44,7 +46,7 @@ const SHORT_FAMILIES: usize = MOST_FAMILIES + SHORT_SIZES;
 const FAMILY_ROWS: usize = MOST_FAMILIES + MOST_SIZES;
 
 // How much is declared so far: families, registers, qubits and bits; and how many rows of the table of operands are in use.
-#[derive(Clone, Copy)]
+#[derive(Clone, Copy, Debug, PartialEq, Eq)]
 pub struct SoFar {
     pub families: usize,
     pub rows: usize,
@@ -53,18 +55,27 @@ pub struct SoFar {
     pub bits: usize,
 }
 
-// What a top field comes to: what is declared after it, or a refusal's number and place.
-#[derive(Clone, Copy)]
-pub enum Step {
-    Going(SoFar),
-    Stopped(u32, usize),
-}
-
-// The answer of the check: acceptance, or a refusal's number and place.
-#[derive(Clone, Copy)]
-pub enum Outcome {
-    Accepted,
-    Turned(u32, usize),
+// The scope of rows of the tables, outside loops.
+fn full_scope<'a>(
+    visible: Visible,
+    families: &'a [FamilyRow],
+    kinds: &'a [u16],
+    sizes: &'a [Size],
+    none: &'a [Form; MOST_LOOPS],
+) -> FullScope<'a>
+    requires no_loops { visible.loops ≡ 0 }
+    requires tables_right { TablesRight visible kinds.now sizes.now none.now none.now }
+    requires families_right { FamiliesRight visible families.now kinds.now }
+    ensures { scope_full result ≡ scope_in visible families.now kinds.now sizes.now }
+{
+    let scope = Scope {
+        visible,
+        kinds,
+        sizes,
+        lows: none,
+        highs: none,
+    };
+    FullScope { scope, families }
 }
 
 // The types and the body of the family at `at`, of m index variables, whose field ends at `next`; the types go to its rows.
@@ -78,7 +89,7 @@ fn family_body(
     families: &mut [FamilyRow],
     kinds: &mut [u16],
     sizes: &mut [Size],
-) -> Read
+) -> Result<usize, Refusal>
     requires at_bound { (at + 5 ≤ next) × (next ≤ length program.now) }
     requires m_le_most_variables { m ≤ most_variables }
     requires parameters_le_most_parameters { parameters ≤ most_parameters }
@@ -91,7 +102,7 @@ fn family_body(
 {
     let from = at + 5;
     let first = t.rows;
-    let r = check_declaration::parameter_types(
+    let mid = check_declaration::parameter_types(
         program,
         from,
         next,
@@ -103,21 +114,17 @@ fn family_body(
         families,
         kinds,
         sizes,
-    );
-    let Read::Upto(mid) = r else {
-        return r;
-    };
-    let s = Visible {
+    )?;
+    let none = [[0i64; FORM_NUMBERS]; MOST_LOOPS];
+    let visible = Visible {
         families: t.families,
         first,
         count: parameters,
         variables: m,
         loops: 0,
     };
-    let none = [[0i64; FORM_NUMBERS]; MOST_LOOPS];
-    check_statement::list(
-        program, mid, next, DEEPEST, s, families, kinds, sizes, &none, &none,
-    )
+    let full = full_scope(visible, families, kinds, sizes, &none);
+    check_statement::list(program, mid, next, DEEPEST, &full)
 }
 
 // The family at `at`, whose field ends at `next`.
@@ -129,7 +136,7 @@ fn family(
     families: &mut [FamilyRow],
     kinds: &mut [u16],
     sizes: &mut [Size],
-) -> Step
+) -> Result<SoFar, Refusal>
     requires at_bound { (at + 3 ≤ next) × (next ≤ length program.now) }
     requires declared_right { DeclaredRight (length program.now) at t families.old kinds.old sizes.old }
     ensures sizes_after { checked_step result families.new kinds.new sizes.new ≡ check_top (read_family at (slice (at + 3) next program.now)) (declared_in t families.old kinds.old sizes.old) }
@@ -137,30 +144,19 @@ fn family(
 {
     let n = t.families;
     if MOST_FAMILIES <= n {
-        return Step::Stopped(6, at);
+        return Err(Refusal(Reason::TooMany, at));
     }
-    match check_declaration::two_counts(program, at, next) {
-        Counts::Bad(k, q) => Step::Stopped(k, q),
-        Counts::Both(m, parameters) => {
-            let first = t.rows;
-            match family_body(program, at, next, m, parameters, t, families, kinds, sizes) {
-                Read::Refused(k, q) => Step::Stopped(k, q),
-                Read::Upto(_) => {
-                    let entry = [m as u16, parameters as u16, first as u16];
-                    families[n] = entry;
-                    let after = n + 1;
-                    let rows = first + parameters;
-                    Step::Going(SoFar {
-                        families: after,
-                        rows,
-                        registers: t.registers,
-                        qubits: t.qubits,
-                        bits: t.bits,
-                    })
-                }
-            }
-        }
-    }
+    let counts = check_declaration::two_counts(program, at, next)?;
+    let m = counts.variables;
+    let parameters = counts.parameters;
+    let first = t.rows;
+    family_body(program, at, next, m, parameters, t, families, kinds, sizes)?;
+    families[n] = [m as u16, parameters as u16, first as u16];
+    Ok(SoFar {
+        families: n + 1,
+        rows: first + parameters,
+        ..t
+    })
 }
 
 // The quantum register at `at`, whose field ends at `next`.
@@ -172,7 +168,7 @@ fn quantum_register(
     families: &[FamilyRow],
     kinds: &mut [u16],
     sizes: &mut [Size],
-) -> Step
+) -> Result<SoFar, Refusal>
     requires at_bound { (at + 3 ≤ next) × (next ≤ length program.now) }
     requires declared_right { DeclaredRight (length program.now) at t families.now kinds.old sizes.old }
     ensures sizes_after { checked_step result families.now kinds.new sizes.new ≡ check_top (read_register qreg at (slice (at + 3) next program.now)) (declared_in t families.now kinds.old sizes.old) }
@@ -180,30 +176,22 @@ fn quantum_register(
 {
     let n = t.registers;
     let total = t.qubits;
-    match check_declaration::register(
+    let size = check_declaration::register(
         program,
         at,
         next,
-        kinds::Kind::Quantum,
+        Kind::Quantum,
         n,
         total,
         MOST_WIRES,
         kinds,
         sizes,
-    ) {
-        Read::Refused(k, q) => Step::Stopped(k, q),
-        Read::Upto(size) => {
-            let registers = n + 1;
-            let qubits = total + size;
-            Step::Going(SoFar {
-                families: t.families,
-                rows: t.rows,
-                registers,
-                qubits,
-                bits: t.bits,
-            })
-        }
-    }
+    )?;
+    Ok(SoFar {
+        registers: n + 1,
+        qubits: total + size,
+        ..t
+    })
 }
 
 // The classical register at `at`, whose field ends at `next`.
@@ -215,7 +203,7 @@ fn classical_register(
     families: &[FamilyRow],
     kinds: &mut [u16],
     sizes: &mut [Size],
-) -> Step
+) -> Result<SoFar, Refusal>
     requires at_bound { (at + 3 ≤ next) × (next ≤ length program.now) }
     requires declared_right { DeclaredRight (length program.now) at t families.now kinds.old sizes.old }
     ensures sizes_after { checked_step result families.now kinds.new sizes.new ≡ check_top (read_register creg at (slice (at + 3) next program.now)) (declared_in t families.now kinds.old sizes.old) }
@@ -223,30 +211,22 @@ fn classical_register(
 {
     let n = t.registers;
     let total = t.bits;
-    match check_declaration::register(
+    let size = check_declaration::register(
         program,
         at,
         next,
-        kinds::Kind::Classical,
+        Kind::Classical,
         n,
         total,
         MOST_BITS,
         kinds,
         sizes,
-    ) {
-        Read::Refused(k, q) => Step::Stopped(k, q),
-        Read::Upto(size) => {
-            let registers = n + 1;
-            let bits = total + size;
-            Step::Going(SoFar {
-                families: t.families,
-                rows: t.rows,
-                registers,
-                qubits: t.qubits,
-                bits,
-            })
-        }
-    }
+    )?;
+    Ok(SoFar {
+        registers: n + 1,
+        bits: total + size,
+        ..t
+    })
 }
 
 // The top field of a tag at `at`, whose field ends at `next`, which declares nothing.
@@ -259,27 +239,24 @@ fn top_action(
     families: &[FamilyRow],
     kinds: &[u16],
     sizes: &[Size],
-) -> Step
+) -> Result<SoFar, Refusal>
     requires at_bound { (at + 3 ≤ next) × (next ≤ length program.now) }
     requires declared_right { DeclaredRight (length program.now) at t families.now kinds.now sizes.now }
     requires fact { (tag ≡ 1 → ⊥) × (tag ≡ 2 → ⊥) × (tag ≡ 3 → ⊥) }
     ensures sizes_value { checked_step result families.now kinds.now sizes.now ≡ check_top (read_top (field at tag (slice (at + 3) next program.now))) (declared_in t families.now kinds.now sizes.now) }
     ensures step_right { StepRight (length program.now) next result families.now kinds.now sizes.now }
 {
-    let s = Visible {
+    let none = [[0i64; FORM_NUMBERS]; MOST_LOOPS];
+    let visible = Visible {
         families: t.families,
         first: 0,
         count: t.registers,
         variables: 0,
         loops: 0,
     };
-    let none = [[0i64; FORM_NUMBERS]; MOST_LOOPS];
-    match check_statement::action(
-        program, at, next, tag, s, families, kinds, sizes, &none, &none,
-    ) {
-        Read::Refused(k, q) => Step::Stopped(k, q),
-        Read::Upto(_) => Step::Going(t),
-    }
+    let full = full_scope(visible, families, kinds, sizes, &none);
+    check_statement::action(program, at, next, tag, &full)?;
+    Ok(t)
 }
 
 // The top field of a tag at `at`, whose field ends at `next`.
@@ -292,16 +269,16 @@ fn top_field(
     families: &mut [FamilyRow],
     kinds: &mut [u16],
     sizes: &mut [Size],
-) -> Step
+) -> Result<SoFar, Refusal>
     requires at_bound { (at + 3 ≤ next) × (next ≤ length program.now) }
     requires declared_right { DeclaredRight (length program.now) at t families.old kinds.old sizes.old }
     ensures sizes_after { checked_step result families.new kinds.new sizes.new ≡ check_top (read_top (field at tag (slice (at + 3) next program.now))) (declared_in t families.old kinds.old sizes.old) }
     ensures step_right { StepRight (length program.now) next result families.new kinds.new sizes.new }
 {
     match tag {
-        1 => family(program, at, next, t, families, kinds, sizes),
-        2 => quantum_register(program, at, next, t, families, kinds, sizes),
-        3 => classical_register(program, at, next, t, families, kinds, sizes),
+        fields::FAMILY => family(program, at, next, t, families, kinds, sizes),
+        fields::QREG => quantum_register(program, at, next, t, families, kinds, sizes),
+        fields::CREG => classical_register(program, at, next, t, families, kinds, sizes),
         _ => top_action(program, at, next, tag, t, families, kinds, sizes),
     }
 }
@@ -312,7 +289,7 @@ fn top_fields(
     families: &mut [FamilyRow],
     kinds: &mut [u16],
     sizes: &mut [Size],
-) -> Outcome
+) -> Result<(), Refusal>
     requires { DeclaredRight (length program.now) 0 none_so_far families.old kinds.old sizes.old }
     ensures { result_told result ≡ verdict (check (read program.now)) }
 {
@@ -327,24 +304,19 @@ fn top_fields(
     };
     loop {
         match fields::header_at(program, at, to) {
-            Header::End => return Outcome::Accepted,
-            Header::Cut => return Outcome::Turned(2, at),
-            Header::Whole(tag, next) => {
-                let r = top_field(program, at, next, tag, t, families, kinds, sizes);
-                match r {
-                    Step::Stopped(n, q) => return Outcome::Turned(n, q),
-                    Step::Going(after) => {
-                        t = after;
-                        at = next;
-                    }
-                }
+            Err(NoHeader::End) => return Ok(()),
+            Err(NoHeader::Cut) => return Err(Refusal(Reason::BadHeader, at)),
+            Ok(header) => {
+                let next = header.next;
+                t = top_field(program, at, next, header.tag, t, families, kinds, sizes)?;
+                at = next;
             }
         }
     }
 }
 
 // The check of a program that is short: its tables are small, so that they are cleared in less time.
-fn check_short(program: &[u8]) -> Outcome
+fn check_short(program: &[u8]) -> Result<(), Refusal>
     requires { length program.now ≤ short_program }
     ensures { result_told result ≡ verdict (check (read program.now)) }
 {
@@ -355,7 +327,7 @@ fn check_short(program: &[u8]) -> Outcome
 }
 
 // The check of any program within the limit.
-fn check_long(program: &[u8]) -> Outcome
+fn check_long(program: &[u8]) -> Result<(), Refusal>
     requires { length program.now ≤ longest_program }
     ensures { result_told result ≡ verdict (check (read program.now)) }
 {
@@ -366,11 +338,11 @@ fn check_long(program: &[u8]) -> Outcome
 }
 
 // The check of a program.
-pub fn check_program(program: &[u8]) -> Outcome
+pub fn check_program(program: &[u8]) -> Result<(), Refusal>
     ensures { result_told result ≡ check_result program.now }
 {
     if LONGEST_PROGRAM < program.len() {
-        return Outcome::Turned(1, 0);
+        return Err(Refusal(Reason::TooLong, 0));
     }
     if program.len() <= SHORT_PROGRAM {
         return check_short(program);

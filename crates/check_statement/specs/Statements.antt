@@ -1,13 +1,13 @@
 -- What the code's answers on statements stand for.
-use Rattle.std.specs.Prelude.{◌≡◌, List, ℕ}
+use Rattle.std.specs.Prelude.{◌≡◌, List, ℕ, Result, Ok, Err}
 use Rattle.language.specs.Tree.{Statement, reverse, bad_statement, gate_h}
 use Rattle.language.specs.Read.{Field, field, Reader, of_fields, gate_of, cx_of, phase_of, cphase_of, statement_by, statements_by, for_of}
 use Rattle.language.specs.Check.{Checked, good, refused, check_statement, Declared}
 use Rattle.fields.specs.CallNumber.{call_reader}
 use Rattle.check_statement.specs.declared.StatementTag.{StatementTag}
 use Rattle.check_statement.specs.declared.StatementTag.TheVariants.{Gate, Cx, Phase, Cphase, Call, Reverse, For, Other}
-use Rattle.check_index.specs.declared.Read.{Read}
-use Rattle.check_index.specs.declared.Read.TheVariants.{Upto, Refused}
+use Rattle.refusals.specs.Reasons.{number_of}
+use Rattle.refusals.specs.declared.Refusal.{Refusal}
 use Rattle.language.specs.Check as C
 
 -- how the content of a statement is read, by what its tag says; the check asks the same of every gate
@@ -26,6 +26,6 @@ abbrev pub StatementSays : ℕ → StatementTag → Type 0
 StatementSays tag k = (part : Field → Statement) (p : ℕ) (content : List ℕ) (s : C.Scope) → check_statement (statement_by part (field p tag content)) s ≡ check_statement (statement_reader part tag k p content) s
 
 -- what the answer on a top field that declares nothing stands for
-unfoldable pub checked_declared : Read → Declared → Checked Declared
-checked_declared (Upto n) d = good d
-checked_declared (Refused n p) d = refused n p
+unfoldable pub checked_declared : Result ℕ Refusal → Declared → Checked Declared
+checked_declared (Ok n) d = good d
+checked_declared (Err e) d = refused (number_of e.0) e.1

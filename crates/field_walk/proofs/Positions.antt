@@ -14,7 +14,6 @@ use Rattle.language.proofs.Runs.{Skips}
 use Rattle.language.proofs.Runs as R
 use Rattle.fields.specs.declared.Header.{Header}
 use Rattle.fields.specs.declared.NoHeader.{NoHeader}
-use Rattle.fields.specs.declared.NoHeader.TheVariants.{End, Cut}
 use Rattle.fields.specs.Header.{fields_at, header_of}
 use Rattle.fields.specs.Count.{Counted, Many, Broken, more, counted, span}
 use Rattle.fields.proofs.Parts as P
@@ -22,7 +21,7 @@ use Rattle.fields.proofs.Parts.{look, when_part, part_is, next_found, stands}
 use Rattle.fields.proofs.Counts.{plus, plus_none, skips, span_all}
 use Rattle.fields.proofs.Headers.{slice_none}
 use Rattle.field_walk.specs.declared.Held.{Held}
-use Rattle.std.specs.Prelude.{Option, Some, None, Result, Ok, Err}
+use Rattle.std.specs.Prelude.{Option, Some, None, IsSome, Result, Ok}
 use Rattle.field_walk.specs.Walks.{most_kept, is_broken, broken_in, Unbroken, FieldBegins, FieldEnds, PositionsKept, Linked, LastKept, Lasts, Walking, Starting, whole_of}
 
 -- ---- whole fields at the beginning of a list
@@ -263,20 +262,22 @@ module _ (bytes : List ℕ) (from to : ℕ) (cuts : List ℕ) (w : to ≤ length
   begin_last reversed None e l = rw e l
   begin_last reversed (Some h) e l = rw e (record { within = w; end = l.end; few = l.few; kept = l.kept; linked = l.linked })
 
+-- a search that has found the last field
+module _ (bytes : List ℕ) (from to : ℕ) (cuts : List ℕ) where
   pub record Found (r u : ℕ) : Type 0 where
     pub some : 1 ≤ r
     pub few : r ≤ most_kept
     pub top : Top bytes from cuts r to
     pub linking : Linking bytes cuts u r to
 
-  pub kept_found : (d u : ℕ) → LastKept bytes from to cuts d u → Found d u
-  kept_found d u l = record { some = omega (arith, l.some); few = l.few; top = top_is bytes from cuts d to (omega (arith, l.some)) l.kept; linking = linked_top bytes cuts u d to l.some l.linked }
-
-  pub lasts_found : (h : Held) → Lasts bytes from to cuts (Some h) → Found h.depth h.sure
+  pub lasts_found : (r : Option Held) (h : Held) → Lasts bytes from to cuts r → r ≡ Some h → Found h.depth h.sure
   unfolding Lasts
-  lasts_found h l = kept_found h.depth h.sure l
+  lasts_found r h s e =
+      let l : LastKept bytes from to cuts h.depth h.sure = rw e at s in
+      record { some = omega (arith, l.some); few = l.few; top = top_is bytes from cuts h.depth to (omega (arith, l.some)) l.kept; linking = linked_top bytes cuts h.sure h.depth to l.some l.linked }
 
   -- whole fields have a last one
-  pub lasts_some : Unbroken (slice from to bytes) → Lasts bytes from to cuts None → ⊥
+  pub lasts_some : (r : Option Held) → Unbroken (slice from to bytes) → Lasts bytes from to cuts r → IsSome r
   unfolding Lasts
-  lasts_some b l = clash (sym l ∙ b)
+  lasts_some None b l = absurd (clash (sym l ∙ b))
+  lasts_some (Some h) b l = refl

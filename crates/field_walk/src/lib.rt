@@ -128,7 +128,13 @@ fn last(bytes: &[u8], from: usize, to: usize, cuts: &mut [u16; KEPT], depth: usi
 }
 
 // Begins a walk of the list from `from` to `to`, unless it is to be walked backward and has a bad header.
-pub fn begin(bytes: &[u8], from: usize, to: usize, reversed: bool, cuts: &mut [u16; KEPT]) -> Option<Held>
+pub fn begin(
+    bytes: &[u8],
+    from: usize,
+    to: usize,
+    reversed: bool,
+    cuts: &mut [u16; KEPT],
+) -> Option<Held>
     requires { (from ≤ to) × (to ≤ length bytes.now) × (to ≤ longest_program) }
     ensures { Starting bytes.now from to reversed cuts.new result }
 {
@@ -160,13 +166,15 @@ pub fn seek(bytes: &[u8], w: Walk, reversed: bool, cuts: &mut [u16; KEPT]) -> Wa
     if !reversed {
         return Walk { here: w.at, ..w };
     }
-    let mut held = Held {
-        depth: w.depth,
-        sure: w.sure,
-    };
-    if w.depth <= w.sure {
-        held = last(bytes, w.at, w.to, cuts, w.depth).unwrap();
+    if w.sure < w.depth {
+        let depth = w.depth - 1;
+        return Walk {
+            here: usize::from(cuts[depth]),
+            depth,
+            ..w
+        };
     }
+    let held = last(bytes, w.at, w.to, cuts, w.depth).unwrap();
     let depth = held.depth - 1;
     Walk {
         here: usize::from(cuts[depth]),

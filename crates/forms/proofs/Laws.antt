@@ -13,9 +13,11 @@ use Rattle.form_laws.specs.Settled.{coefficient, Scan, ended, one_more, then_sca
 use Rattle.form_laws.specs.Trials.{trials_for, trials_made}
 use Rattle.form_laws.proofs.Settled.{next_law, agree_law, gone_most}
 use Rattle.form_laws.proofs.Trials.{for_most, trials_most}
+use Rattle.std.specs.Prelude.{Result, Ok, Err, OnOk, is_ok}
+use Rattle.forms.specs.declared.OutOfRange.{OutOfRange}
 use Rattle.forms.specs.Flat.{Kept, as_form, built_of}
 use Rattle.language.proofs.Integers.{integers, plus, minus, times, clash}
-use Rattle.forms.proofs.Lists.{sum_flat, difference_flat, ranges, rest_good, rest_bad, rest_none, Passed, begun, again, stopped, ended_kept, both, zero_yes, zero_no, term_flat, rest_long, set_kept}
+use Rattle.forms.proofs.Lists.{tested, answer_tested, sum_flat, difference_flat, ranges, rest_good, rest_bad, rest_none, Passed, begun, again, stopped, ended_kept, both, zero_yes, zero_no, term_flat, rest_long, set_kept}
 use Rattle.forms.proofs.Lists as L
 use Rattle.forms.specs.Rows.{Rows, loop_at, loops_of, forms_of}
 
@@ -43,16 +45,16 @@ zipped_after k [] g = refl
 zipped_after k (x ∷ f) [] = refl
 zipped_after k (x ∷ f) (y ∷ g) = ap (λ (l : List ℤ). (x +ℤ k *ℤ y) ∷ l) (zipped_after k f g)
 
-scaled_map : (k : ℤ) (g : List ℤ) → Kept g → multiple_of k (as_form g) ≡ built_of (all_in_range (map (λ z. k *ℤ z) g)) (map (λ z. k *ℤ z) g)
+scaled_map : (k : ℤ) (g : List ℤ) → Kept g → multiple_of k (as_form g) ≡ tested (all_in_range (map (λ z. k *ℤ z) g)) (map (λ z. k *ℤ z) g)
 unfolding multiple_of build as_form all_in_range
 scaled_map k [] h = absurd (let l = h.long in omega arith)
 scaled_map k (x ∷ g) h = refl
 
-pub both_flat : (k : ℤ) (f g : List ℤ) → Kept f → Kept g → built_of (all_in_range (map (λ z. k *ℤ z) g) && all_in_range (zipped (λ x y. x +ℤ k *ℤ y) f g)) (zipped (λ x y. x +ℤ k *ℤ y) f g) ≡ (multiple_of k (as_form g) then_build sum_of (as_form f))
+pub both_flat : (k : ℤ) (f g : List ℤ) → Kept f → Kept g → tested (all_in_range (map (λ z. k *ℤ z) g) && all_in_range (zipped (λ x y. x +ℤ k *ℤ y) f g)) (zipped (λ x y. x +ℤ k *ℤ y) f g) ≡ (multiple_of k (as_form g) then_build sum_of (as_form f))
 unfolding ◌then_build◌
 both_flat k f g kf kg = by (all_in_range (map (λ z. k *ℤ z) g)) refl ∙ sym (ap (λ (b : Built). b then_build sum_of (as_form f)) (scaled_map k g kg))
   where
-    by : (t : Bool) → all_in_range (map (λ z. k *ℤ z) g) ≡ t → built_of (t && all_in_range (zipped (λ x y. x +ℤ k *ℤ y) f g)) (zipped (λ x y. x +ℤ k *ℤ y) f g) ≡ (built_of t (map (λ z. k *ℤ z) g) then_build sum_of (as_form f))
+    by : (t : Bool) → all_in_range (map (λ z. k *ℤ z) g) ≡ t → tested (t && all_in_range (zipped (λ x y. x +ℤ k *ℤ y) f g)) (zipped (λ x y. x +ℤ k *ℤ y) f g) ≡ (tested t (map (λ z. k *ℤ z) g) then_build sum_of (as_form f))
     by true e = rw (← (zipped_after k f g)) (sum_flat f (map (λ z. k *ℤ z) g) kf (record { long = length-map g (λ z. k *ℤ z) ∙ kg.long; inside = e }))
     by false e = refl
 
@@ -69,7 +71,7 @@ all_map h p (x ∷ l) e =
     let b = both (in_range x) (all_in_range l) (sym (ranges.more x l) ∙ e) in
     ranges.more (h x) (map h l) ∙ rw (p x b.0, all_map h p l b.1)
 
-unit_flat : (k : ℤ) (op : ℤ → ℤ → ℤ) → ((x y : ℤ) → x +ℤ k *ℤ y ≡ op x y) → ((z : ℤ) → in_range z ≡ true → in_range (k *ℤ z) ≡ true) → (f g : List ℤ) → Kept f → Kept g → (multiple_of k (as_form g) then_build sum_of (as_form f)) ≡ built_of (all_in_range (zipped op f g)) (zipped op f g)
+unit_flat : (k : ℤ) (op : ℤ → ℤ → ℤ) → ((x y : ℤ) → x +ℤ k *ℤ y ≡ op x y) → ((z : ℤ) → in_range z ≡ true → in_range (k *ℤ z) ≡ true) → (f g : List ℤ) → Kept f → Kept g → (multiple_of k (as_form g) then_build sum_of (as_form f)) ≡ tested (all_in_range (zipped op f g)) (zipped op f g)
 unit_flat k op e p f g kf kg =
     sym (both_flat k f g kf kg) ∙ rw (all_map (λ z. k *ℤ z) p g kg.inside, zipped_same (λ x y. x +ℤ k *ℤ y) op e f g)
 
@@ -121,14 +123,14 @@ module _ {k : ℤ} {f h r g : List ℤ} {i : ℕ} (s : Scaling k f h r g i) (kf 
       both_no _ _ (all_in_range (map (λ z. k *ℤ z) h)) (all_in_range (zipped (λ x y. x +ℤ k *ℤ y) f h)) e
       (λ q. s.products ∙ rest_bad ranges (map (λ z. k *ℤ z) h) i (omega arith) (ap in_range (product_at_lem p) ∙ q))
       (λ q. stopped s.sums kf kh lr p refl q) in
-      sym (ap (λ (t : Bool). built_of t (zipped (λ x y. x +ℤ k *ℤ y) f h)) bad) ∙ both_flat k f h kf kh
+      sym (ap (λ (t : Bool). tested t (zipped (λ x y. x +ℤ k *ℤ y) f h)) bad) ∙ both_flat k f h kf kh
 
   pub scaling_ended : 13 ≤ i → (built (as_form g) ≡ (multiple_of k (as_form h) then_build sum_of (as_form f))) × Kept g
   scaling_ended p =
       let l = products_long in
       let e = L.ended s.sums kf kh lr p in
       let all = s.products ∙ rest_none ranges (map (λ z. k *ℤ z) h) i (omega arith) in
-      ((λ j. built_of (sym (λ i. all i && e.1 i) j) (e.0 j)) ∙ both_flat k f h kf kh, ended_kept s.sums kf kh lr p)
+      ((λ j. tested (sym (λ i. all i && e.1 i) j) (e.0 j)) ∙ both_flat k f h kf kh, ended_kept s.sums kf kh lr p)
 
 -- ---- the showing, a loop at a time
 
@@ -329,7 +331,7 @@ multiple_alone k z g kg e =
     ∙ by (all_in_range (map (λ z. k *ℤ z) g)) refl
     ∙ sym (scaled_map k g kg)
   where
-    by : (t : Bool) → all_in_range (map (λ z. k *ℤ z) g) ≡ t → (built_of t (map (λ z. k *ℤ z) g) then_build sum_of (constant_form (pos 0))) ≡ built_of t (map (λ z. k *ℤ z) g)
+    by : (t : Bool) → all_in_range (map (λ z. k *ℤ z) g) ≡ t → (tested t (map (λ z. k *ℤ z) g) then_build sum_of (constant_form (pos 0))) ≡ tested t (map (λ z. k *ℤ z) g)
     by true e =
         let m : Kept (map (λ z. k *ℤ z) g) = record { long = length-map g (λ z. k *ℤ z) ∙ kg.long; inside = e } in
         sym (sum_flat (replicate 13 (pos 0)) (map (λ z. k *ℤ z) g) zeros_kept m)
@@ -349,25 +351,26 @@ and_yes : (s : Bool) {t : Bool} → t ≡ true → s ≡ (s && t)
 and_yes true e = sym e
 and_yes false e = refl
 
-plus_flat : (f : List ℤ) (z : ℤ) → Kept f → built_of (in_range (get_or f 0 (pos 0) +ℤ z)) (set f 0 (get_or f 0 (pos 0) +ℤ z)) ≡ sum_of (as_form f) (constant_form z)
+plus_flat : (f : List ℤ) (z : ℤ) → Kept f → tested (in_range (get_or f 0 (pos 0) +ℤ z)) (set f 0 (get_or f 0 (pos 0) +ℤ z)) ≡ sum_of (as_form f) (constant_form z)
 unfolding sum_of build as_form
 plus_flat [] z k = absurd (let l = k.long in omega arith)
 plus_flat (x ∷ f) z k =
     let l = k.long in
     let r = both (in_range x) (all_in_range f) (sym (ranges.more x f) ∙ k.inside) in
-    rw (zipped_none ◌+ℤ◌ +ℤ_idr 12 f (omega arith)) (ap (λ (t : Bool). built_of t ((x +ℤ z) ∷ f)) (and_yes (in_range (x +ℤ z)) r.1))
+    rw (zipped_none ◌+ℤ◌ +ℤ_idr 12 f (omega arith)) (ap (λ (t : Bool). tested t ((x +ℤ z) ∷ f)) (and_yes (in_range (x +ℤ z)) r.1))
 
 -- y is z, as the machine reads it
 module _ (f : List ℤ) {y z : ℤ} (e : y ≡ z) (k : Kept f) (q : in_range z ≡ true) where
   once : pos 1 *ℤ y ≡ z
   once = ap (λ (x : ℤ). pos 1 *ℤ x) e ∙ omega (integers, times (pos 1) z)
 
-  pub constant_added : (g : List ℤ) (t : Bool) → t ≡ (in_range (pos 1 *ℤ y) && in_range (get_or f 0 (pos 0) +ℤ pos 1 *ℤ y)) → (t ≡ true → g ≡ set f 0 (get_or f 0 (pos 0) +ℤ pos 1 *ℤ y)) → (built_of t g ≡ sum_of (as_form f) (constant_form z)) × (t ≡ true → Kept g)
-  constant_added g t p h = by t (p ∙ (λ j. in_range (once j) && in_range (get_or f 0 (pos 0) +ℤ once j)) ∙ ap (λ (b : Bool). b && in_range (get_or f 0 (pos 0) +ℤ z)) q) (λ u. h u ∙ ap (λ (x : ℤ). set f 0 (get_or f 0 (pos 0) +ℤ x)) once)
+  pub constant_added : (g : List ℤ) (r : Result (Unit {0}) OutOfRange) → is_ok r ≡ (in_range (pos 1 *ℤ y) && in_range (get_or f 0 (pos 0) +ℤ pos 1 *ℤ y)) → OnOk r (g ≡ set f 0 (get_or f 0 (pos 0) +ℤ pos 1 *ℤ y)) → (built_of r g ≡ sum_of (as_form f) (constant_form z)) × OnOk r (Kept g)
+  unfolding built_of
+  constant_added g r p h = by r (p ∙ (λ j. in_range (once j) && in_range (get_or f 0 (pos 0) +ℤ once j)) ∙ ap (λ (b : Bool). b && in_range (get_or f 0 (pos 0) +ℤ z)) q) h
     where
-      by : (t : Bool) → t ≡ in_range (get_or f 0 (pos 0) +ℤ z) → (t ≡ true → g ≡ set f 0 (get_or f 0 (pos 0) +ℤ z)) → (built_of t g ≡ sum_of (as_form f) (constant_form z)) × (t ≡ true → Kept g)
-      by true p h = ((λ j. built_of (p j) (h refl j)) ∙ plus_flat f z k, λ u. subst Kept (sym (h refl)) (set_kept f 0 (get_or f 0 (pos 0) +ℤ z) (sym p) k))
-      by false p h = (ap (λ (b : Bool). built_of b (set f 0 (get_or f 0 (pos 0) +ℤ z))) p ∙ plus_flat f z k, λ u. absurd (clash (sym u)))
+      by : (r : Result (Unit {0}) OutOfRange) → is_ok r ≡ in_range (get_or f 0 (pos 0) +ℤ z) → OnOk r (g ≡ set f 0 (get_or f 0 (pos 0) +ℤ pos 1 *ℤ y)) → (built_of r g ≡ sum_of (as_form f) (constant_form z)) × OnOk r (Kept g)
+      by (Ok u) p h = let e = h ∙ ap (λ (x : ℤ). set f 0 (get_or f 0 (pos 0) +ℤ x)) once in ((λ j. tested (p j) (e j)) ∙ plus_flat f z k, subst Kept (sym e) (set_kept f 0 (get_or f 0 (pos 0) +ℤ z) (sym p) k))
+      by (Err e) p h = (ap (λ (b : Bool). tested b (set f 0 (get_or f 0 (pos 0) +ℤ z))) p ∙ plus_flat f z k, tt)
 
 -- taking 1 away is adding -1
 pub one_less : (f : List ℤ) → Kept f → sum_of (as_form f) (constant_form (negsuc 0)) ≡ difference_of (as_form f) (constant_form (pos 1))

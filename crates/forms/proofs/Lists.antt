@@ -4,7 +4,7 @@
 -- Assumes nothing.
 use mathlib.Core.Path.{◌≡◌, refl, sym, ap, ◌∙◌, subst}
 use mathlib.Core.List.{List, [], ◌∷◌, ◌++◌, map}
-use mathlib.Core.Bool.{Bool, true, false, ◌&&◌}
+use mathlib.Core.Bool.{Bool, true, false, cond, ◌&&◌}
 use Prim.Native.Nat.{ℕ, zero, suc, ◌+◌, ◌≤◌, ◌<◌}
 use native.Mathlib.Numerals.{add-one}
 use native.Mathlib.Omega.{arith}
@@ -12,10 +12,17 @@ use lib.IntN.{ℤ, pos, negsuc, ◌+ℤ◌, ◌-ℤ◌}
 use lib.Signed.{le_z, lt_z}
 use lib.ListN.{length, get_or, take, drop, set, replicate, length-set, length-take, length-append, drop_of_length-le, take-append-drop, get_or-append}
 use lib.Seq.{take_all}
-use Rattle.language.specs.Form.{Built, built, Loop, closed, showing_of, in_range, all_in_range, zipped, build, sum_of, difference_of, multiple_of, ◌then_build◌, without, none_negative, is_zero, all_zero, same_number, same_numbers, same_form}
+use Rattle.std.proofs.lemmas.List.{take-append-le}
+use Rattle.std.specs.Prelude.{Result, Ok, Err, IsErr, OnOk, is_ok, is_err}
+use Rattle.language.specs.Form.{Form, Built, built, out_of_range, Loop, closed, showing_of, in_range, all_in_range, zipped, build, sum_of, difference_of, multiple_of, ◌then_build◌, without, none_negative, is_zero, all_zero, same_number, same_numbers, same_form}
+use Rattle.forms.specs.declared.OutOfRange.{OutOfRange}
 use Rattle.forms.specs.Flat.{Kept, Short, widened, as_form, built_of, showing_by}
-use Rattle.language.proofs.Integers.{clash, lt_true}
-use Rattle.form_laws.proofs.Equal.{same_number_lem, number_itself}
+use mir.Syntax.{w32, w64}
+use mir.Val.{to_z, of_z}
+use Rattle.language.proofs.Integers.{clash, lt_true, widen_back}
+use Rattle.std.specs.Bool.{Decides}
+use Rattle.std.specs.List.{list_all}
+use Rattle.form_laws.proofs.Equal.{same_number_lem, number_itself, same_numbers_lem, numbers_itself}
 
 module _ {A : Type 0} where
   abbrev pub front : ℕ → List A → List A → List A
@@ -91,6 +98,11 @@ pub both : (s t : Bool) → (s && t) ≡ true → (s ≡ true) × (t ≡ true)
 both true t e = (refl, e)
 both false t e = absurd (clash (sym e))
 
+-- std's test of every item is the same
+pub all_listed : {p : ℤ → Bool} {all : List ℤ → Bool} (r : EachOf p all) (xs : List ℤ) → list_all p xs ≡ all xs
+all_listed r [] = sym r.none
+all_listed {p} r (x ∷ xs) = ap (λ (t : Bool). p x && t) (all_listed r xs) ∙ sym (r.more x xs)
+
 -- the answer for a list is the answer for what is left of it, so long as each entry passed is right; false at the first that is not; and true at the end
 module _ {p : ℤ → Bool} {all : List ℤ → Bool} (r : EachOf p all) where
   pub rest_good : (xs : List ℤ) (i : ℕ) → i < length xs → p (get_or xs i (pos 0)) ≡ true → all (drop i xs) ≡ all (drop (suc i) xs)
@@ -135,6 +147,9 @@ number_other {x} {y} h = go (same_number x y) (same_number_lem x y)
     go : (b : Bool) → (b ≡ true → x ≡ y) → b ≡ false
     go true k = absurd (h (k refl))
     go false k = refl
+
+pub numbers_decide : (xs ys : List ℤ) → Decides (same_numbers xs ys) (xs ≡ ys)
+numbers_decide xs ys = (same_numbers_lem xs ys, λ e. ap (same_numbers xs) (sym e) ∙ numbers_itself xs)
 
 -- the answer for two lists is the answer for what is left of them, as above
 pub pair_good : (xs ys : List ℤ) (i : ℕ) → i < length xs → i < length ys → same_number (get_or xs i (pos 0)) (get_or ys i (pos 0)) ≡ true
@@ -210,15 +225,53 @@ module _ {op : ℤ → ℤ → ℤ} {f₀ g r f : List ℤ} {i : ℕ} (p : Passe
     pub ended_kept : 13 ≤ i → Kept f
     ended_kept h = record { long = ap length (ended h).0 ∙ new_long; inside = ap all_in_range (ended h).0 ∙ (ended h).1 }
 
+-- ---- what an answer tells of the form beside it
+
+pub when_built : {r : Result (Unit {0}) OutOfRange} {u : Unit {0}} (l : List ℤ) {b : Built} → r ≡ Ok u → built_of r l ≡ b → built (as_form l) ≡ b
+unfolding built_of
+when_built l e h = ap (λ (r : Result (Unit {0}) OutOfRange). built_of r l) (sym e) ∙ h
+
+pub when_out : {r : Result (Unit {0}) OutOfRange} {x : OutOfRange} (l : List ℤ) {b : Built} → r ≡ Err x → built_of r l ≡ b → out_of_range ≡ b
+unfolding built_of
+when_out l e h = ap (λ (r : Result (Unit {0}) OutOfRange). built_of r l) (sym e) ∙ h
+
+-- the same, after a test by `is_err`
+pub built_when : (r : Result (Unit {0}) OutOfRange) (l : List ℤ) {b : Built} → is_err r ≡ false → built_of r l ≡ b → built (as_form l) ≡ b
+built_when (Ok u) l e h = when_built l refl h
+built_when (Err x) l e h = absurd (clash e)
+
+pub out_when : (r : Result (Unit {0}) OutOfRange) (l : List ℤ) {b : Built} → is_err r ≡ true → built_of r l ≡ b → out_of_range ≡ b
+out_when (Ok u) l e h = absurd (clash (sym e))
+out_when (Err x) l e h = when_out l refl h
+
+pub kept_when : (r : Result (Unit {0}) OutOfRange) {P : Type 0} → is_err r ≡ false → OnOk r P → P
+kept_when (Ok u) e h = h
+kept_when (Err x) e h = absurd (clash e)
+
+-- what the exit of a `?` returns
+pub not_built : (r : Result (Unit {0}) OutOfRange) (l : List ℤ) → IsErr r → built_of r l ≡ out_of_range
+unfolding built_of
+not_built (Ok u) l e = absurd (clash (sym e))
+not_built (Err x) l e = refl
+
+-- a form that stands where a test came out true
+abbrev pub tested : Bool → List ℤ → Built
+tested t l = cond t (built (as_form l)) out_of_range
+
+pub answer_tested : (r : Result (Unit {0}) OutOfRange) (l : List ℤ) → built_of r l ≡ tested (is_ok r) l
+unfolding built_of
+answer_tested (Ok u) l = refl
+answer_tested (Err e) l = refl
+
 -- ---- the definitions, of lists
 
-pub sum_flat : (f g : List ℤ) → Kept f → Kept g → built_of (all_in_range (zipped ◌+ℤ◌ f g)) (zipped ◌+ℤ◌ f g) ≡ sum_of (as_form f) (as_form g)
+pub sum_flat : (f g : List ℤ) → Kept f → Kept g → tested (all_in_range (zipped ◌+ℤ◌ f g)) (zipped ◌+ℤ◌ f g) ≡ sum_of (as_form f) (as_form g)
 unfolding sum_of build as_form all_in_range zipped
 sum_flat [] g h k = absurd (let l = h.long in omega arith)
 sum_flat (x ∷ f) [] h k = absurd (let l = k.long in omega arith)
 sum_flat (x ∷ f) (y ∷ g) h k = refl
 
-pub difference_flat : (f g : List ℤ) → Kept f → Kept g → built_of (all_in_range (zipped ◌-ℤ◌ f g)) (zipped ◌-ℤ◌ f g) ≡ difference_of (as_form f) (as_form g)
+pub difference_flat : (f g : List ℤ) → Kept f → Kept g → tested (all_in_range (zipped ◌-ℤ◌ f g)) (zipped ◌-ℤ◌ f g) ≡ difference_of (as_form f) (as_form g)
 unfolding difference_of build as_form all_in_range zipped
 difference_flat [] g h k = absurd (let l = h.long in omega arith)
 difference_flat (x ∷ f) [] h k = absurd (let l = k.long in omega arith)
@@ -265,7 +318,7 @@ module _ (f : List ℤ) (v : ℕ) (b : Loop) (k : Kept f) where
   abbrev pub closing : Built
   closing = closed v b (as_form f) (get_or (as_form f).coefficients v (pos 0))
 
-  pub closed_zero : get_or f (v + 1) (pos 0) ≡ pos 0 → built_of true f ≡ closing
+  pub closed_zero : get_or f (v + 1) (pos 0) ≡ pos 0 → built (as_form f) ≡ closing
   unfolding closed
   closed_zero e = sym (ap (closed v b (as_form f)) (term_flat f v k ∙ e))
 
@@ -319,17 +372,9 @@ short_at l i h s = let n = s.long in get_or-append l (replicate 8 (pos 0)) (pos 
 pub short_range : (l : List ℤ) (i : ℕ) → i < 5 → Short l → in_range (get_or l i (pos 0)) ≡ true
 short_range l i h s = ap in_range (sym (short_at l i h s)) ∙ kept_at (widened l) i (omega arith) (short_kept l s)
 
--- the first five of a list, one by one
-abbrev pub listed : List ℤ → List ℤ
-listed l = get_or l 0 (pos 0) ∷ get_or l 1 (pos 0) ∷ get_or l 2 (pos 0) ∷ get_or l 3 (pos 0) ∷ get_or l 4 (pos 0) ∷ []
-
-five_first : (l : List ℤ) → 5 ≤ length l → listed l ≡ take 5 l
-five_first [] e = absurd (omega arith)
-five_first (a ∷ []) e = absurd (omega arith)
-five_first (a ∷ b ∷ []) e = absurd (omega arith)
-five_first (a ∷ b ∷ c ∷ []) e = absurd (omega arith)
-five_first (a ∷ b ∷ c ∷ d ∷ []) e = absurd (omega arith)
-five_first (a ∷ b ∷ c ∷ d ∷ x ∷ l) e = refl
+-- a number of a row, widened
+pub widen_read : {r z : ℤ} → r ≡ to_z w32 (of_z w32 z) → in_range z ≡ true → to_z w64 (of_z w64 r) ≡ z
+widen_read e q = ap (λ (z : ℤ). to_z w64 (of_z w64 z)) e ∙ widen_back q
 
 take_range : (n : ℕ) (l : List ℤ) → all_in_range l ≡ true → all_in_range (take n l) ≡ true
 unfolding all_in_range
@@ -337,22 +382,17 @@ take_range zero l e = refl
 take_range (suc n) [] e = refl
 take_range (suc n) (z ∷ l) e = both_true (in_range z) (all_in_range l) (all_in_range (take n l)) (take_range n l) e
 
-module _ (l : List ℤ) (s : Short l) where
-  five_all : listed l ≡ l
-  five_all = let n = s.long in five_first l (omega arith) ∙ take_all 5 l (omega arith)
+-- a row that is loaded: its numbers over a form that is 0
+pub loaded : (l : List ℤ) → Short l → front 5 (widened l) (replicate 13 (pos 0)) ≡ widened l
+loaded l s = let n = s.long in ap (λ (x : List ℤ). x ++ replicate 8 (pos 0)) (take-append-le 5 l (replicate 8 (pos 0)) (omega arith) ∙ take_all 5 l (omega arith))
 
-  pub load_wide : widened (listed l) ≡ widened l
-  load_wide = ap widened five_all
-
-  pub load_kept : Kept (widened (listed l))
-  load_kept = subst (λ (x : List ℤ). Kept (widened x)) (sym five_all) (short_kept l s)
-
+-- a row that is stored: the first numbers of the form
 module _ (l : List ℤ) (k : Kept l) where
-  five_some : listed l ≡ take 5 l
-  five_some = let n = k.long in five_first l (omega arith)
+  pub stored : front 5 (take 5 l) (replicate 5 (pos 0)) ≡ take 5 l
+  stored = let n = k.long in front_all 5 (take 5 l) (replicate 5 (pos 0)) (omega (arith, length-take 5 l)) refl
 
-  pub store_wide : drop 5 l ≡ replicate 8 (pos 0) → widened (listed l) ≡ l
-  store_wide e = ap widened five_some ∙ ap (λ (x : List ℤ). take 5 l ++ x) (sym e) ∙ take-append-drop 5 l
+  pub store_wide : drop 5 l ≡ replicate 8 (pos 0) → widened (take 5 l) ≡ l
+  store_wide e = ap (λ (x : List ℤ). take 5 l ++ x) (sym e) ∙ take-append-drop 5 l
 
-  pub store_short : Short (listed l)
-  store_short = subst (λ (x : List ℤ). Short x) (sym five_some) (record { long = (let n = k.long in omega (arith, length-take 5 l)); inside = take_range 5 l k.inside })
+  pub store_short : Short (take 5 l)
+  store_short = record { long = (let n = k.long in omega (arith, length-take 5 l)); inside = take_range 5 l k.inside }

@@ -8,6 +8,8 @@ ghost use Rattle.form_laws.specs.Trials.{trials_for, trials_made};
 ghost use Rattle.language.specs.Tree.{Place, product};
 ghost use Rattle.language.specs.Limits.{most_variables, most_loops, all_variables};
 ghost use Rattle.language.specs.Check.{combined};
+ghost use Rattle.forms.specs.declared.Unshown.TheVariants.{OutOfRange as UnshownOutOfRange};
+ghost use Rattle.forms.specs.declared.NoProduct.TheVariants.{OutOfRange as ProductOutOfRange};
 ghost use Rattle.forms.specs.Products.{product_of};
 ghost use Rattle.forms.specs.Flat.{form_numbers, size_numbers, Kept, Short, widened, as_form, built_of, showing_by, shown_of};
 ghost use Rattle.forms.specs.Rows.{Rows, loop_at, loops_of, forms_of};
@@ -43,7 +45,7 @@ pub enum Unshown {
 }
 
 impl From<OutOfRange> for Unshown {
-    ghost from_gives = { λ _ e. e ≡ Unshown.OutOfRange };
+    ghost from_gives = { λ _ e. e ≡ UnshownOutOfRange };
 
     fn from(_: OutOfRange) -> Unshown {
         Unshown::OutOfRange
@@ -58,7 +60,7 @@ pub enum NoProduct {
 }
 
 impl From<OutOfRange> for NoProduct {
-    ghost from_gives = { λ _ e. e ≡ NoProduct.OutOfRange };
+    ghost from_gives = { λ _ e. e ≡ ProductOutOfRange };
 
     fn from(_: OutOfRange) -> NoProduct {
         NoProduct::OutOfRange
@@ -503,13 +505,13 @@ pub fn show(f: &Form, ranges: &Ranges) -> Shown
 {
     let s = show_plainly(f, ranges);
     let through = s.through;
-    let Err(Unshown::NotShown) = s.verdict else {
+    if s.verdict != Err(Unshown::NotShown) {
         return Shown {
             verdict: s.verdict,
             through,
             trials: 0,
         };
-    };
+    }
     let t = try_loops(f, ranges, ranges.loops);
     Shown {
         verdict: verdict_of(t.shown),

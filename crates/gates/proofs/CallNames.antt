@@ -6,8 +6,9 @@ use Prim.Native.Nat.{ℕ}
 use Rattle.language.specs.Read.{CallNumber, names, unnamed}
 use Rattle.language.proofs.Integers.{clash}
 use Rattle.fields.specs.declared.Named.{Named}
-use Rattle.fields.specs.declared.Named.TheVariants.{Number, Bad}
-use Rattle.fields.specs.CallNumber.{is_call_tag, number_in, named_at, named_in}
+use Rattle.std.specs.Prelude.{Result, Ok, Err, is_err}
+use Rattle.refusals.specs.declared.Reason.{Reason}
+use Rattle.fields.specs.CallNumber.{is_call_tag, numbered, number_in, named_at, named_in}
 use Rattle.gates.specs.Gates.{names_none, nameless_of}
 
 -- a number names something or nothing, wherever it stands
@@ -26,38 +27,40 @@ module _ (tag : ℕ) (l : List ℕ) where
     unfolding nameless_of
     nameless_is = rw h (sym (anywhere from (number_in tag l)))
 
-    pub nameless_number : (n after : ℕ) → named_in tag from l ≡ Number n after → nameless_of tag l ≡ false
-    unfolding names_none
-    nameless_number n after e = nameless_is ∙ rw e
-
-    pub nameless_bad : (k : ℕ) → named_in tag from l ≡ Bad k → nameless_of tag l ≡ true
+    pub nameless_bad : (k : ℕ) → named_in tag from l ≡ Err k → nameless_of tag l ≡ true
     unfolding names_none
     nameless_bad k e = nameless_is ∙ rw e
+
+    -- a call names nothing where the code's answer is a refusal
+    pub nameless_err : (r : Result Named Reason) → numbered r ≡ named_in tag from l → is_err r ≡ nameless_of tag l
+    unfolding names_none numbered
+    nameless_err (Ok n) e = sym (nameless_is ∙ rw (sym e))
+    nameless_err (Err k) e = sym (nameless_is ∙ rw (sym e))
 
   -- a call that names nothing
   pub record Nameless : Type 0 where
     pub calls : is_call_tag tag ≡ true
     pub number : ℕ
-    pub bad : named_in tag 0 l ≡ Bad number
+    pub bad : named_in tag 0 l ≡ Err number
 
   pub nameless_call : nameless_of tag l ≡ true → Nameless
   unfolding nameless_of names_none
   nameless_call h = go (is_call_tag tag) refl (named_in tag 0 l) refl h
     where
-      go : (a : Bool) → is_call_tag tag ≡ a → (r : Named) → named_in tag 0 l ≡ r → (a && names_none r) ≡ true → Nameless
-      go true e (Bad k) g h = record { calls = e; number = k; bad = g }
-      go true e (Number n after) g h = absurd (clash (sym h))
+      go : (a : Bool) → is_call_tag tag ≡ a → (r : Result Named ℕ) → named_in tag 0 l ≡ r → (a && names_none r) ≡ true → Nameless
+      go true e (Err k) g h = record { calls = e; number = k; bad = g }
+      go true e (Ok n) g h = absurd (clash (sym h))
       go false e r g h = absurd (clash (sym h))
 
   -- a call that names a number, and stands at `from`
   pub record NamesNumber (from : ℕ) : Type 0 where
     pub number : ℕ
     pub after : ℕ
-    pub is : named_in tag from l ≡ Number number after
+    pub is : named_in tag from l ≡ Ok (record { number = number; next = after })
 
   pub names_number : (from : ℕ) → is_call_tag tag ≡ true → nameless_of tag l ≡ false → NamesNumber from
   names_number from c h = go (named_in tag from l) refl
     where
-      go : (r : Named) → named_in tag from l ≡ r → NamesNumber from
-      go (Number n after) g = record { number = n; after = after; is = g }
-      go (Bad k) g = absurd (clash (sym (nameless_bad c from k g) ∙ h))
+      go : (r : Result Named ℕ) → named_in tag from l ≡ r → NamesNumber from
+      go (Ok n) g = record { number = n.number; after = n.next; is = g }
+      go (Err k) g = absurd (clash (sym (nameless_bad c from k g) ∙ h))

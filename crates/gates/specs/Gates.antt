@@ -18,7 +18,7 @@ use Rattle.records.specs.declared.State.{State}
 use Rattle.records.specs.declared.Stop.{Stop}
 use Rattle.records.specs.declared.Stop.TheVariants.{Ended, Stuck}
 use Rattle.refusals.specs.declared.Reason.TheVariants.{IndexOutOfRange}
-use Rattle.refusals.specs.Reasons.{number_of}
+use Rattle.refusals.specs.declared.Reason.{Reason}
 use Rattle.gates.specs.declared.Mode.{Mode}
 use Rattle.gates.specs.declared.Repeats.{Repeats}
 
@@ -131,14 +131,14 @@ pub record StepTaken (mode : Mode) (tag : ℕ) (l : List ℕ) (st s : State) : T
   pub enterable : Enterable mode tag l
   pub step : OneStep mode.limit st s
 
-pub record NoStepLeft (mode : Mode) (tag : ℕ) (l : List ℕ) (base : Place) (st : State) (n : ℕ) (p : Place) (s : State) : Type 0 where
+pub record NoStepLeft (mode : Mode) (tag : ℕ) (l : List ℕ) (base : Place) (st : State) (e : Reason) (p : Place) (s : State) : Type 0 where
   pub enterable : Enterable mode tag l
-  pub none : NoStep mode.limit base st n p s
+  pub none : NoStep mode.limit base st e p s
 
 -- what entering a statement with this tag and this content answers
 unfoldable pub Entered : Mode → (tag : ℕ) → List ℕ → Place → State → Result State Stop → Type 0
 Entered mode tag l base st (Ok s) = StepTaken mode tag l st s
-Entered mode tag l base st (Err (Ended e p s)) = NoStepLeft mode tag l base st (number_of e) p s
+Entered mode tag l base st (Err (Ended e p s)) = NoStepLeft mode tag l base st e p s
 Entered mode tag l base st (Err Stuck) = Enterable mode tag l → ⊥
 
 -- the gate or the cx of this tag

@@ -1,7 +1,7 @@
 // The numbers laid out: the qubits and bits that a program declares, and the wires of an instance.
 #![tactic(auto)]
 
-ghost use Rattle.std.specs.Prelude.{◌≡◌, [], ◌∷◌, map, ◌≤◌, length, take};
+ghost use Rattle.std.specs.Prelude.{◌≡◌, [], ◌∷◌, map, ◌≤◌, length, take, Ok};
 ghost use Rattle.std.proofs.Math.Seq.{slice};
 ghost use Rattle.language.specs.Limits.{longest_program, most_parameters};
 ghost use Rattle.language.specs.Machine.{begin};
@@ -13,16 +13,9 @@ ghost use Rattle.calls.specs.Families.{FamilyHead};
 ghost use Rattle.runs.specs.Whole.{Acceptable};
 ghost use Rattle.laid_out.specs.Numbers.{size_said, Counts, WiresAt, WireCount};
 
-use fields::Header;
 use indexes::VALUES;
-use layout::{Laid, Layout, Sizes};
 use limits::{MOST_FAMILIES, MOST_PARAMETERS};
-use operands::{Operand, Parameter};
-
-// Tags of the fields that declare qubits and bits.
-const QREG: u8 = 2;
-
-const CREG: u8 = 3;
+use operands::{Operand, Parameter, Scope};
 
 // All qubits and all bits that a program declares.
 #[derive(Clone, Copy)]
@@ -51,22 +44,16 @@ pub fn declared(program: &[u8]) -> Locations
     let mut at: usize = 0;
     let mut qubits: usize = 0;
     let mut bits: usize = 0;
-    loop {
-        let Header::Whole(tag, next) = fields::header_at(program, at, to) else {
-            return Locations { qubits, bits };
-        };
-        let from = at + 3;
-        let size = register_size(program, from, next);
-        at = next;
-        if tag == QREG {
-            qubits += size;
-            continue;
+    while let Ok(header) = fields::header_at(program, at, to) {
+        let size = register_size(program, at + 3, header.next);
+        at = header.next;
+        match header.tag {
+            fields::QREG => qubits += size,
+            fields::CREG => bits += size,
+            _ => {}
         }
-        if tag != CREG {
-            continue;
-        }
-        bits += size;
     }
+    Locations { qubits, bits }
 }
 
 // The wires of a parameter.
@@ -86,28 +73,18 @@ fn wires_in(params: [Parameter; MOST_PARAMETERS], count: usize) -> usize
     ensures { result ≡ wires_in (map of_parameter (take count params)) }
 {
     let mut total: usize = 0;
-    let mut i: usize = 0;
-    while i < count {
-        let parameter = params[i];
-        let operand = parameter.operand;
-        total += wires_of(operand);
-        i += 1;
+    for i in 0..count {
+        total += wires_of(params[i].operand);
     }
     total
 }
 
-// The wires of a layout, 0 where it ends.
-fn wires_laid(layout: Laid) -> usize
-    requires { layout.scope.count ≤ most_parameters }
-    ensures { result ≡ wires_laid (laid layout begin) }
+// The wires of a layout.
+fn wires_laid(scope: Scope) -> usize
+    requires { scope.count ≤ most_parameters }
+    ensures { result ≡ wires_laid (laid (Ok scope) begin) }
 {
-    let answer = layout.answer;
-    let Layout::Done = answer else {
-        return 0;
-    };
-    let scope = layout.scope;
-    let params = scope.params;
-    wires_in(params, fields::wide(scope.count))
+    wires_in(scope.params, usize::from(scope.count))
 }
 
 // The wires that the family whose field is at `at` lays out at these sizes, 0 where they do not fit it.
@@ -115,15 +92,18 @@ fn wires_at(program: &[u8], at: usize, sizes: &[u8]) -> usize
     requires { FamilyHead program.now at }
     ensures { WiresAt program.now at sizes.now result }
 {
-    let many = fields::wide(program[at + 3]);
+    let many = usize::from(program[at + 3]);
     let mut values = [0i32; VALUES];
-    let Sizes::Fit = layout::read_sizes(sizes, many, &mut values) else {
+    if layout::read_sizes(sizes, many, &mut values).is_err() {
         return 0;
-    };
+    }
     let to = calls::past(program, at);
     let from = at + 5;
-    let count = fields::wide(program[at + 4]);
-    wires_laid(layout::lay_out(program, from, to, count, &values, many))
+    let count = usize::from(program[at + 4]);
+    match layout::lay_out(program, from, to, count, &values, many) {
+        Ok(scope) => wires_laid(scope),
+        Err(_) => 0,
+    }
 }
 
 // The wires that an instance of a family of an accepted program lays out.
@@ -136,5 +116,5 @@ pub fn wires(program: &[u8], family: usize, sizes: &[u8]) -> usize
     if n <= family {
         return 0;
     }
-    wires_at(program, fields::long(table[family]), sizes)
+    wires_at(program, usize::from(table[family]), sizes)
 }

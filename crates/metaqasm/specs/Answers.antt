@@ -1,12 +1,14 @@
 -- What the answers of the calls from C stand for, and what is promised of them for an accepted program.
-use Rattle.std.specs.Prelude.{ℕ, ◌≡◌, List, length}
+use Rattle.std.specs.Prelude.{ℕ, ◌≡◌, List, length, Ok, Err}
+use Rattle.std.specs.Prelude.{Result as CodeResult}
 use Rattle.language.specs.Read.{read}
 use Rattle.language.specs.Machine.{run_program}
 use Rattle.language.specs.Result.{Result, Answer as Reply, finished, check_result}
 use Rattle.language.specs.Sound.{qubits_declared, bits_declared}
 use Rattle.language.specs.Theorem.{Reports, InstanceAnswers}
-use Rattle.records.specs.declared.Answer.{Answer}
-use Rattle.records.specs.declared.Answer.TheVariants.{Going, Ended, Stuck}
+use Rattle.records.specs.declared.State.{State}
+use Rattle.records.specs.declared.Stop.{Stop}
+use Rattle.records.specs.declared.Stop.TheVariants.{Ended, Stuck}
 use Rattle.metaqasm.specs.declared.MetaqasmResult.{MetaqasmResult}
 
 -- the four numbers of a result
@@ -14,10 +16,10 @@ abbrev pub answered : MetaqasmResult → Result
 answered r = record { number = r.number; place = r.place; records = r.records; steps = r.steps }
 
 -- an answer that a result can tell: not stuck
-abbrev pub NotStuck : Answer → Type 0
-NotStuck (Going s) = Unit {0}
-NotStuck (Ended n p s) = Unit {0}
-NotStuck Stuck = ⊥
+abbrev pub NotStuck : CodeResult State Stop → Type 0
+NotStuck (Ok s) = Unit {0}
+NotStuck (Err (Ended e p s)) = Unit {0}
+NotStuck (Err Stuck) = ⊥
 
 -- Where the check gives 0, the answer of a run reports the machine: 0 comes exactly where it came to the program's end, and number, place, records and steps are its own.
 -- The number is 0, 24 to 27 or 32, the answer keeps to the limit and the output, and its records name only what is declared.

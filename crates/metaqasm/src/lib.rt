@@ -14,9 +14,9 @@ ghost use Rattle.qasm_text.specs.TextResult.{text_finished, without_text, printe
 ghost use Rattle.metaqasm.specs.Answers.{answered, NotStuck, SoundRun, SoundInstance};
 ghost use Rattle.metaqasm.specs.TextAnswers.{text_answered, SoundRunText, SoundInstanceText};
 
-use check_program::Outcome;
 use limits::RECORD_SIZE;
-use records::{Answer, State};
+use records::{State, Stop};
+use refusals::Refusal;
 
 // The answer of a call: number (0 for done), place, records and steps.
 #[repr(C)]
@@ -32,22 +32,15 @@ pub struct MetaqasmResult {
 fn checked(program: &[u8]) -> MetaqasmResult
     ensures { answered result ≡ check_result program.now }
 {
-    match check_program::check_program(program) {
-        Outcome::Accepted => MetaqasmResult {
-            number: 0,
-            place: 0,
-            records: 0,
-            steps: 0,
-        },
-        Outcome::Turned(number, place) => {
-            let narrow = place as u32;
-            MetaqasmResult {
-                number,
-                place: narrow,
-                records: 0,
-                steps: 0,
-            }
-        }
+    let (number, place) = match check_program::check_program(program) {
+        Ok(()) => (0, 0),
+        Err(Refusal(reason, place)) => (reason.number(), place as u32),
+    };
+    MetaqasmResult {
+        number,
+        place,
+        records: 0,
+        steps: 0,
     }
 }
 
@@ -64,15 +57,15 @@ fn result(number: u32, place: u32, s: State) -> MetaqasmResult
 }
 
 // The result of a run that came to an answer.
-fn result_of_answer(a: Answer) -> MetaqasmResult
+fn result_of_answer(a: Result<State, Stop>) -> MetaqasmResult
     requires { NotStuck a }
     ensures { (output : List ℕ) → concluded output a ≡ finished (record { result = answered result; output = output }) }
 {
     match a {
-        Answer::Going(s) => result(0, 0, s),
-        Answer::Ended(n, p, s) => result(n as u32, p as u32, s),
+        Ok(s) => result(0, 0, s),
+        Err(Stop::Ended(reason, place, s)) => result(reason.number(), u32::from(place), s),
         // Not reached: what is required rules it out, and the theorem gives that. Its number is none that a call answers.
-        Answer::Stuck => result(
+        Err(Stop::Stuck) => result(
             4294967295,
             0,
             State {

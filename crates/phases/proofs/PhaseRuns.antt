@@ -1,7 +1,7 @@
 -- Phases, as runs of the machine. Assumes nothing.
 use Prim.Native.Nat.{ℕ, ◌+◌, ◌-◌, ◌≤◌, ◌<◌}
 use mathlib.Core.Path.{◌≡◌, refl, sym, ap, ◌∙◌, subst}
-use mathlib.Core.List.{List, [], ◌∷◌}
+use mathlib.Core.List.{List}
 use mathlib.Core.Bool.{Bool, true, false}
 use native.Mathlib.Omega.{arith}
 use borrow.Author.Tests.{eq-eqb, ne_eqb, eqb-true, eqb-false, lt-ltb, le-ltb}
@@ -10,33 +10,30 @@ use lib.IntN.{ℤ, pos, negsuc}
 use lib.ListN.{length, drop}
 use lib.Seq.{slice, drop-drop}
 use lib.Signed.{lt_z}
-use types.Run.{OneOf}
-use denote.Enum.Declared.{tag_of}
+use Rattle.std.specs.Prelude.{Result, Ok, Err}
 use Rattle.language.specs.Tree.{Place, bad_index, bad_operand}
 use Rattle.language.specs.Read.{Field, fields, due, operand_due, read_operand, outer_index}
 use Rattle.language.specs.Machine.{Run, Frame, Direction, written, do_cx, end_at, no_meaning, after, ◌>>=◌, evaluate, natural_of, halvings, do_phase, do_cphase, run_phase, run_cphase}
 use Rattle.language.specs.Result.{op, first_number, second_number, halvings_of}
 use Rattle.language.proofs.Integers.{integers}
-use Rattle.fields.specs.declared.Header.TheVariants.{Whole}
-use Rattle.fields.specs.contracts.Header.{the_type}
-use Rattle.fields.proofs.Parts.{not_first}
+use Rattle.fields.specs.declared.NoHeader.{NoHeader}
 use Rattle.fields.proofs.Between.{look_in, in_whole}
-use Rattle.indexes.specs.declared.Value.{Value}
-use Rattle.indexes.specs.declared.Value.TheVariants.{Is, Over as v_over, Stuck as v_stuck}
-use Rattle.indexes.specs.Values.{value_told, IndexAt}
-use Rattle.indexes.specs.contracts.Value.{the_type as value-type}
+use Rattle.indexes.specs.declared.Fault.{Fault}
+use Rattle.indexes.specs.declared.Fault.TheVariants.{Over, Stuck}
+use Rattle.indexes.specs.Values.{fault_told, value_told, IndexAt}
 use Rattle.indexes.proofs.Operations.{part_none}
 use Rattle.operands.specs.Meanings.{the_wire}
 use Rattle.records.specs.declared.State.{State}
-use Rattle.records.specs.declared.Answer.{Answer}
-use Rattle.records.specs.Outcomes.{Does, ActionNumbers}
+use Rattle.records.specs.declared.Stop.{Stop}
+use Rattle.records.specs.declared.Op.{Op}
+use Rattle.records.specs.declared.Op.TheVariants.{Cx}
+use Rattle.records.specs.Outcomes.{op_number, Does, ActionNumbers}
 use Rattle.gates.specs.declared.Mode.{Mode}
 use Rattle.gates.specs.Gates.{direction_of, gate_for, code_of, on_wire, on_two_wires, OnWires, gate_by}
 use Rattle.gates.proofs.GateRuns.{does_as, gate_acts, cx_acts, gate_one, gate_two}
 use Rattle.phases.specs.declared.Halvings.{Halvings}
-use Rattle.phases.specs.declared.Halvings.TheVariants.{Are, Over, Stuck}
-use Rattle.phases.specs.declared.Parts.TheVariants.{Are as PartsAre, Over as p_over, Stuck as p_stuck}
-use Rattle.phases.specs.Phases.{Parted, PartsOf, without_of, halving, Begins, Halved, phase_op, cphase_op, phase_at, action_at}
+use Rattle.phases.specs.declared.Parts.{Parts}
+use Rattle.phases.specs.Phases.{PartedOn, Parted, PartsOf, halving, Begins, Halved, phase_op, cphase_op, phase_at, action_at}
 
 -- ---- k
 
@@ -45,30 +42,29 @@ module _ (l : List ℕ) (from to : ℕ) (values : List ℤ) where
   abbrev due_first : Place → Place → Place → Run ℤ
   due_first p q t = evaluate p values (due outer_index (bad_index 4 q) (fields t (slice from to l)))
 
-  pub no_value : (v : Value) → IndexAt (slice from to l) 0 values v → OneOf (1 ∷ 2 ∷ []) (tag_of value-type v) → Halved l from to values (without_of v)
-  unfolding without_of Begins halving halvings ◌>>=◌ after value_told
-  no_value (Is z) w h = absurd (not_first h)
-  no_value v_over w h = record { begins = tt; same = λ p q t next. ap (λ (a : Run ℤ). (a >>= natural_of) >>= next) (w.same p q t) }
-  no_value v_stuck w h = record { begins = tt; same = λ p q t next. ap (λ (a : Run ℤ). (a >>= natural_of) >>= next) (w.same p q t) }
+  pub no_value : (e : Fault) → IndexAt (slice from to l) 0 values (Err e) → Halved l from to values (Err e)
+  unfolding Begins halving halvings fault_told ◌>>=◌ after value_told
+  no_value Over w = record { begins = tt; same = λ p q t next. ap (λ (a : Run ℤ). (a >>= natural_of) >>= next) (w.same p q t) }
+  no_value Stuck w = record { begins = tt; same = λ p q t next. ap (λ (a : Run ℤ). (a >>= natural_of) >>= next) (w.same p q t) }
 
-  pub no_field : OneOf (1 ∷ 2 ∷ []) (tag_of the_type (look_in l from to)) → Halved l from to values Stuck
-  unfolding Begins halving halvings ◌>>=◌ after
-  no_field h = record { begins = tt; same = λ p q t next. sym (ap (λ (a : Run ℤ). (a >>= natural_of) >>= next) (part_none 16 l from to values p q t h)) }
+  pub no_field : {k : NoHeader} → look_in l from to ≡ Err k → Halved l from to values (Err Stuck)
+  unfolding Begins halving halvings fault_told ◌>>=◌ after
+  no_field h = record { begins = tt; same = λ p q t next. sym (ap (λ (a : Run ℤ). (a >>= natural_of) >>= next) (part_none 16 l from to values h p q t)) }
 
-  module _ (z : ℤ) (w : IndexAt (slice from to l) 0 values (Is z)) where
-    pub below_none : lt_z z (pos 0) ≡ true → Halved l from to values Stuck
-    unfolding Begins halving halvings natural_of ◌>>=◌ after value_told
+  module _ (z : ℤ) (w : IndexAt (slice from to l) 0 values (Ok z)) where
+    pub below_none : lt_z z (pos 0) ≡ true → Halved l from to values (Err Stuck)
+    unfolding Begins halving halvings natural_of fault_told ◌>>=◌ after value_told
     below_none h = record { begins = tt; same = λ p q t next. go z h p next ∙ ap (λ (a : Run ℤ). (a >>= natural_of) >>= next) (w.same p q t) }
       where
-        go : (z : ℤ) → lt_z z (pos 0) ≡ true → (p : Place) (next : ℕ → Run (Unit {0})) → no_meaning ≡ ((value_told p (Is z) >>= natural_of) >>= next)
+        go : (z : ℤ) → lt_z z (pos 0) ≡ true → (p : Place) (next : ℕ → Run (Unit {0})) → no_meaning ≡ ((value_told p (Ok z) >>= natural_of) >>= next)
         go (pos n) h p next = absurd (omega integers)
         go (negsuc n) h p next = refl
 
-    pub are : (k u mid : ℕ) → z ≡ pos k → look_in l from to ≡ Whole u mid → Halved l from to values (Are k mid)
+    pub are : (k u mid : ℕ) → z ≡ pos k → look_in l from to ≡ Ok (record { tag = u; next = mid }) → Halved l from to values (Ok (record { k = k; next = mid }))
     unfolding Begins halving halvings natural_of ◌>>=◌ after value_told
     are k u mid e f = record {
       begins = λ t. ap (drop 1) ((in_whole l from to u mid f).first t);
-      same = λ p q t next. ap (λ (x : ℤ). (value_told p (Is x) >>= natural_of) >>= next) (sym e) ∙ ap (λ (a : Run ℤ). (a >>= natural_of) >>= next) (w.same p q t);
+      same = λ p q t next. ap (λ (x : ℤ). (value_told p (Ok x) >>= natural_of) >>= next) (sym e) ∙ ap (λ (a : Run ℤ). (a >>= natural_of) >>= next) (w.same p q t);
     }
 
 -- ---- a gate or a phase
@@ -101,7 +97,7 @@ module _ (mode : Mode) (room : ℕ) (p tag : ℕ) (l : List ℕ) (from to : ℕ)
   abbrev two : List Field → ℕ → Run (Unit {0})
   two fs k = on_two_wires mode room p fs f k (do_cphase f.direction k)
 
-  module _ (r : Halvings) (h : Halved l from to f.variables r) where
+  module _ (r : Result Halvings Fault) (h : Halved l from to f.variables r) where
     pub phase_told : tag ≡ 40 → phase_at mode room tag p (slice from to l) f ≡ halving p r (one (drop 1 (fields (p + 3) (slice from to l))))
     unfolding phase_at run_phase
     phase_told e = rw (eq-eqb tag 40 e) (sym (h.same p p (p + 3) (one (drop 1 (fields (p + 3) (slice from to l))))))
@@ -112,18 +108,18 @@ module _ (mode : Mode) (room : ℕ) (p tag : ℕ) (l : List ℕ) (from to : ℕ)
         (due read_operand (bad_operand 4 p) gs) f) (sym (drop-drop 1 1 (fields (p + 3) (slice from to l)))) ∙ sym (h.same p p (p + 3) (two (drop 1 (fields (p + 3) (slice from to l))))))
 
     -- k is known
-    module _ (k mid : ℕ) (e : r ≡ Are k mid) where
+    module _ (k mid : ℕ) (e : r ≡ Ok (record { k = k; next = mid })) where
       begins : drop 1 (fields (p + 3) (slice from to l)) ≡ fields (p + 3 + (mid - from)) (slice mid to l)
       unfolding Begins
       begins = subst (Begins l from to) e h.begins (p + 3)
 
       pub phase_are : tag ≡ 40 → phase_at mode room tag p (slice from to l) f ≡ one (fields (p + 3 + (mid - from)) (slice mid to l)) k
       unfolding halving
-      phase_are t = phase_told t ∙ ap (λ (x : Halvings). halving p x (one (drop 1 (fields (p + 3) (slice from to l))))) e ∙ ap (λ (fs : List Field). one fs k) begins
+      phase_are t = phase_told t ∙ ap (λ (x : Result Halvings Fault). halving p x (one (drop 1 (fields (p + 3) (slice from to l))))) e ∙ ap (λ (fs : List Field). one fs k) begins
 
       pub cphase_are : (tag ≡ 40 → ⊥) → phase_at mode room tag p (slice from to l) f ≡ two (fields (p + 3 + (mid - from)) (slice mid to l)) k
       unfolding halving
-      cphase_are t = cphase_told t ∙ ap (λ (x : Halvings). halving p x (two (drop 1 (fields (p + 3) (slice from to l))))) e ∙ ap (λ (fs : List Field). two fs k) begins
+      cphase_are t = cphase_told t ∙ ap (λ (x : Result Halvings Fault). halving p x (two (drop 1 (fields (p + 3) (slice from to l))))) e ∙ ap (λ (fs : List Field). two fs k) begins
 
     -- there is none
     by_tag : (run : Run (Unit {0})) → ((next : ℕ → Run (Unit {0})) → halving p r next ≡ run) → phase_at mode room tag p (slice from to l) f ≡ run
@@ -133,23 +129,27 @@ module _ (mode : Mode) (room : ℕ) (p tag : ℕ) (l : List ℕ) (from to : ℕ)
         go true e = phase_told (eqb-true tag 40 e) ∙ g _
         go false e = cphase_told (eqb-false tag 40 e) ∙ g _
 
-    pub phase_over : r ≡ Over → phase_at mode room tag p (slice from to l) f ≡ end_at 24 p
+    pub phase_fault : {e : Fault} → r ≡ Err e → phase_at mode room tag p (slice from to l) f ≡ fault_told p e
     unfolding halving
-    phase_over e = by_tag (end_at 24 p) (λ next. ap (λ (x : Halvings). halving p x next) e)
-
-    pub phase_stuck : r ≡ Stuck → phase_at mode room tag p (slice from to l) f ≡ no_meaning
-    unfolding halving
-    phase_stuck e = by_tag no_meaning (λ next. ap (λ (x : Halvings). halving p x next) e)
+    phase_fault {e} q = by_tag (fault_told p e) (λ next. ap (λ (x : Result Halvings Fault). halving p x next) q)
 
 -- ---- the parts of a gate or a phase
 
 module _ (tag : ℕ) (l : List ℕ) (from to : ℕ) (values : List ℤ) (reversed : Bool) where
-  pub parts_cx : tag ≡ 35 → PartsOf tag l from to values reversed (PartsAre false 4 0 from)
+  -- the parts, in place of an op its byte
+  abbrev PartsBy : (single : Bool) → (code k at : ℕ) → Type 0
+  PartsBy single code k at = (mode : Mode) (room : ℕ) (p : Place) (f : Frame) → f.variables ≡ values → f.direction ≡ direction_of reversed → PartedOn single mode room tag p l from to f code k at
+
+  pub parts_by : (q : Parts) → PartsBy q.single (op_number q.op) q.k q.next → PartsOf tag l from to values reversed (Ok q)
   unfolding Parted
+  parts_by q h = h
+
+  pub parts_cx : tag ≡ 35 → PartsBy false 4 0 from
+  unfolding PartedOn
   parts_cx h mode room p f e d = record { place = p + 3; action = do_cx; numbers = cx_acts; is = action_gate mode room tag p (slice from to l) f (omega arith) ∙ gate_two mode room p tag (slice from to l) f h }
 
-  pub parts_gate : (tag ≡ 35 → ⊥) → tag < 36 → PartsOf tag l from to values reversed (PartsAre true (code_of tag reversed) 0 from)
-  unfolding Parted
+  pub parts_gate : (tag ≡ 35 → ⊥) → tag < 36 → PartsBy true (code_of tag reversed) 0 from
+  unfolding PartedOn
   parts_gate h k mode room p f e d = record {
     place = p + 3;
     action = written f.direction (gate_for tag);
@@ -157,21 +157,17 @@ module _ (tag : ℕ) (l : List ℕ) (from to : ℕ) (values : List ℤ) (reverse
     is = action_gate mode room tag p (slice from to l) f k ∙ gate_one mode room p tag (slice from to l) f h;
   }
 
-  module _ (h : 36 ≤ tag) (r : Halvings) (w : Halved l from to values r) where
+  module _ (h : 36 ≤ tag) (r : Result Halvings Fault) (w : Halved l from to values r) where
     told : (f : Frame) → f.variables ≡ values → Halved l from to f.variables r
     told f e = subst (λ (zs : List ℤ). Halved l from to zs r) (sym e) w
 
-    pub parts_over : r ≡ Over → PartsOf tag l from to values reversed p_over
+    pub parts_fault : {e : Fault} → r ≡ Err e → PartsOf tag l from to values reversed (Err e)
     unfolding Parted
-    parts_over o mode room p f e d = action_phase mode room tag p (slice from to l) f h ∙ phase_over mode room p tag l from to f r (told f e) o
+    parts_fault o mode room p f e d = action_phase mode room tag p (slice from to l) f h ∙ phase_fault mode room p tag l from to f r (told f e) o
 
-    pub parts_stuck : r ≡ Stuck → PartsOf tag l from to values reversed p_stuck
-    unfolding Parted
-    parts_stuck o mode room p f e d = action_phase mode room tag p (slice from to l) f h ∙ phase_stuck mode room p tag l from to f r (told f e) o
-
-    module _ (k mid : ℕ) (i : r ≡ Are k mid) where
-      pub parts_phase : tag ≡ 40 → PartsOf tag l from to values reversed (PartsAre true (phase_op reversed) k mid)
-      unfolding Parted
+    module _ (k mid : ℕ) (i : r ≡ Ok (record { k = k; next = mid })) where
+      pub parts_phase : tag ≡ 40 → PartsBy true (phase_op reversed) k mid
+      unfolding PartedOn
       parts_phase t mode room p f e d = record {
         place = p + 3 + (mid - from);
         action = do_phase f.direction k;
@@ -179,8 +175,8 @@ module _ (tag : ℕ) (l : List ℕ) (from to : ℕ) (values : List ℤ) (reverse
         is = action_phase mode room tag p (slice from to l) f h ∙ phase_are mode room p tag l from to f r (told f e) k mid i t;
       }
 
-      pub parts_cphase : (tag ≡ 40 → ⊥) → PartsOf tag l from to values reversed (PartsAre false (cphase_op reversed) k mid)
-      unfolding Parted
+      pub parts_cphase : (tag ≡ 40 → ⊥) → PartsBy false (cphase_op reversed) k mid
+      unfolding PartedOn
       parts_cphase t mode room p f e d = record {
         place = p + 3 + (mid - from);
         action = do_cphase f.direction k;
@@ -189,8 +185,13 @@ module _ (tag : ℕ) (l : List ℕ) (from to : ℕ) (values : List ℤ) (reverse
       }
 
 -- what is written on the wires of its parts is what it does
-pub parts_do : (single : Bool) (o : List ℕ) (st : State) (o' : List ℕ) (r : Answer) (mode : Mode) (tag : ℕ) (p : Place) (l : List ℕ) (from to : ℕ) (f : Frame) (code k at : ℕ)
-    → Parted mode (length o) tag p l from to f (PartsAre single code k at) → OnWires single o st o' r mode p (slice at to l) f code k → Does o st o' r (action_at mode (length o) tag p (slice from to l) f)
-unfolding Parted OnWires
-parts_do true o st o' r mode tag p l from to f code k at h w = does_as o st o' r _ (action_at mode (length o) tag p (slice from to l) f) h.is (w h.place h.action h.numbers)
-parts_do false o st o' r mode tag p l from to f code k at h w = does_as o st o' r _ (action_at mode (length o) tag p (slice from to l) f) h.is (w h.place h.action h.numbers)
+pub parts_do : (o : List ℕ) (st : State) (o' : List ℕ) (r : Result State Stop) (mode : Mode) (tag : ℕ) (p : Place) (l : List ℕ) (from to : ℕ) (f : Frame) (q : Parts)
+    → Parted mode (length o) tag p l from to f (Ok q) → OnWires q.single o st o' r mode p (slice q.next to l) f (op_number q.op) q.k → Does o st o' r (action_at mode (length o) tag p (slice from to l) f)
+unfolding Parted
+parts_do o st o' r mode tag p l from to f q h w = go q.single h w
+  where
+    go : (single : Bool) → PartedOn single mode (length o) tag p l from to f (op_number q.op) q.k q.next → OnWires single o st o' r mode p (slice q.next to l) f (op_number q.op) q.k
+        → Does o st o' r (action_at mode (length o) tag p (slice from to l) f)
+    unfolding PartedOn OnWires
+    go true h w = does_as o st o' r _ (action_at mode (length o) tag p (slice from to l) f) h.is (w h.place h.action h.numbers)
+    go false h w = does_as o st o' r _ (action_at mode (length o) tag p (slice from to l) f) h.is (w h.place h.action h.numbers)

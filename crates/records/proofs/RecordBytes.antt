@@ -13,7 +13,9 @@ use Rattle.language.specs.Machine.{Record, Action, Frame, after, ◌>>◌, few_h
 use Rattle.language.specs.Machine as machine
 use Rattle.language.specs.Result.{record_bytes, bytes_of, condition_byte, condition_bit, output_bytes, written_into}
 use Rattle.records.specs.declared.State.{State}
-use Rattle.records.specs.declared.Answer.TheVariants.{Going, Ended}
+use Rattle.records.specs.declared.Stop.TheVariants.{Ended}
+use Rattle.refusals.specs.declared.Reason.TheVariants.{KTooLarge, OutputFull}
+use Rattle.std.specs.Prelude.{Ok, Err}
 use Rattle.records.specs.declared.Condition.{Condition}
 use Rattle.records.specs.Outcomes.{answer_told, flat_outcome, Does, condition_of, number_bytes, bytes_by, ActionNumbers}
 
@@ -64,11 +66,11 @@ into_more lent rs r l at b e s h q =
 
 module _ (limit : ℕ) (l : List ℕ) (st : State) (p : Place) (f : Frame) (a : Action) (k : ℕ) where
   -- a k that is too large
-  pub write_many : most_halvings < k → Does l st l (Ended 32 p st) (few_halvings p k >> write limit (length l) p f a)
+  pub write_many : most_halvings < k → Does l st l (Err (Ended KTooLarge p st)) (few_halvings p k >> write limit (length l) p f a)
   unfolding few_halvings ◌>>◌ after answer_told flat_outcome
   write_many h lent rs w = simp (lt-leb k most_halvings h) (let e = w.output in let s = w.size in cc)
 
-  pub write_full : k ≤ most_halvings → length l < st.written + record_size → Does l st l (Ended 27 p st) (few_halvings p k >> write limit (length l) p f a)
+  pub write_full : k ≤ most_halvings → length l < st.written + record_size → Does l st l (Err (Ended OutputFull p st)) (few_halvings p k >> write limit (length l) p f a)
   unfolding few_halvings ◌>>◌ after write answer_told flat_outcome
   write_full m h lent rs w =
       let s = w.size in
@@ -76,7 +78,7 @@ module _ (limit : ℕ) (l : List ℕ) (st : State) (p : Place) (f : Frame) (a : 
 
   pub write_room : (l' : List ℕ) (c : Condition) (code first second : ℕ) → k ≤ most_halvings → f.condition ≡ condition_of c → ActionNumbers a code first second k → st.written + record_size ≤ length l
       → l' ≡ sets l st.written (bytes_by code (condition_byte (condition_of c)) first second (condition_bit (condition_of c)) k)
-      → Does l st l' (Going (record { written = st.written + record_size; steps = st.steps })) (few_halvings p k >> write limit (length l) p f a)
+      → Does l st l' (Ok (record { written = st.written + record_size; steps = st.steps })) (few_halvings p k >> write limit (length l) p f a)
   unfolding few_halvings ◌>>◌ after write answer_told flat_outcome
   write_room l' c code first second m e u h j lent rs w =
       let s = w.size in

@@ -11,6 +11,8 @@ use Rattle.records.specs.declared.Stop.{Stop}
 use Rattle.records.specs.declared.Stop.TheVariants.{Ended, Stuck}
 use Rattle.records.specs.declared.Op.{Op}
 use Rattle.records.specs.declared.Op.TheVariants.{H, T, Tdg, Cx, Measure, Reset, Phase, PhaseInverse, Cphase, CphaseInverse}
+use Rattle.refusals.specs.declared.Reason.{Reason}
+use Rattle.refusals.specs.declared.Reason.TheVariants.{OutOfSteps}
 use Rattle.refusals.specs.Reasons.{number_of}
 use Rattle.records.specs.declared.Condition.{Condition}
 use Rattle.records.specs.declared.Condition.TheVariants.{Always, IsZero, IsOne}
@@ -55,16 +57,16 @@ pub record OneStep (limit : ℕ) (st s : State) : Type 0 where
   pub more : s.steps ≡ st.steps + 1
 
 -- no step is left for the statement at `place`
-pub record NoStep (limit : ℕ) (place : Place) (st : State) (n : ℕ) (p : Place) (s : State) : Type 0 where
+pub record NoStep (limit : ℕ) (place : Place) (st : State) (e : Reason) (p : Place) (s : State) : Type 0 where
   pub none : limit ≤ st.steps
-  pub number : n ≡ 26
+  pub reason : e ≡ OutOfSteps
   pub here : p ≡ place
   pub same : s ≡ st
 
 -- what taking a step answers
 unfoldable pub Stepped : (limit : ℕ) → Place → State → Result State Stop → Type 0
 Stepped limit place st (Ok s) = OneStep limit st s
-Stepped limit place st (Err (Ended e p s)) = NoStep limit place st (number_of e) p s
+Stepped limit place st (Err (Ended e p s)) = NoStep limit place st e p s
 Stepped limit place st (Err Stuck) = ⊥
 
 -- the byte of an op

@@ -11,7 +11,7 @@ use limits::{MOST_HALVINGS, RECORD_SIZE};
 use operands::Bit;
 use refusals::Reason;
 
-// What a record says is done, by the number of its first byte.
+// What a record says is done, with its first byte.
 #[derive(Clone, Copy, Debug, PartialEq, Eq)]
 pub enum Op {
     H = 1,
@@ -24,6 +24,15 @@ pub enum Op {
     PhaseInverse = 8,
     Cphase = 9,
     CphaseInverse = 10,
+}
+
+impl Op {
+    // The byte of a record.
+    fn number(self) -> u8
+        ensures { result ≡ op_number self }
+    {
+        self as u8
+    }
 }
 
 // What changes as a program runs: the bytes written, and the steps taken.
@@ -140,7 +149,7 @@ pub fn write_record(
         return Err(Stop::Ended(Reason::OutputFull, place as u16, st));
     }
     let condition = numbers(c);
-    put_numbers(out, at, op as u8, condition.byte, a, b, condition.bit);
+    put_numbers(out, at, op.number(), condition.byte, a, b, condition.bit);
     put_halvings(out, at + 8, k as u16);
     Ok(State {
         written: at + RECORD_SIZE,

@@ -19,14 +19,14 @@ ghost use Rattle.runs.specs.Whole.{total_of, more_locations, register_from, size
 ghost use Rattle.runs.specs.TopFields.{globals_in, top_mode, under_mode, if_at, WholeField, IfReady, ActReady};
 ghost use Rattle.runs.specs.Conclusions.{concluded};
 
-use fields::Header;
 use gates::{LEVELS, Mode};
 use indexes::VALUES;
 use kinds::Kind;
-use layout::{Layout, Sizes};
+use layout::Unlaid;
 use limits::{MOST_FAMILIES, MOST_PARAMETERS};
-use operands::{Bit, BitMeaning, REGISTER_NUMBERS, Scope};
-use records::{Answer, Condition, State};
+use operands::{Bit, REGISTER_NUMBERS, Scope};
+use records::{Condition, State, Stop};
+use refusals::Reason;
 
 // Levels of nested statements under a condition.
 const UNDER_CONDITION: u8 = LEVELS - 1;
@@ -54,20 +54,18 @@ fn register(content: &[u8], quantum: bool, t: Totals, regs: &mut [u16; REGISTER_
         operands::declare(regs, count, Kind::Quantum, first as u16, n as u16);
         let qubits = first + n;
         return Totals {
-            families: t.families,
             registers,
             qubits,
-            bits: t.bits,
+            ..t
         };
     }
     let first = t.bits;
     operands::declare(regs, count, Kind::Classical, first as u16, n as u16);
     let bits = first + n;
     Totals {
-        families: t.families,
         registers,
-        qubits: t.qubits,
         bits,
+        ..t
     }
 }
 
@@ -136,7 +134,7 @@ fn once(
     mode: Mode,
     st: State,
     out: &mut [u8],
-) -> Answer
+) -> Result<State, Stop>
     requires from_le_to { (from ≤ to) × (to ≤ length program.now) }
     requires levels_bound { mode.variables + mode.levels ≤ most_values }
     requires tabled { Tabled program.now table.now mode.families_visible }
@@ -159,7 +157,7 @@ fn conditional(
     limit: u64,
     st: State,
     out: &mut [u8],
-) -> Answer
+) -> Result<State, Stop>
     requires whole_field { WholeField program.now at to }
     requires if_ready { IfReady (slice (at + 3) to program.now) }
     requires tabled { Tabled program.now table.now seen }
@@ -168,20 +166,25 @@ fn conditional(
     let mut vars = [0i32; VALUES];
     let from = at + 3;
     let first = from + 1;
-    let Header::Whole(_, mid) = fields::header_at(program, first, to) else {
-        return Answer::Stuck;
+    let Ok(header) = fields::header_at(program, first, to) else {
+        return Err(Stop::Stuck);
     };
-    let here = at as u16;
-    match operands::bit_at(program, first, to, &vars, 0, scope, regs) {
-        BitMeaning::Over => Answer::Ended(24, here, st),
-        BitMeaning::Stuck => Answer::Stuck,
-        BitMeaning::Is(b) => {
-            let mode = under_mode(limit, seen, condition(program[from], b));
-            once(
-                program, mid, to, &mut vars, scope, regs, table, mode, st, out,
-            )
-        }
-    }
+    let b = operands::bit_at(program, first, to, &vars, 0, scope, regs).map_err(|fault| gates::stop(
+        fault, at, st,
+    ))?;
+    let mode = under_mode(limit, seen, condition(program[from], b));
+    once(
+        program,
+        header.next,
+        to,
+        &mut vars,
+        scope,
+        regs,
+        table,
+        mode,
+        st,
+        out,
+    )
 }
 
 // Runs the top field with this tag from `at` to `next`, which declares nothing, after so much is declared. A statement is a list
@@ -197,7 +200,7 @@ fn act_top(
     limit: u64,
     st: State,
     out: &mut [u8],
-) -> Answer
+) -> Result<State, Stop>
     requires act_ready { ActReady tag (slice (at + 3) next program.now) × WholeField program.now at next }
     requires program_value { fields at (slice at next program.now) ≡ (field at tag (slice (at + 3) next program.now) ∷ []) }
     requires registers_le_most_registers { (t.registers ≤ most_registers) × (t.families ≤ most_families) }
@@ -208,23 +211,22 @@ fn act_top(
     let seen = t.families as u16;
     let scope = top_scope(t.registers);
     let mode = top_mode(limit, seen, 0);
-    if tag == 0 || 6 < tag {
+    if tag == 0 || fields::IF < tag {
         return once(
             program, at, next, &mut vars, scope, regs, table, mode, st, out,
         );
     }
-    let r = records::take_step(limit, at, st);
-    let Answer::Going(s) = r else {
-        return r;
-    };
+    let s = records::take_step(limit, at, st)?;
     let from = at + 3;
-    if tag == 4 {
-        return reset_measure::measure(program, from, next, at, &vars, scope, regs, mode, s, out);
+    match tag {
+        fields::MEASURE => {
+            reset_measure::measure(program, from, next, at, &vars, scope, regs, mode, s, out)
+        }
+        fields::RESET => {
+            reset_measure::reset(program, from, next, at, &vars, scope, regs, mode, s, out)
+        }
+        _ => conditional(program, at, next, seen, scope, regs, table, limit, s, out),
     }
-    if tag == 5 {
-        return reset_measure::reset(program, from, next, at, &vars, scope, regs, mode, s, out);
-    }
-    conditional(program, at, next, seen, scope, regs, table, limit, s, out)
 }
 
 // One family more.
@@ -233,12 +235,7 @@ fn more_families(t: Totals) -> Totals
     ensures { result ≡ more_families t }
 {
     let families = t.families + 1;
-    Totals {
-        families,
-        registers: t.registers,
-        qubits: t.qubits,
-        bits: t.bits,
-    }
+    Totals { families, ..t }
 }
 
 // Declares what the top field with this tag and content declares.
@@ -246,30 +243,18 @@ fn declare(content: &[u8], tag: u8, t: Totals, regs: &mut [u16; REGISTER_NUMBERS
     requires { DeclareReady tag content.now t }
     ensures { Declares tag content.now t regs.old regs.new result }
 {
-    if tag == 1 {
-        return more_families(t);
+    match tag {
+        fields::FAMILY => more_families(t),
+        fields::QREG => register(content, true, t, regs),
+        _ => register(content, false, t, regs),
     }
-    if tag == 2 {
-        return register(content, true, t, regs);
-    }
-    register(content, false, t, regs)
 }
 
 // Whether a top field with this tag declares something.
 fn is_declaring(tag: u8) -> bool
     ensures { DeclaringTag tag result }
 {
-    if tag == 0 {
-        return false;
-    }
-    tag < 4
-}
-
-fn narrow(n: usize) -> u16
-    requires { n ≤ longest_program }
-    ensures { result ≡ n }
-{
-    n as u16
+    matches!(tag, fields::FAMILY | fields::QREG | fields::CREG)
 }
 
 // Runs the top fields of a program, one after the other. The table of families is full, and that of registers is filled.
@@ -279,7 +264,7 @@ fn top_fields(
     regs: &mut [u16; REGISTER_NUMBERS],
     limit: u64,
     out: &mut [u8],
-) -> Answer
+) -> Result<State, Stop>
     requires acceptable { Acceptable program.now }
     requires full_table { FullTable program.now table.now }
     ensures { Does out.old started out.new result (run_tops limit (length out.old) (read program.now) nothing_yet) }
@@ -296,31 +281,24 @@ fn top_fields(
         written: 0,
         steps: 0,
     };
-    loop {
-        match fields::header_at(program, at, to) {
-            Header::End => return Answer::Going(s),
-            Header::Cut => return Answer::Stuck,
-            Header::Whole(tag, next) => {
-                let from = at + 3;
-                let content = &program[from..next];
-                if is_declaring(tag) {
-                    t = declare(content, tag, t, regs);
-                    at = next;
-                    continue;
-                }
-                let r = act_top(program, at, next, tag, t, regs, table, limit, s, out);
-                let Answer::Going(u) = r else {
-                    return r;
-                };
-                s = u;
-                at = next;
-            }
+    while at < to {
+        let Ok(header) = fields::header_at(program, at, to) else {
+            return Err(Stop::Stuck);
+        };
+        let next = header.next;
+        let content = &program[at + 3..next];
+        if is_declaring(header.tag) {
+            t = declare(content, header.tag, t, regs);
+        } else {
+            s = act_top(program, at, next, header.tag, t, regs, table, limit, s, out)?;
         }
+        at = next;
     }
+    Ok(s)
 }
 
 // Runs an accepted program.
-pub fn run(program: &[u8], limit: u64, out: &mut [u8]) -> Answer
+pub fn run(program: &[u8], limit: u64, out: &mut [u8]) -> Result<State, Stop>
     requires { Acceptable program.now }
     ensures { concluded out.new result ≡ conclusion_of out.old (run_program limit (length out.old) (read program.now)) }
 {
@@ -340,7 +318,7 @@ fn placed(
     many: u8,
     limit: u64,
     out: &mut [u8],
-) -> Answer
+) -> Result<State, Stop>
     requires entry { Entry program.now k at }
     requires tabled { Tabled program.now table.now k }
     requires many_le_most_variables { many ≤ most_variables }
@@ -352,24 +330,14 @@ fn placed(
     };
     let to = calls::past(program, at);
     let from = at + 5;
-    let count = fields::wide(program[at + 4]);
-    let laid = layout::lay_out(program, from, to, count, values, fields::wide(many));
-    let answer = laid.answer;
-    match answer {
-        Layout::Past(place) => {
-            let past = place as u16;
-            Answer::Ended(23, past, st)
-        }
-        Layout::Over(place) => {
-            let over = place as u16;
-            Answer::Ended(24, over, st)
-        }
-        Layout::Stuck => Answer::Stuck,
-        Layout::Done => {
+    let count = usize::from(program[at + 4]);
+    match layout::lay_out(program, from, to, count, values, usize::from(many)) {
+        Err(Unlaid::Refused(reason, place)) => Err(Stop::Ended(reason, place as u16, st)),
+        Err(Unlaid::Stuck) => Err(Stop::Stuck),
+        Ok(scope) => {
             let body = calls::body_start(program, at);
             let mode = top_mode(limit, k, many);
             let none = [0u16; REGISTER_NUMBERS];
-            let scope = laid.scope;
             once(
                 program, body, to, values, scope, &none, table, mode, st, out,
             )
@@ -386,7 +354,7 @@ fn sized(
     sizes: &[u8],
     limit: u64,
     out: &mut [u8],
-) -> Answer
+) -> Result<State, Stop>
     requires entry { Entry program.now k at }
     requires tabled { Tabled program.now table.now k }
     ensures { concluded out.new result ≡ instance_of (some (family_with limit (length out.old) program.now k at)) sizes.now out.old }
@@ -397,37 +365,38 @@ fn sized(
     };
     let to = calls::past(program, at);
     let from = at + 5;
-    let count = fields::wide(program[at + 4]);
+    let count = usize::from(program[at + 4]);
     if layout::takes_family(program, from, to, count) {
-        return Answer::Ended(34, 0, none);
+        return Err(Stop::Ended(Reason::HasFamilyParameter, 0, none));
     }
     let many = program[at + 3];
-    let mode = fields::wide(many);
     let mut values = [0i32; VALUES];
-    match layout::read_sizes(sizes, mode, &mut values) {
-        Sizes::WrongLength => Answer::Ended(21, 0, none),
-        Sizes::TooLarge => Answer::Ended(22, 0, none),
-        Sizes::Fit => placed(program, at, k, table, &mut values, many, limit, out),
+    if let Err(reason) = layout::read_sizes(sizes, usize::from(many), &mut values) {
+        return Err(Stop::Ended(reason, 0, none));
     }
+    placed(program, at, k, table, &mut values, many, limit, out)
 }
 
 // An instance of a family of an accepted program.
-pub fn instance(program: &[u8], family: usize, sizes: &[u8], limit: u64, out: &mut [u8]) -> Answer
+pub fn instance(
+    program: &[u8],
+    family: usize,
+    sizes: &[u8],
+    limit: u64,
+    out: &mut [u8],
+) -> Result<State, Stop>
     requires { Acceptable program.now }
     ensures { concluded out.new result ≡ instance_of (get_elem? (all_declared limit (length out.old) (read program.now) []) family) sizes.now out.old }
 {
     let mut table = [0u16; MOST_FAMILIES];
     let n = fields::families(program, &mut table);
     if n <= family {
-        return Answer::Ended(
-            20,
-            0,
-            State {
-                written: 0,
-                steps: 0,
-            },
-        );
+        let none = State {
+            written: 0,
+            steps: 0,
+        };
+        return Err(Stop::Ended(Reason::NoSuchFamily, 0, none));
     }
-    let at = fields::long(table[family]);
-    sized(program, at, narrow(family), &table, sizes, limit, out)
+    let at = usize::from(table[family]);
+    sized(program, at, family as u16, &table, sizes, limit, out)
 }

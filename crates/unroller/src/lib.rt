@@ -13,32 +13,25 @@ ghost use Rattle.operands.specs.Meanings.{operands_of};
 ghost use Rattle.unroller.specs.CalledFamilies.{Calls};
 ghost use Rattle.unroller.specs.Runs.{Ready, Often, Turns, Turned, Completes, HasBody, Nestable, Inside, one_run, times_run, kept_in};
 
-use calls::{OPERAND_NUMBERS, Taken};
-use field_walk::Begun;
+use calls::OPERAND_NUMBERS;
 use fields::{Header, Named};
-use gates::{Mode, Repeats};
+use gates::Mode;
 use indexes::VALUES;
 use limits::MOST_FAMILIES;
-use operands::{FamilyMeaning, REGISTER_NUMBERS, Scope};
-use records::{Answer, State};
+use operands::{REGISTER_NUMBERS, Scope};
+use records::{State, Stop};
 
 // Where the table says that the family n is.
 fn listed(table: &[u16], n: u16) -> usize
     requires { n < length table.now }
     ensures { result ≡ get_or table.now n 0 }
 {
-    let i = fields::long(n);
-    fields::long(table[i])
+    let i = usize::from(n);
+    usize::from(table[i])
 }
 
-// The family that a call calls, with the position of its arguments, or that it has no meaning.
-#[derive(Clone, Copy)]
-pub enum Called {
-    Family(u16, usize),
-    Stuck,
-}
-
-// The family that the call with this tag and this content calls: the one that it names, or the one that a parameter stands for.
+// The family that the call with this tag and this content calls, and where its arguments begin: the family that it names, or the
+// one that a parameter stands for.
 fn called_family(
     bytes: &[u8],
     from: usize,
@@ -46,20 +39,21 @@ fn called_family(
     tag: u8,
     scope: Scope,
     regs: &[u16; REGISTER_NUMBERS],
-) -> Called
+) -> Option<Named>
     requires { (from ≤ to) × (to ≤ length bytes.now) }
     ensures { Calls tag from (slice from to bytes.now) (operands_of scope regs.now) result }
 {
-    let Named::Number(n, first) = fields::called_number(bytes, from, to, tag) else {
-        return Called::Stuck;
+    let Ok(named) = fields::called_number(bytes, from, to, tag) else {
+        return None;
     };
     if tag != fields::PARAMETER_CALL {
-        return Called::Family(n, first);
+        return Some(named);
     }
-    match operands::family_of(scope, regs, fields::long(n)) {
-        FamilyMeaning::Is(number) => Called::Family(number, first),
-        FamilyMeaning::Stuck => Called::Stuck,
-    }
+    let number = operands::family_of(scope, regs, usize::from(named.number))?;
+    Some(Named {
+        number,
+        next: named.next,
+    })
 }
 
 // Begins the round i of a list: of a loop it takes a step and sets the loop's variable, the last of the values in scope.
@@ -71,22 +65,18 @@ fn begin_round(
     vars: &mut [i32; VALUES],
     mode: Mode,
     st: State,
-) -> Answer
+) -> Result<State, Stop>
     requires place_le_longest_program { (place ≤ longest_program) × (mode.variables ≤ most_values) }
     requires turns { Turns looping mode start i }
     ensures { Turned looping mode place start i vars.old vars.new st result }
 {
     if !looping {
-        return Answer::Going(st);
+        return Ok(st);
     }
-    let r = records::take_step(mode.limit, place, st);
-    let Answer::Going(t) = r else {
-        return r;
-    };
-    let last = fields::wide(mode.variables) - 1;
-    indexes::tell_values(*vars);
+    let t = records::take_step(mode.limit, place, st)?;
+    let last = usize::from(mode.variables) - 1;
     vars[last] = gates::turn(mode.reversed, start, i);
-    Answer::Going(t)
+    Ok(t)
 }
 
 // A reverse or a for whose step is taken: where its content begins, its tag, what stays in it, and the state.
@@ -105,24 +95,24 @@ fn inmost(bytes: &[u8], base: usize, to: usize, e: Nested) -> Nested
     ensures { Inside bytes.now base to e result }
 {
     let mut r = e;
-    while r.tag == 37 {
+    while r.tag == fields::REVERSE {
         let at = r.from;
-        let Header::Whole(tag, next) = fields::header_at(bytes, at, to) else {
+        let Ok(Header { tag, next }) = fields::header_at(bytes, at, to) else {
             return r;
         };
         if next < to {
             return r;
         }
-        if tag < 37 {
+        if tag < fields::REVERSE {
             return r;
         }
-        if 38 < tag {
+        if fields::FOR < tag {
             return r;
         }
         let from = at + 3;
         let place = base + at;
-        let mode = gates::inner(r.mode, 37);
-        let Answer::Going(st) = gates::enter(bytes, from, to, tag, place, mode, r.st) else {
+        let mode = gates::inner(r.mode, fields::REVERSE);
+        let Ok(st) = gates::enter(bytes, from, to, tag, place, mode, r.st) else {
             return r;
         };
         r = Nested {
@@ -152,16 +142,13 @@ fn run_statement(
     mode: Mode,
     st: State,
     out: &mut [u8],
-) -> Answer
+) -> Result<State, Stop>
     requires ready { Ready mode base from to (length bytes.now) place }
     requires from_value { base + from ≡ place + 3 }
     requires tabled { Tabled program.now table.now mode.families_visible }
     ensures { Does out.old st out.new result (one_run mode (length out.old) place tag (slice from to bytes.now) program.now (frame_in mode (take mode.variables vars.old) scope regs.now)) × (take mode.variables vars.new ≡ take mode.variables vars.old) }
 {
-    let r = gates::enter(bytes, from, to, tag, place, mode, st);
-    let Answer::Going(s) = r else {
-        return r;
-    };
+    let s = gates::enter(bytes, from, to, tag, place, mode, st)?;
     if phases::is_action(tag) {
         return phases::act(bytes, from, to, tag, place, vars, scope, regs, mode, s, out);
     }
@@ -192,7 +179,7 @@ fn run_rounds(
     mode: Mode,
     st: State,
     out: &mut [u8],
-) -> Answer
+) -> Result<State, Stop>
     requires ready { Ready mode base from to (length bytes.now) place }
     requires from_value { base + from ≡ place + 3 }
     requires tabled { Tabled program.now table.now mode.families_visible }
@@ -214,32 +201,29 @@ fn run_rounds(
     let s = e.st;
     let past = base + e.from;
     let here = past - 3;
-    let many = fields::wide(own.variables);
-    match gates::repeats_of(bytes, e.from, to, e.tag, vars, many, own.reversed) {
-        Repeats::Over => Answer::Ended(24, here as u16, s),
-        Repeats::Stuck => Answer::Stuck,
-        Repeats::Are(start, total, body) => {
-            let n = gates::inner(own, e.tag);
-            run_list(
-                bytes,
-                base,
-                body,
-                to,
-                here,
-                start,
-                total,
-                e.tag == 38,
-                vars,
-                scope,
-                regs,
-                program,
-                table,
-                n,
-                s,
-                out,
-            )
-        }
-    }
+    let many = usize::from(own.variables);
+    let repeats = gates::repeats_of(bytes, e.from, to, e.tag, vars, many, own.reversed).map_err(
+        |fault| gates::stop(fault, here, s),
+    )?;
+    let n = gates::inner(own, e.tag);
+    run_list(
+        bytes,
+        base,
+        repeats.body,
+        to,
+        here,
+        repeats.start,
+        repeats.total,
+        e.tag == fields::FOR,
+        vars,
+        scope,
+        regs,
+        program,
+        table,
+        n,
+        s,
+        out,
+    )
 }
 
 // Runs a list so many times: once, or in rounds of the for at `place`.
@@ -261,7 +245,7 @@ pub fn run_list(
     mode: Mode,
     st: State,
     out: &mut [u8],
-) -> Answer
+) -> Result<State, Stop>
     requires ready { Ready mode base from to (length bytes.now) place }
     requires tabled { Tabled program.now table.now mode.families_visible }
     requires often { Often looping mode start total }
@@ -275,36 +259,26 @@ pub fn run_list(
     loop {
         if w.to <= w.at {
             if total <= i {
-                return Answer::Going(s);
+                return Ok(s);
             }
-            let r = begin_round(place, start, i, looping, vars, mode, s);
-            let Answer::Going(t) = r else {
-                return r;
+            s = begin_round(place, start, i, looping, vars, mode, s)?;
+            let Some(held) = field_walk::begin(bytes, from, to, reversed, &mut cuts) else {
+                return Err(Stop::Stuck);
             };
-            let Begun::With(depth, sure) = field_walk::begin(bytes, from, to, reversed, &mut cuts)
-            else {
-                return Answer::Stuck;
-            };
-            s = t;
-            w = field_walk::whole(from, to, depth, sure);
+            w = field_walk::whole(from, to, held.depth, held.sure);
             i += 1;
             continue;
         }
         w = field_walk::seek(bytes, w, reversed, &mut cuts);
         let here = w.here;
-        let upto = w.to;
-        let Header::Whole(tag, next) = fields::header_at(bytes, here, upto) else {
-            return Answer::Stuck;
+        let Ok(Header { tag, next }) = fields::header_at(bytes, here, w.to) else {
+            return Err(Stop::Stuck);
         };
         let content = here + 3;
         let at = base + here;
-        let r = run_statement(
+        s = run_statement(
             bytes, base, content, next, at, tag, vars, scope, regs, program, table, mode, s, out,
-        );
-        let Answer::Going(t) = r else {
-            return r;
-        };
-        s = t;
+        )?;
         w = field_walk::passed(w, reversed, next);
     }
 }
@@ -326,50 +300,57 @@ fn run_call(
     mode: Mode,
     st: State,
     out: &mut [u8],
-) -> Answer
+) -> Result<State, Stop>
     requires ready { Ready mode base from to (length bytes.now) place }
     requires from_value { base + from ≡ place + 3 }
     requires tabled { Tabled program.now table.now mode.families_visible }
     requires enterable { Enterable mode tag (slice from to bytes.now) × (is_call_tag tag ≡ true) }
     ensures { Completes mode tag (slice from to bytes.now) out.old st out.new result (one_run mode (length out.old) place tag (slice from to bytes.now) program.now (frame_in mode (take mode.variables vars.now) scope regs.now)) }
 {
-    let Called::Family(number, first) = called_family(bytes, from, to, tag, scope, regs) else {
-        return Answer::Stuck;
+    let Some(called) = called_family(bytes, from, to, tag, scope, regs) else {
+        return Err(Stop::Stuck);
     };
+    let number = called.number;
     if mode.families_visible <= number {
-        return Answer::Stuck;
+        return Err(Stop::Stuck);
     }
     let at = listed(table, number);
-    let many = fields::wide(mode.variables);
+    let many = usize::from(mode.variables);
     let mut sizes = [0i32; VALUES];
     let mut given = [0u16; OPERAND_NUMBERS];
-    match calls::arguments(
-        bytes, first, to, program, at, vars, many, scope, regs, &mut sizes, &mut given,
-    ) {
-        Taken::Over => Answer::Ended(24, place as u16, st),
-        Taken::Stuck => Answer::Stuck,
-        Taken::All(count, start) => {
-            let body = calls::body_of(program, at, start);
-            let size = body.len();
-            let inner = gates::entered(mode, number, program[at + 3]);
-            run_list(
-                body,
-                start,
-                0,
-                size,
-                place,
-                0,
-                1,
-                false,
-                &mut sizes,
-                calls::scope_of(&given, count),
-                regs,
-                program,
-                table,
-                inner,
-                st,
-                out,
-            )
-        }
-    }
+    let taken = calls::arguments(
+        bytes,
+        called.next,
+        to,
+        program,
+        at,
+        vars,
+        many,
+        scope,
+        regs,
+        &mut sizes,
+        &mut given,
+    )
+    .map_err(|fault| gates::stop(fault, place, st))?;
+    let body = calls::body_of(program, at, taken.start);
+    let size = body.len();
+    let inner = gates::entered(mode, number, program[at + 3]);
+    run_list(
+        body,
+        taken.start,
+        0,
+        size,
+        place,
+        0,
+        1,
+        false,
+        &mut sizes,
+        calls::scope_of(&given, taken.count),
+        regs,
+        program,
+        table,
+        inner,
+        st,
+        out,
+    )
 }

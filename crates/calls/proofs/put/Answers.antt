@@ -1,5 +1,4 @@
 -- `calls::put` meets its contract. Assumes nothing.
-use mathlib.Core.Path.{◌∙◌}
 use native.Mathlib.Omega.{arith}
 use Rattle.calls.proofs.CallOperands.{gathered_kind}
 use Rattle.calls.proofs.put.Goals as goal
@@ -7,4 +6,4 @@ use Rattle.calls.proofs.put.Goals as goal
 pub returns : goal.returns
 returns c =
     let a = c.args in
-    gathered_kind a.kind _ a.first a.size a.n a.given.now (c.wider.ensures ∙ c.number.ensures) (omega (arith, c.tell_given.ensures, c.requires))
+    gathered_kind a.kind _ a.first a.size a.n a.given.now c.from.ensures (omega arith)

@@ -17,8 +17,8 @@ overflow_cast-sizes c =
 pub returns-then-k-lt-MOST_VARIABLES : goal.returns-then-k-lt-MOST_VARIABLES
 returns-then-k-lt-MOST_VARIABLES c =
     let a = c.args in
-    (λ h. ap (set a.sizes.now a.k) (ap (λ (x : ℤ). to_z w32 (of_z w32 x)) (range_back {z = a.z} c.requires) ∙ to_z-of_z w32 a.z (narrow_fits a.z c.requires)), c.tell_values.ensures)
+    (λ h. ap (set a.sizes.now a.k) (ap (λ (x : ℤ). to_z w32 (of_z w32 x)) (range_back {z = a.z} c.requires) ∙ to_z-of_z w32 a.z (narrow_fits a.z c.requires)), c.told-sizes)
 
 pub returns-else-k-lt-MOST_VARIABLES : goal.returns-else-k-lt-MOST_VARIABLES
 returns-else-k-lt-MOST_VARIABLES c =
-    (λ h. absurd (omega arith), c.tell_values.ensures)
+    (λ h. absurd (omega arith), c.told-sizes)

@@ -1,6 +1,5 @@
 -- `calls::takes` meets its contract. Assumes nothing.
 use Rattle.calls.proofs.Types.{takes_quantum, takes_family_lem, takes_single}
-use borrow.Enum.Refused.{opened}
 use Rattle.calls.proofs.takes.Goals as goal
 
 pub returns-in-Quantum : goal.returns-in-Quantum
@@ -11,6 +10,6 @@ pub returns-in-Family : goal.returns-in-Family
 returns-in-Family c =
     takes_family_lem c.args.tag c.args.kind c.in-Family.is
 
-pub returns : goal.returns
-returns c =
-    takes_single c.args.tag c.args.kind (opened c.in_default.in_default-own.keys2) (opened c.in_default-kind.in_default-kind-own.keys2)
+pub returns-in_default : goal.returns-in_default
+returns-in_default c =
+    takes_single c.args.tag c.args.kind c.in_default.not-Quantum c.in_default.not-Family

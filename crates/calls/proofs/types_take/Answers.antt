@@ -1,65 +1,32 @@
--- `calls::types_take` meets its contract. Assumes nothing.
-use Prim.Native.Nat.{◌-◌, ◌+◌}
-use mathlib.Core.Path.{◌≡◌, ◌∙◌, sym}
-use native.Mathlib.Omega.{arith}
-use borrow.Author.Tests.{not-true, not-false}
-use Rattle.fields.proofs.Between.{in_whole}
-use Rattle.calls.proofs.FamilyBodies.{passing_start, passing_next, passing_done}
-use Rattle.calls.proofs.Types.{types_start, types_done, types_stop, types_next, types_not}
-use borrow.Enum.Refused.{opened}
+use Rattle.std.proofs.Common.{rules, ◌≡◌, [], ◌∷◌, ◌++◌, ◌+◌, ◌*◌, ◌<◌, ◌≤◌, length, get_or, set, take, true, ℕ, ◌-◌, ◌/◌, ◌%◌, Bool, false, nat_eq, nat_lt, List, bit_and, bit_or, Fits, w8, w32, w64, Bor, MutBor}
+use Rattle.std.proofs.Math.Seq.{slice}
+use Rattle.language.specs.Form.{in_range}
+use Rattle.language.specs.Limits.{most_variables, most_parameters}
+use Rattle.language.specs.Read.{is_index_tag, is_operand_tag}
+use Rattle.fields.specs.Table.{past_of}
+use Rattle.indexes.specs.Values.{most_values}
+use Rattle.kinds.specs.Numbers.{kind_with}
+use Rattle.operands.specs.Meanings.{operands_of, of_parameter}
+use Rattle.calls.specs.Families.{FamilyHead, PastFields, BodyFrom}
+use Rattle.calls.specs.Arguments.{operand_numbers, gathered_operand, gathered_operands, operand_arguments, SizesAre, GathersMore, OperandsGathered, Takes, TypesTake, FamilyTakes, Scopes, Arguments}
 use Rattle.calls.proofs.types_take.Goals as goal
 
+-- src/lib.rt:220:5
 pub loop-i-init : goal.loop-i-init
-loop-i-init c =
-    let a = c.args in
-    (types_start a.bytes.now a.from a.to a.n a.given.now, passing_start a.n a.bytes.now a.from a.to, omega arith, omega arith, c.requires.from_le_to.0)
+loop-i-init c = ?
 
-pub header_at-requires : goal.header_at-requires
-header_at-requires c =
-    omega (arith, c.requires.from_le_to.1)
-
+-- src/lib.rt:222:13
 pub returns-in_default : goal.returns-in_default
-returns-in_default c =
-    let a = c.args in
-    let i = c.loop-i in
-    types_stop a.bytes.now a.from a.to a.n a.given.now i.at i.i i.invariant.3 (a.n - i.i) (omega arith) (rw c.header_at.ensures at (opened c.in_default.in_default-own.keys2)) i.invariant.0
+returns-in_default c = ?
 
-pub overflow_mul-j : goal.overflow_mul-j
-overflow_mul-j c =
-    omega (arith, c.requires.n_le_most_parameters)
-
+-- src/lib.rt:226:13
 pub returns-then-not-takes : goal.returns-then-not-takes
-returns-then-not-takes c =
-    let a = c.args in
-    let i = c.loop-i in
-    let e = sym c.header_at.ensures ∙ c.in-Whole.is in
-    types_not a.bytes.now a.from a.to a.n a.given.now i.at i.i i.invariant.3 _ _ e (omega (arith, c.tell_given.ensures, c.requires.n_le_most_parameters)) c.takes.result (rw c.with_number-kind.ensures at c.takes.ensures) (a.n - i.i) (omega arith) (not-true c.takes.result c.if-not-takes.true-raw) i.invariant.0
+returns-then-not-takes c = ?
 
-pub overflow_add-i : goal.overflow_add-i
-overflow_add-i c =
-    omega arith
-
-pub loop-i-smaller : goal.loop-i-smaller
-loop-i-smaller c =
-    omega arith
-
+-- src/lib.rt:220:5
 pub loop-i-preserved : goal.loop-i-preserved
-loop-i-preserved c =
-    let a = c.args in
-    let i = c.loop-i in
-    let e = sym c.header_at.ensures ∙ c.in-Whole.is in
-    let w = in_whole a.bytes.now i.at a.to _ _ e in
-    let s : a.n - i.i - 1 ≡ a.n - (i.i + 1) = omega arith in (
-      rw s at (types_next a.bytes.now a.from a.to a.n a.given.now i.at i.i i.invariant.3 _ _ e (omega (arith, c.tell_given.ensures, c.requires.n_le_most_parameters)) c.takes.result (rw c.with_number-kind.ensures at c.takes.ensures) (a.n - i.i) (omega arith) (not-false c.takes.result c.if-not-takes.false-raw) i.invariant.0),
-      rw s at (passing_next a.n a.bytes.now a.from a.to i.at i.invariant.3 (a.n - i.i) _ _ (omega arith) e i.invariant.1),
-      omega arith,
-      omega (arith, w.low, i.invariant.3),
-      w.high,
-    )
+loop-i-preserved c = ?
 
+-- src/lib.rt:214:1
 pub returns : goal.returns
-returns c =
-    let a = c.args in
-    let i = c.loop-i in
-    let p = passing_done a.n a.bytes.now a.from a.to i.at i.invariant.3 (a.n - i.i) (omega arith) i.invariant.4 i.invariant.1 in
-    types_done a.bytes.now a.from a.to a.n a.given.now (a.n - i.i) i.at i.i (omega arith) i.invariant.0 p
+returns c = ?

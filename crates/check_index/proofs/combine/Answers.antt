@@ -7,39 +7,39 @@ use Rattle.check_index.specs.declared.Operation.{Operation}
 use Rattle.check_index.proofs.Forms.{made, unmade}
 use Rattle.check_index.proofs.combine.Goals as goal
 
-pub returns-then-add : goal.returns-then-add
+pub returns-in-Ok : goal.returns-in-Ok
 unfolding tree_operation combined
-returns-then-add c =
+returns-in-Ok c =
     let a = c.args in
     record {
-      f_after = made a.at a.next c.add.new.f c.add.ensures.f_after c.if-add.true ∙ ap (λ (o : Operation). combined a.at (tree_operation o) (as_form a.f.now) (as_form a.g.now)) (sym c.in-Sum.is);
-      form_ends_at = (refl, c.add.ensures.kept_3 c.if-add.true);
+      f_after = made a.at a.next c.add.new.f c.add.ensures.f_after c.in-Ok.is ∙ ap (λ (o : Operation). combined a.at (tree_operation o) (as_form a.f.now) (as_form a.g.now)) (sym c.in-Sum.is);
+      form_ends_at = (refl, rw c.in-Ok.is at c.add.ensures.kept_3);
     }
 
-pub returns-then-subtract : goal.returns-then-subtract
+pub returns-in-Ok-subtract : goal.returns-in-Ok-subtract
 unfolding tree_operation combined
-returns-then-subtract c =
+returns-in-Ok-subtract c =
     let a = c.args in
     record {
-      f_after = made a.at a.next c.subtract.new.f c.subtract.ensures.f_after c.if-subtract.true ∙ ap (λ (o : Operation). combined a.at (tree_operation o) (as_form a.f.now) (as_form a.g.now)) (sym c.in-Difference.is);
-      form_ends_at = (refl, c.subtract.ensures.kept_3 c.if-subtract.true);
+      f_after = made a.at a.next c.subtract.new.f c.subtract.ensures.f_after c.in-Ok-subtract.is ∙ ap (λ (o : Operation). combined a.at (tree_operation o) (as_form a.f.now) (as_form a.g.now)) (sym c.in-Difference.is);
+      form_ends_at = (refl, rw c.in-Ok-subtract.is at c.subtract.ensures.kept_3);
     }
 
-pub returns-else-add : goal.returns-else-add
+pub returns-in-Err : goal.returns-in-Err
 unfolding tree_operation combined
-returns-else-add c =
+returns-in-Err c =
     let a = c.args in
     record {
-      f_after = unmade a.at c.add.new.f c.add.new.f c.add.ensures.f_after c.if-add.false ∙ ap (λ (o : Operation). combined a.at (tree_operation o) (as_form a.f.now) (as_form a.g.now)) (sym c.in-Sum.is);
+      f_after = unmade a.at c.add.new.f c.add.new.f c.add.ensures.f_after c.in-Err.is ∙ ap (λ (o : Operation). combined a.at (tree_operation o) (as_form a.f.now) (as_form a.g.now)) (sym c.in-Sum.is);
       form_ends_at = tt;
     }
 
-pub returns-else-subtract : goal.returns-else-subtract
+pub returns-in-Err-subtract : goal.returns-in-Err-subtract
 unfolding tree_operation combined
-returns-else-subtract c =
+returns-in-Err-subtract c =
     let a = c.args in
     record {
-      f_after = unmade a.at c.subtract.new.f c.subtract.new.f c.subtract.ensures.f_after c.if-subtract.false ∙ ap (λ (o : Operation). combined a.at (tree_operation o) (as_form a.f.now) (as_form a.g.now)) (sym c.in-Difference.is);
+      f_after = unmade a.at c.subtract.new.f c.subtract.new.f c.subtract.ensures.f_after c.in-Err-subtract.is ∙ ap (λ (o : Operation). combined a.at (tree_operation o) (as_form a.f.now) (as_form a.g.now)) (sym c.in-Difference.is);
       form_ends_at = tt;
     }
 

@@ -52,7 +52,7 @@ returns c =
     let l = a.program.now in
     let from = a.at + 3 in
     let e = one_byte from a.next l c.if-next-from.false c.requires.at_bound.1 in
-    let v : c.wide-v.result ≡ get_or l from 0 = c.wide-v.ensures.0 in
+    let v : c.from-v.result ≡ get_or l from 0 = c.from-v.ensures in
     record {
       f_after = ap good (c.set_variable.ensures.f_after ∙ ap variable_form v) ∙ variable_good a.at a.variables (get_or l from 0) (slice from a.next l) (slice (from + 1) a.next l) e (omega arith) (slice_none (from + 1) a.next l (omega arith));
       form_ends_at = (refl, c.set_variable.ensures.kept);

@@ -1,22 +1,23 @@
 -- `field_walk::last` meets its contract. Assumes nothing.
 use native.Mathlib.Omega.{arith}
 use mathlib.Core.Path.{sym, ◌∙◌}
+use Rattle.field_walk.specs.Walks.{Lasts}
 use Rattle.field_walk.proofs.Positions.{kept_some}
 use Rattle.field_walk.proofs.Search.{ends_last, search_begins, search_stops, next_below, nearer, search_on, search_push, search_anew}
 use Rattle.field_walk.proofs.last.Goals as goal
 
-pub overflow_sub-first : goal.overflow_sub-first
-overflow_sub-first c =
+pub overflow_sub-depth : goal.overflow_sub-depth
+overflow_sub-depth c =
     let a = c.args in
     omega (arith, kept_some a.bytes.now a.from a.cuts.now a.depth a.to c.requires.2 c.requires.4, c.requires.3, c.told-cuts)
 
-pub offset_bounds-cuts-first : goal.offset_bounds-cuts-first
-offset_bounds-cuts-first c =
+pub offset_bounds-cuts-depth : goal.offset_bounds-cuts-depth
+offset_bounds-cuts-depth c =
     let a = c.args in
     omega (arith, kept_some a.bytes.now a.from a.cuts.now a.depth a.to c.requires.2 c.requires.4, c.requires.3, c.told-cuts)
 
-pub bounds-cuts-first : goal.bounds-cuts-first
-bounds-cuts-first c =
+pub bounds-cuts-depth : goal.bounds-cuts-depth
+bounds-cuts-depth c =
     let a = c.args in
     omega (arith, kept_some a.bytes.now a.from a.cuts.now a.depth a.to c.requires.2 c.requires.4, c.requires.3, c.told-cuts)
 
@@ -39,6 +40,7 @@ keep_last-requires c =
     (omega (arith, v.searching.some), v.few, omega (arith, v.below, c.requires.1))
 
 pub returns-then-next-to : goal.returns-then-next-to
+unfolding Lasts
 returns-then-next-to c =
     let a = c.args in
     c.keep_last.ensures a.bytes.now a.from a.to c.requires.0 c.loop-header.invariant.searching (ends_last (sym c.header_at.ensures ∙ c.in-Ok.is) c.if-next-to.true)
@@ -83,12 +85,12 @@ pub overflow_cast-cuts-then-depth-lt-KEPT : goal.overflow_cast-cuts-then-depth-l
 overflow_cast-cuts-then-depth-lt-KEPT c =
     omega (arith, next_below c.loop-header.invariant c.requires.0 (sym c.header_at.ensures ∙ c.in-Ok.is) c.if-next-to.false, c.requires.1)
 
-pub offset_bounds-cuts-depth : goal.offset_bounds-cuts-depth
-offset_bounds-cuts-depth c =
+pub offset_bounds-cuts-depth-then-depth-lt-KEPT : goal.offset_bounds-cuts-depth-then-depth-lt-KEPT
+offset_bounds-cuts-depth-then-depth-lt-KEPT c =
     omega (arith, c.loop-header.invariant.room)
 
-pub bounds-cuts-depth : goal.bounds-cuts-depth
-bounds-cuts-depth c =
+pub bounds-cuts-depth-then-depth-lt-KEPT : goal.bounds-cuts-depth-then-depth-lt-KEPT
+bounds-cuts-depth-then-depth-lt-KEPT c =
     omega (arith, c.loop-header.invariant.room)
 
 pub overflow_add-d-then-depth-lt-KEPT : goal.overflow_add-d-then-depth-lt-KEPT

@@ -25,6 +25,7 @@ returns-then-try_loop t c =
 pub overflow_add-made : goal.overflow_add-made
 overflow_add-made t c =
     let few = tried_few _ _ _ _ _ _ c.try_loops-t.ensures.made_value in
+    let most = c.args.ranges.now.few in
     let h : c.try_loops-t.result.made + 1 < 100 = omega arith in
     search rules
 

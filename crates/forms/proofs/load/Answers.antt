@@ -1,38 +1,27 @@
 -- `forms::load` meets its contract. Assumes nothing.
 use native.Mathlib.Omega.{arith}
-use Rattle.language.proofs.Integers.{range_back, range_fits, narrow_back}
-use Rattle.forms.proofs.Lists.{short_range, load_wide, load_kept}
+use native.Mathlib.Numerals.{add-one}
+use mathlib.Core.Path.{◌≡◌, sym, ap, ◌∙◌, subst}
+use mathlib.Core.List.{List}
+use lib.IntN.{ℤ, pos}
+use lib.ListN.{get_or, set, replicate}
+use mir.Syntax.{w64}
+use mir.Val.{to_z, of_z}
+use Rattle.forms.specs.Flat.{Kept, widened}
+use Rattle.forms.proofs.Lists.{front, front_put, short_at, short_range, short_kept, widen_read, loaded}
 use Rattle.forms.proofs.load.Goals as goal
 
-pub overflow_cast-f : goal.overflow_cast-f
-overflow_cast-f c =
-    let q = short_range c.args.row.now 0 (omega arith) c.requires in
-    rw (narrow_back q) (range_fits _ q)
-
-pub overflow_cast-f-2 : goal.overflow_cast-f-2
-overflow_cast-f-2 c =
-    let q = short_range c.args.row.now 1 (omega arith) c.requires in
-    rw (narrow_back q) (range_fits _ q)
-
-pub overflow_cast-f-3 : goal.overflow_cast-f-3
-overflow_cast-f-3 c =
-    let q = short_range c.args.row.now 2 (omega arith) c.requires in
-    rw (narrow_back q) (range_fits _ q)
-
-pub overflow_cast-f-4 : goal.overflow_cast-f-4
-overflow_cast-f-4 c =
-    let q = short_range c.args.row.now 3 (omega arith) c.requires in
-    rw (narrow_back q) (range_fits _ q)
-
-pub overflow_cast-f-5 : goal.overflow_cast-f-5
-overflow_cast-f-5 c =
-    let q = short_range c.args.row.now 4 (omega arith) c.requires in
-    rw (narrow_back q) (range_fits _ q)
-
-pub returns : goal.returns
-returns c =
+pub loop-i-preserved : goal.loop-i-preserved
+loop-i-preserved c =
     let l = c.args.row.now in
-    record {
-      f_after = rw (narrow_back (short_range l 0 (omega arith) c.requires), narrow_back (short_range l 1 (omega arith) c.requires), narrow_back (short_range l 2 (omega arith) c.requires), narrow_back (short_range l 3 (omega arith) c.requires), narrow_back (short_range l 4 (omega arith) c.requires), range_back (short_range l 0 (omega arith) c.requires), range_back (short_range l 1 (omega arith) c.requires), range_back (short_range l 2 (omega arith) c.requires), range_back (short_range l 3 (omega arith) c.requires), range_back (short_range l 4 (omega arith) c.requires)) (load_wide l c.requires);
-      kept = rw (narrow_back (short_range l 0 (omega arith) c.requires), narrow_back (short_range l 1 (omega arith) c.requires), narrow_back (short_range l 2 (omega arith) c.requires), narrow_back (short_range l 3 (omega arith) c.requires), narrow_back (short_range l 4 (omega arith) c.requires), range_back (short_range l 0 (omega arith) c.requires), range_back (short_range l 1 (omega arith) c.requires), range_back (short_range l 2 (omega arith) c.requires), range_back (short_range l 3 (omega arith) c.requires), range_back (short_range l 4 (omega arith) c.requires)) (load_kept l c.requires);
-    }
+    let i = c.loop-i.i in
+    let k = short_kept l c.requires in
+    let v = widen_read c.from.ensures (short_range l i c.loop-i-test.true c.requires) ∙ sym (short_at l i c.loop-i-test.true c.requires) in
+    (λ j. set (c.loop-i.invariant j) i (v j)) ∙ rw add-one (front_put i (widened l) (replicate 13 (pos 0)) (pos 0) (omega (arith, k.long)) (sym k.long))
+
+pub returns-clause-kept : goal.returns-clause-kept
+returns-clause-kept c =
+    let l = c.args.row.now in
+    let e : c.loop-i.i ≡ 5 = omega arith in
+    let f : c.loop-i.f ≡ widened l = c.loop-i.invariant ∙ ap (λ i. front i (widened l) (replicate 13 (pos 0))) e ∙ loaded l c.requires in
+    subst Kept (sym f) (short_kept l c.requires)

@@ -1,10 +1,7 @@
 -- `forms::put_number` meets its contract: nothing is added where y is 0. Assumes nothing.
-use borrow.Author.Rules.{rules}
 use mathlib.Core.Path.{ap, sym, ◌∙◌}
-use mathlib.Core.Bool.{◌&&◌}
-use lib.IntN.{ℤ, ◌+ℤ◌, ◌*ℤ◌}
+use lib.IntN.{ℤ}
 use lib.ListN.{set}
-use Rattle.language.specs.Form.{in_range}
 use Rattle.language.proofs.Integers.{range_fits, range_back, bits_zero}
 use Rattle.forms.proofs.Laws.{zero_added}
 use Rattle.forms.proofs.put_number.Goals as goal
@@ -14,18 +11,5 @@ returns-then-y-eq0 c =
     let q = zero_added c.args.x c.args.k c.requires.x_value (bits_zero (range_fits _ c.requires.y_value) c.if-y-eq0.true) in
     record {
       value = q.0;
-      g_after = (λ _. ap (λ (z : ℤ). set c.args.g.now c.args.i z) (range_back c.requires.x_value ∙ sym q.1));
-    }
-
-pub put_sum-requires : goal.put_sum-requires
-put_sum-requires c =
-    search (rules, range_back)
-
-pub returns : goal.returns
-returns c =
-    let x = range_back c.requires.x_value in
-    let k = range_back c.requires.k_value in
-    let y = range_back c.requires.y_value in record {
-      value = c.put_sum.ensures.value ∙ (λ j. in_range (k j *ℤ y j) && in_range (x j +ℤ k j *ℤ y j));
-      g_after = λ e. c.put_sum.ensures.f_after e ∙ (λ j. set c.args.g.now c.args.i (x j +ℤ k j *ℤ y j));
+      g_after = ap (λ (z : ℤ). set c.args.g.now c.args.i z) (range_back c.requires.x_value ∙ sym q.1);
     }

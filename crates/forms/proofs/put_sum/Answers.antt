@@ -8,7 +8,7 @@ use mir.Syntax.{w64}
 use mir.Val.{SFits, to_z, of_z}
 use mir.ValLaws.{to_z-of_z}
 use Rattle.language.specs.Form.{in_range}
-use Rattle.language.proofs.Integers.{ranged-fits, product_fits, sum_fits, range_back, clash}
+use Rattle.language.proofs.Integers.{ranged-fits, product_fits, sum_fits, range_back}
 use Rattle.forms.proofs.put_sum.Goals as goal
 
 module _ (x k y : ℤ) (hx : in_range x ≡ true) (hk : in_range k ≡ true) (hy : in_range y ≡ true) where
@@ -36,25 +36,19 @@ module _ (x k y : ℤ) (hx : in_range x ≡ true) (hk : in_range k ≡ true) (hy
 pub overflow_mul-p : goal.overflow_mul-p
 overflow_mul-p c = search (rules, ranged-fits)
 
-pub returns-else-in_range : goal.returns-else-in_range
-returns-else-in_range c =
-    record {
-      value = sym (λ j. p-in c.args.x c.args.k c.args.y c.requires.x_value c.requires.k_value c.requires.y_value c.in_range.ensures c.if-in_range.false j && in_range (c.args.x +ℤ c.args.k *ℤ c.args.y));
-      f_after = (λ e. absurd (clash (sym e)));
-    }
+pub returns-then-not-in_range-clause-value : goal.returns-then-not-in_range-clause-value
+returns-then-not-in_range-clause-value c =
+    sym (λ j. p-in c.args.x c.args.k c.args.y c.requires.x_value c.requires.k_value c.requires.y_value c.in_range.ensures c.if-not-in_range.true j && in_range (c.args.x +ℤ c.args.k *ℤ c.args.y))
 
 pub overflow_add-z : goal.overflow_add-z
-overflow_add-z c = z-fits c.args.x c.args.k c.args.y c.requires.x_value c.requires.k_value c.requires.y_value c.in_range.ensures c.if-in_range.true
+overflow_add-z c = z-fits c.args.x c.args.k c.args.y c.requires.x_value c.requires.k_value c.requires.y_value c.in_range.ensures c.if-not-in_range.false
 
-pub returns-then-in_range-2 : goal.returns-then-in_range-2
-returns-then-in_range-2 c =
+pub returns-then-not-in_range-2-clause-value : goal.returns-then-not-in_range-2-clause-value
+returns-then-not-in_range-2-clause-value c =
     let hx = c.requires.x_value in
     let hk = c.requires.k_value in
     let hy = c.requires.y_value in
-    record {
-      value = sym (λ j. p-in c.args.x c.args.k c.args.y hx hk hy c.in_range.ensures c.if-in_range.true j && z-in c.args.x c.args.k c.args.y hx hk hy c.in_range.ensures c.if-in_range.true c.in_range-2.ensures c.if-in_range-2.true j);
-      f_after = (λ _. ap (λ (z : ℤ). set c.args.f.now c.args.i z) (z-is c.args.x c.args.k c.args.y hx hk hy c.in_range.ensures c.if-in_range.true));
-    }
+    sym (λ j. p-in c.args.x c.args.k c.args.y hx hk hy c.in_range.ensures c.if-not-in_range.false j && z-in c.args.x c.args.k c.args.y hx hk hy c.in_range.ensures c.if-not-in_range.false c.in_range-2.ensures c.if-not-in_range-2.true j)
 
 pub returns : goal.returns
 returns c =
@@ -62,6 +56,6 @@ returns c =
     let hk = c.requires.k_value in
     let hy = c.requires.y_value in
     record {
-      value = sym (λ j. p-in c.args.x c.args.k c.args.y hx hk hy c.in_range.ensures c.if-in_range.true j && z-in c.args.x c.args.k c.args.y hx hk hy c.in_range.ensures c.if-in_range.true c.in_range-2.ensures c.if-in_range-2.false j);
-      f_after = (λ e. absurd (clash (sym e)));
+      value = sym (λ j. p-in c.args.x c.args.k c.args.y hx hk hy c.in_range.ensures c.if-not-in_range.false j && z-in c.args.x c.args.k c.args.y hx hk hy c.in_range.ensures c.if-not-in_range.false c.in_range-2.ensures c.if-not-in_range-2.false j);
+      f_after = ap (λ (z : ℤ). set c.args.f.now c.args.i z) (z-is c.args.x c.args.k c.args.y hx hk hy c.in_range.ensures c.if-not-in_range.false);
     }

@@ -9,10 +9,8 @@ use Rattle.forms.proofs.scan.Given as goal
 
 abbrev pub invariant-loop-f : goal.invariant-loop-f
 invariant-loop-f l =
-    (l.n ≤ l.loops) × Kept l.f × (scan l.variables (loops_of l.loops l.lows l.highs) (as_form l.initial.f) ≡ after (l.loops - l.n) (scan l.variables (loops_of l.n l.lows l.highs) (as_form l.f)))
+    (l.n ≤ l.loops) × Kept l.f × (scan l.ranges.variables (loops_of l.loops l.ranges.lows.now l.ranges.highs.now) (as_form l.initial.f) ≡ after (l.loops - l.n) (scan l.ranges.variables (loops_of l.n l.ranges.lows.now l.ranges.highs.now) (as_form l.f)))
 
 abbrev pub decreases-loop-f : goal.decreases-loop-f
 decreases-loop-f l =
     l.n
-
--- no variable remains

@@ -1,39 +1,35 @@
 -- `forms::store` meets its contract. Assumes nothing.
 use native.Mathlib.Omega.{arith}
+use native.Mathlib.Numerals.{add-one}
+use mathlib.Core.Path.{◌≡◌, refl, sym, ap, ◌∙◌, subst}
+use mathlib.Core.List.{List}
+use lib.IntN.{ℤ, pos}
+use lib.ListN.{take, set, replicate, length-take}
+use lib.Seq.{get_or-take}
+use mir.Syntax.{w32}
+use mir.Val.{to_z, of_z}
+use Rattle.forms.specs.Flat.{Short}
 use Rattle.language.proofs.Integers.{range_back, narrow_back, narrow_fits}
-use Rattle.forms.proofs.Lists.{kept_at, store_wide, store_short}
+use Rattle.forms.proofs.Lists.{front, front_put, kept_at, stored, store_short}
 use Rattle.forms.proofs.store.Goals as goal
 
 pub overflow_cast-row : goal.overflow_cast-row
 overflow_cast-row c =
-    let q = kept_at c.args.f.now 0 (omega arith) c.requires.kept in
+    let q = kept_at c.args.f.now c.loop-i.i (omega arith) c.requires.kept in
     rw (range_back q) (narrow_fits _ q)
 
-pub overflow_cast-row-2 : goal.overflow_cast-row-2
-overflow_cast-row-2 c =
-    let q = kept_at c.args.f.now 1 (omega arith) c.requires.kept in
-    rw (range_back q) (narrow_fits _ q)
-
-pub overflow_cast-row-3 : goal.overflow_cast-row-3
-overflow_cast-row-3 c =
-    let q = kept_at c.args.f.now 2 (omega arith) c.requires.kept in
-    rw (range_back q) (narrow_fits _ q)
-
-pub overflow_cast-row-4 : goal.overflow_cast-row-4
-overflow_cast-row-4 c =
-    let q = kept_at c.args.f.now 3 (omega arith) c.requires.kept in
-    rw (range_back q) (narrow_fits _ q)
-
-pub overflow_cast-row-5 : goal.overflow_cast-row-5
-overflow_cast-row-5 c =
-    let q = kept_at c.args.f.now 4 (omega arith) c.requires.kept in
-    rw (range_back q) (narrow_fits _ q)
-
-pub returns : goal.returns
-returns c =
+pub loop-i-preserved : goal.loop-i-preserved
+loop-i-preserved c =
     let l = c.args.f.now in
-    let k = c.requires.kept in
-    record {
-      row_after = rw (range_back (kept_at l 0 (omega arith) k), range_back (kept_at l 1 (omega arith) k), range_back (kept_at l 2 (omega arith) k), range_back (kept_at l 3 (omega arith) k), range_back (kept_at l 4 (omega arith) k), narrow_back (kept_at l 0 (omega arith) k), narrow_back (kept_at l 1 (omega arith) k), narrow_back (kept_at l 2 (omega arith) k), narrow_back (kept_at l 3 (omega arith) k), narrow_back (kept_at l 4 (omega arith) k)) (store_wide l k c.requires.f_value);
-      short = rw (range_back (kept_at l 0 (omega arith) k), range_back (kept_at l 1 (omega arith) k), range_back (kept_at l 2 (omega arith) k), range_back (kept_at l 3 (omega arith) k), range_back (kept_at l 4 (omega arith) k), narrow_back (kept_at l 0 (omega arith) k), narrow_back (kept_at l 1 (omega arith) k), narrow_back (kept_at l 2 (omega arith) k), narrow_back (kept_at l 3 (omega arith) k), narrow_back (kept_at l 4 (omega arith) k)) (store_short l k);
-    }
+    let i = c.loop-i.i in
+    let q = kept_at l i (omega arith) c.requires.kept in
+    let v = ap (λ (z : ℤ). to_z w32 (of_z w32 z)) (range_back q) ∙ narrow_back q ∙ sym (get_or-take 5 l i (pos 0) c.loop-i-test.true) in
+    let n = c.requires.kept.long in
+    (λ j. set (c.loop-i.invariant j) i (v j)) ∙ rw add-one (front_put i (take 5 l) (replicate 5 (pos 0)) (pos 0) (omega (arith, length-take 5 l)) (sym (let t = length-take 5 l in omega arith)))
+
+pub returns-clause-short : goal.returns-clause-short
+returns-clause-short c =
+    let l = c.args.f.now in
+    let e : c.loop-i.i ≡ 5 = omega arith in
+    let f : c.loop-i.row ≡ take 5 l = c.loop-i.invariant ∙ ap (λ i. front i (take 5 l) (replicate 5 (pos 0))) e ∙ stored l c.requires.kept in
+    subst Short (sym f) (store_short l c.requires.kept)

@@ -13,7 +13,7 @@ use mir.Val.{of_z}
 use Rattle.language.specs.Form.{in_range, multiple_of, sum_of, ◌then_build◌}
 use Rattle.language.proofs.Integers.{range_back, range_fits, bits_zero}
 use Rattle.forms.proofs.Lists.{kept_at, drop_kept, drop_flat, closed_zero, closed_less, closed_more}
-use Rattle.forms.specs.Flat.{Kept}
+use Rattle.forms.specs.Flat.{Kept, built_of}
 use Rattle.forms.specs.Rows.{loop_at}
 use Rattle.forms.proofs.substitute.Goals as goal
 
@@ -26,10 +26,11 @@ pub bounds-f-at : goal.bounds-f-at
 bounds-f-at c = search rules
 
 pub returns-then-k-eq0 : goal.returns-then-k-eq0
+unfolding built_of
 returns-then-k-eq0 c =
     record {
       f_after = closed_zero c.args.f.now c.args.v (loop_at c.args.n c.args.lows.now c.args.highs.now) c.requires.kept (bits_zero (range_fits _ (k-in c.args.f.now c.args.v c.requires.v_lt_all_variables c.requires.kept)) c.if-k-eq0.true);
-      kept_2 = (λ _. c.requires.kept);
+      kept_2 = c.requires.kept;
     }
 
 pub add_scaled-requires : goal.add_scaled-requires

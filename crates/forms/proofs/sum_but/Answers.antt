@@ -9,9 +9,9 @@ use lib.ListN.{get_or, set}
 use mir.Syntax.{w64}
 use mir.Val.{to_z, of_z}
 use Rattle.language.specs.Form.{in_range, sum_of, multiple_of, ◌then_build◌}
-use Rattle.forms.specs.Flat.{Kept, as_form}
-use Rattle.language.proofs.Integers.{range_back, clash}
-use Rattle.forms.proofs.Lists.{kept_at, set_kept}
+use Rattle.forms.specs.Flat.{Kept, as_form, built_of}
+use Rattle.language.proofs.Integers.{range_back}
+use Rattle.forms.proofs.Lists.{kept_at, set_kept, not_built}
 use Rattle.forms.proofs.Laws.{Scaling, scaling_begun, scaling_again, scaling_stopped, scaling_ended}
 use Rattle.forms.proofs.sum_but.Goals as goal
 
@@ -34,17 +34,6 @@ x-told e h = ap (λ (z : ℤ). to_z w64 (of_z w64 z)) e ∙ range_back h
 number-told : (k x x' y : ℤ) {r : Bool} → x ≡ x' → in_range y ≡ true → r ≡ (in_range (k *ℤ to_z w64 (of_z w64 y)) && in_range (x +ℤ k *ℤ to_z w64 (of_z w64 y))) → r ≡ (in_range (k *ℤ y) && in_range (x' +ℤ k *ℤ y))
 number-told k x x' y e h p = p ∙ (λ j. in_range (k *ℤ range_back h j) && in_range (e j +ℤ k *ℤ range_back h j))
 
-pub loop-i-init : goal.loop-i-init
-loop-i-init c = scaling_begun _ _ _ _
-
-pub number_but-x-requires : goal.number_but-x-requires
-number_but-x-requires c =
-    record {
-      kept = c.requires.kept;
-      at_lt_form_numbers = c.requires.at_lt_form_numbers;
-      i_lt_form_numbers = omega (arith, c.loop-i-test.true);
-    }
-
 pub put_number-requires : goal.put_number-requires
 put_number-requires c =
     let rk = rest-kept c.args.f.now c.args.at c.requires.kept in
@@ -57,16 +46,13 @@ put_number-requires c =
       y_value = ap in_range (range_back y-in) ∙ y-in;
     }
 
-pub returns-else-put_number : goal.returns-else-put_number
-returns-else-put_number c =
+pub returns-in_err-put_number-clause-g_after : goal.returns-in_err-put_number-clause-g_after
+returns-in_err-put_number-clause-g_after c =
     let rk = rest-kept c.args.f.now c.args.at c.requires.kept in
     let x-in = kept_at (set c.args.f.now c.args.at (pos 0)) c.loop-i.i c.loop-i-test.true rk in
     let y-in = kept_at c.args.h.now c.loop-i.i c.loop-i-test.true c.requires.kept_2 in
-    let told = number-told (to_z w64 (of_z w64 c.args.k)) _ _ (get_or c.args.h.now c.loop-i.i (pos 0)) (x-told c.number_but-x.ensures x-in) y-in c.put_number.ensures.value in
-    record {
-      g_after = scaling_stopped c.loop-i.invariant rk c.requires.kept_2 c.requires.g_len c.loop-i-test.true (sym told ∙ c.if-put_number.false) ∙ meets c.args.k (set c.args.f.now c.args.at (pos 0)) c.args.h.now c.requires.k_value;
-      kept_3 = (λ e. absurd (clash (sym e)));
-    }
+    let told = number-told (to_z w64 (of_z w64 c.args.k)) _ _ (get_or c.args.h.now c.loop-i.i (pos 0)) (x-told c.number_but-x.ensures x-in) y-in c.in_err-put_number.ensures.value in
+    not_built _ _ c.from_residual.ensures.0 ∙ (scaling_stopped c.loop-i.invariant rk c.requires.kept_2 c.requires.g_len c.loop-i-test.true (sym told) ∙ meets c.args.k (set c.args.f.now c.args.at (pos 0)) c.args.h.now c.requires.k_value)
 
 pub loop-i-preserved : goal.loop-i-preserved
 loop-i-preserved c =
@@ -77,15 +63,16 @@ loop-i-preserved c =
     let x-in = kept_at rest i c.loop-i-test.true rk in
     let y-in = kept_at c.args.h.now i c.loop-i-test.true c.requires.kept_2 in
     let x-is = x-told c.number_but-x.ensures x-in in
-    let told = number-told k _ _ (get_or c.args.h.now i (pos 0)) x-is y-in c.put_number.ensures.value in
-    let put = c.put_number.ensures.g_after c.if-put_number.true ∙ (λ j. set c.loop-i.g i (x-is j +ℤ k *ℤ range_back y-in j)) in
+    let told = number-told k _ _ (get_or c.args.h.now i (pos 0)) x-is y-in c.in_ok-put_number.ensures.value in
+    let put = c.in_ok-put_number.ensures.g_after ∙ (λ j. set c.loop-i.g i (x-is j +ℤ k *ℤ range_back y-in j)) in
     subst (λ (g : List ℤ). Scaling k rest c.args.h.now c.args.g.now g (i + 1)) (sym put)
-    (scaling_again c.loop-i.invariant rk c.requires.kept_2 c.requires.g_len c.loop-i-test.true (sym told ∙ c.if-put_number.true))
+    (scaling_again c.loop-i.invariant rk c.requires.kept_2 c.requires.g_len c.loop-i-test.true (sym told))
 
 pub returns : goal.returns
+unfolding built_of
 returns c =
     let e = scaling_ended c.loop-i.invariant (rest-kept c.args.f.now c.args.at c.requires.kept) c.requires.kept_2 c.requires.g_len c.loop-i-test.false in
     record {
       g_after = e.0 ∙ meets c.args.k (set c.args.f.now c.args.at (pos 0)) c.args.h.now c.requires.k_value;
-      kept_3 = (λ _. e.1);
+      kept_3 = e.1;
     }

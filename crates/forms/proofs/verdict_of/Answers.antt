@@ -7,6 +7,6 @@ pub returns-then-natural : goal.returns-then-natural
 unfolding shown_of
 returns-then-natural c = sym (ap showing_by c.if-natural.true)
 
-pub returns : goal.returns
+pub returns-else-natural : goal.returns-else-natural
 unfolding shown_of
-returns c = sym (ap showing_by c.if-natural.false)
+returns-else-natural c = sym (ap showing_by c.if-natural.false)

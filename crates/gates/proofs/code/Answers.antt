@@ -1,31 +1,26 @@
 -- `gates::code` meets its contract. Assumes nothing.
-use borrow.Author.Tests.{eq-eqb, ne_eqb}
+use Rattle.std.proofs.Common.{rules}
 use Rattle.language.specs.Machine.{written}
 use Rattle.language.specs.Result.{op}
 use Rattle.gates.specs.Gates.{direction_of, gate_for}
 use Rattle.gates.proofs.code.Goals as goal
 
-pub returns-then-tag-eq32 : goal.returns-then-tag-eq32
+pub returns-in-32 : goal.returns-in-32
 unfolding direction_of gate_for written op
-returns-then-tag-eq32 c =
-    simp (eq-eqb _ _ c.if-tag-eq32.true)
+returns-in-32 c = search rules
 
-pub returns-then-reversed : goal.returns-then-reversed
+pub returns-in-33 : goal.returns-in-33
 unfolding direction_of gate_for written op
-returns-then-reversed c =
-    simp (ne_eqb _ _ c.if-tag-eq32.false, eq-eqb _ _ c.if-tag-eq33.true, c.if-reversed.true)
+returns-in-33 c = search rules
 
-pub returns-then-tag-eq33 : goal.returns-then-tag-eq33
+pub returns-in-33-2 : goal.returns-in-33-2
 unfolding direction_of gate_for written op
-returns-then-tag-eq33 c =
-    simp (ne_eqb _ _ c.if-tag-eq32.false, eq-eqb _ _ c.if-tag-eq33.true, c.if-reversed.false)
+returns-in-33-2 c = search rules
 
-pub returns-then-reversed-2 : goal.returns-then-reversed-2
+pub returns-in_default : goal.returns-in_default
 unfolding direction_of gate_for written op
-returns-then-reversed-2 c =
-    simp (ne_eqb _ _ c.if-tag-eq32.false, ne_eqb _ _ c.if-tag-eq33.false, c.if-reversed-2.true)
+returns-in_default c = search rules
 
-pub returns : goal.returns
+pub returns-in_default-2 : goal.returns-in_default-2
 unfolding direction_of gate_for written op
-returns c =
-    simp (ne_eqb _ _ c.if-tag-eq32.false, ne_eqb _ _ c.if-tag-eq33.false, c.if-reversed-2.false)
+returns-in_default-2 c = search rules

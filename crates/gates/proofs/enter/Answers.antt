@@ -7,33 +7,28 @@ use native.Mathlib.Omega.{arith}
 use lib.Seq.{slice}
 use Rattle.language.proofs.Integers.{clash}
 use Rattle.records.specs.declared.State.{State}
-use Rattle.records.specs.declared.Answer.{Answer}
-use Rattle.records.specs.declared.Answer.TheVariants.{Going, Ended, Stuck}
+use Rattle.std.specs.Prelude.{Result, Ok, Err}
+use Rattle.records.specs.declared.Stop.{Stop}
+use Rattle.records.specs.declared.Stop.TheVariants.{Ended, Stuck}
 use Rattle.records.specs.Outcomes.{Stepped}
 use Rattle.gates.specs.declared.Mode.{Mode}
 use Rattle.gates.specs.Gates.{Entered, Enterable}
 use Rattle.gates.proofs.enter.Goals as goal
+use Rattle.gates.proofs.enter.Goals.{then-mode-eq0-via-then-mode-eq0, then-mode-eq0-via-else-mode-eq0+then-tag-lt-H, then-mode-eq0-via-else-mode-eq0+else-tag-lt-H+then-tag-gt-PARAMETER_CALL}
 
-entered : (mode : Mode) (tag : ℕ) (l : List ℕ) (place : ℕ) (st : State) (r : Answer) → Enterable mode tag l → Stepped mode.limit place st r → Entered mode tag l place st r
+entered : (mode : Mode) (tag : ℕ) (l : List ℕ) (place : ℕ) (st : State) (r : Result State Stop) → Enterable mode tag l → Stepped mode.limit place st r → Entered mode tag l place st r
 unfolding Entered Stepped
-entered mode tag l place st (Going s) e h = record { enterable = e; step = h }
-entered mode tag l place st (Ended n p s) e h = record { enterable = e; none = h }
-entered mode tag l place st Stuck e h = absurd h
+entered mode tag l place st (Ok s) e h = record { enterable = e; step = h }
+entered mode tag l place st (Err (Ended n p s)) e h = record { enterable = e; none = h }
+entered mode tag l place st (Err Stuck) e h = absurd h
 
 pub returns-then-mode-eq0 : goal.returns-then-mode-eq0
 unfolding Entered
-returns-then-mode-eq0 c =
-    λ e. e.deep c.if-mode-eq0.true
-
-pub returns-then-tag-lt-H : goal.returns-then-tag-lt-H
-unfolding Entered
-returns-then-tag-lt-H c =
-    λ e. let h = e.low in omega arith
-
-pub returns-then-tag-gt-PARAMETER_CALL : goal.returns-then-tag-gt-PARAMETER_CALL
-unfolding Entered
-returns-then-tag-gt-PARAMETER_CALL c =
-    λ e. let h = e.high in omega arith
+returns-then-mode-eq0 c = λ e. elim c.then-mode-eq0.branch [
+  | then-mode-eq0-via-then-mode-eq0 w ↦ e.deep w.if-mode-eq0.true
+  | then-mode-eq0-via-else-mode-eq0+then-tag-lt-H w ↦ let h = e.low in omega arith
+  | then-mode-eq0-via-else-mode-eq0+else-tag-lt-H+then-tag-gt-PARAMETER_CALL w ↦ let h = e.high in omega arith
+]
 
 pub returns-then-nameless : goal.returns-then-nameless
 unfolding Entered

@@ -4,10 +4,10 @@ use native.Mathlib.Omega.{arith}
 use Rattle.records.specs.Outcomes.{Stepped}
 use Rattle.records.proofs.take_step.Goals as goal
 
-pub returns-then-limit-steps : goal.returns-then-limit-steps
+pub returns-then-limit-st : goal.returns-then-limit-st
 unfolding Stepped
-returns-then-limit-steps c =
-    record { none = omega arith; number = refl; here = refl; same = refl }
+returns-then-limit-st c =
+    record { none = omega arith; reason = refl; here = refl; same = refl }
 
 pub returns : goal.returns
 unfolding Stepped
