@@ -12,11 +12,14 @@ use lib.IntN.{ℤ, pos, negsuc, ◌+ℤ◌, ◌-ℤ◌}
 use lib.Signed.{le_z, lt_z}
 use lib.ListN.{length, get_or, take, drop, set, replicate, length-set, length-take, length-append, drop_of_length-le, take-append-drop, get_or-append}
 use lib.Seq.{take_all}
+use Rattle.std.proofs.lemmas.List.{take-append-le}
 use Rattle.std.specs.Prelude.{Result, Ok, Err, IsErr, OnOk, is_ok, is_err}
 use Rattle.language.specs.Form.{Form, Built, built, out_of_range, Loop, closed, showing_of, in_range, all_in_range, zipped, build, sum_of, difference_of, multiple_of, ◌then_build◌, without, none_negative, is_zero, all_zero, same_number, same_numbers, same_form}
 use Rattle.forms.specs.declared.OutOfRange.{OutOfRange}
 use Rattle.forms.specs.Flat.{Kept, Short, widened, as_form, built_of, showing_by}
-use Rattle.language.proofs.Integers.{clash, lt_true}
+use mir.Syntax.{w32, w64}
+use mir.Val.{to_z, of_z}
+use Rattle.language.proofs.Integers.{clash, lt_true, widen_back}
 use Rattle.std.specs.Bool.{Decides}
 use Rattle.std.specs.List.{list_all}
 use Rattle.form_laws.proofs.Equal.{same_number_lem, number_itself, same_numbers_lem, numbers_itself}
@@ -369,17 +372,9 @@ short_at l i h s = let n = s.long in get_or-append l (replicate 8 (pos 0)) (pos 
 pub short_range : (l : List ℤ) (i : ℕ) → i < 5 → Short l → in_range (get_or l i (pos 0)) ≡ true
 short_range l i h s = ap in_range (sym (short_at l i h s)) ∙ kept_at (widened l) i (omega arith) (short_kept l s)
 
--- the first five of a list, one by one
-abbrev pub listed : List ℤ → List ℤ
-listed l = get_or l 0 (pos 0) ∷ get_or l 1 (pos 0) ∷ get_or l 2 (pos 0) ∷ get_or l 3 (pos 0) ∷ get_or l 4 (pos 0) ∷ []
-
-five_first : (l : List ℤ) → 5 ≤ length l → listed l ≡ take 5 l
-five_first [] e = absurd (omega arith)
-five_first (a ∷ []) e = absurd (omega arith)
-five_first (a ∷ b ∷ []) e = absurd (omega arith)
-five_first (a ∷ b ∷ c ∷ []) e = absurd (omega arith)
-five_first (a ∷ b ∷ c ∷ d ∷ []) e = absurd (omega arith)
-five_first (a ∷ b ∷ c ∷ d ∷ x ∷ l) e = refl
+-- a number of a row, widened
+pub widen_read : {r z : ℤ} → r ≡ to_z w32 (of_z w32 z) → in_range z ≡ true → to_z w64 (of_z w64 r) ≡ z
+widen_read e q = ap (λ (z : ℤ). to_z w64 (of_z w64 z)) e ∙ widen_back q
 
 take_range : (n : ℕ) (l : List ℤ) → all_in_range l ≡ true → all_in_range (take n l) ≡ true
 unfolding all_in_range
@@ -387,22 +382,17 @@ take_range zero l e = refl
 take_range (suc n) [] e = refl
 take_range (suc n) (z ∷ l) e = both_true (in_range z) (all_in_range l) (all_in_range (take n l)) (take_range n l) e
 
-module _ (l : List ℤ) (s : Short l) where
-  five_all : listed l ≡ l
-  five_all = let n = s.long in five_first l (omega arith) ∙ take_all 5 l (omega arith)
+-- a row that is loaded: its numbers over a form that is 0
+pub loaded : (l : List ℤ) → Short l → front 5 (widened l) (replicate 13 (pos 0)) ≡ widened l
+loaded l s = let n = s.long in ap (λ (x : List ℤ). x ++ replicate 8 (pos 0)) (take-append-le 5 l (replicate 8 (pos 0)) (omega arith) ∙ take_all 5 l (omega arith))
 
-  pub load_wide : widened (listed l) ≡ widened l
-  load_wide = ap widened five_all
-
-  pub load_kept : Kept (widened (listed l))
-  load_kept = subst (λ (x : List ℤ). Kept (widened x)) (sym five_all) (short_kept l s)
-
+-- a row that is stored: the first numbers of the form
 module _ (l : List ℤ) (k : Kept l) where
-  five_some : listed l ≡ take 5 l
-  five_some = let n = k.long in five_first l (omega arith)
+  pub stored : front 5 (take 5 l) (replicate 5 (pos 0)) ≡ take 5 l
+  stored = let n = k.long in front_all 5 (take 5 l) (replicate 5 (pos 0)) (omega (arith, length-take 5 l)) refl
 
-  pub store_wide : drop 5 l ≡ replicate 8 (pos 0) → widened (listed l) ≡ l
-  store_wide e = ap widened five_some ∙ ap (λ (x : List ℤ). take 5 l ++ x) (sym e) ∙ take-append-drop 5 l
+  pub store_wide : drop 5 l ≡ replicate 8 (pos 0) → widened (take 5 l) ≡ l
+  store_wide e = ap (λ (x : List ℤ). take 5 l ++ x) (sym e) ∙ take-append-drop 5 l
 
-  pub store_short : Short (listed l)
-  store_short = subst (λ (x : List ℤ). Short x) (sym five_some) (record { long = (let n = k.long in omega (arith, length-take 5 l)); inside = take_range 5 l k.inside })
+  pub store_short : Short (take 5 l)
+  store_short = record { long = (let n = k.long in omega (arith, length-take 5 l)); inside = take_range 5 l k.inside }

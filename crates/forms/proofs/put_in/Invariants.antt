@@ -1,6 +1,5 @@
 -- `forms::put_in` meets its contract. Assumes nothing.
 use mathlib.Core.Path.{◌≡◌}
-use Prim.Native.Nat.{◌-◌, ◌≤◌}
 use lib.ListN.{drop}
 use Rattle.language.specs.Form.{put_in, terms_put_in}
 use Rattle.forms.specs.Flat.{Kept, widened, as_form}
@@ -9,8 +8,4 @@ use Rattle.forms.proofs.put_in.Given as goal
 
 abbrev pub invariant-loop-j : goal.invariant-loop-j
 invariant-loop-j l =
-    (l.j ≤ l.m) × Kept l.f × (put_in (as_form (widened l.size)) (forms_of l.m l.forms) ≡ terms_put_in (drop l.j (as_form (widened l.size)).coefficients) (drop l.j (forms_of l.m l.forms)) (as_form l.f))
-
-abbrev pub decreases-loop-j : goal.decreases-loop-j
-decreases-loop-j l =
-    l.m - l.j
+    Kept l.f × (put_in (as_form (widened l.size)) (forms_of l.m l.forms) ≡ terms_put_in (drop l.j (as_form (widened l.size)).coefficients) (drop l.j (forms_of l.m l.forms)) (as_form l.f))
