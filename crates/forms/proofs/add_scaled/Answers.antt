@@ -12,7 +12,7 @@ use Rattle.language.specs.Form.{in_range, sum_of, multiple_of, ◌then_build◌}
 use Rattle.forms.specs.Flat.{as_form, built_of}
 use Rattle.language.proofs.Integers.{range_back}
 use Rattle.forms.proofs.Lists.{kept_at, stands, not_built}
-use Rattle.forms.proofs.Laws.{Scaling, scaling_begun, scaling_again, scaling_stopped, scaling_ended}
+use Rattle.forms.proofs.Laws.{Scaling, scaling_again, scaling_stopped, scaling_ended}
 use Rattle.forms.proofs.add_scaled.Goals as goal
 
 -- the definition, for the number k as the machine reads it back

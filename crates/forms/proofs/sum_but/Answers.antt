@@ -12,7 +12,7 @@ use Rattle.language.specs.Form.{in_range, sum_of, multiple_of, ◌then_build◌}
 use Rattle.forms.specs.Flat.{Kept, as_form, built_of}
 use Rattle.language.proofs.Integers.{range_back}
 use Rattle.forms.proofs.Lists.{kept_at, set_kept, not_built}
-use Rattle.forms.proofs.Laws.{Scaling, scaling_begun, scaling_again, scaling_stopped, scaling_ended}
+use Rattle.forms.proofs.Laws.{Scaling, scaling_again, scaling_stopped, scaling_ended}
 use Rattle.forms.proofs.sum_but.Goals as goal
 
 rest-kept : (f : List ℤ) (at : ℕ) → Kept f → Kept (set f at (pos 0))
