@@ -16,7 +16,7 @@ use Rattle.form_laws.proofs.Trials.{for_most, trials_most}
 use Rattle.std.specs.Prelude.{Result, Ok, Err, OnOk, is_ok}
 use Rattle.forms.specs.declared.OutOfRange.{OutOfRange}
 use Rattle.forms.specs.Flat.{Kept, as_form, built_of}
-use Rattle.language.proofs.Integers.{integers, plus, minus, times, clash}
+use Rattle.language.proofs.Integers.{integers, plus, minus, times}
 use Rattle.forms.proofs.Lists.{tested, sum_flat, difference_flat, ranges, rest_good, rest_bad, rest_none, Passed, again, stopped, ended_kept, both, zero_yes, zero_no, term_flat, rest_long, set_kept}
 use Rattle.forms.proofs.Lists as L
 use Rattle.forms.specs.Rows.{Rows, loop_at, loops_of, forms_of}

@@ -2,7 +2,7 @@
 --     front i new old   the first i of `new`, and what is left of `old` past them: what such a loop has after i turns
 --     rest-...          the answer to "are all in range" is the answer for what is left, so long as each one passed is
 -- Assumes nothing.
-use mathlib.Core.Path.{◌≡◌, refl, sym, ap, ◌∙◌, subst}
+use mathlib.Core.Path.{◌≡◌, refl, sym, ap, ◌∙◌}
 use mathlib.Core.List.{List, [], ◌∷◌, ◌++◌, map}
 use mathlib.Core.Bool.{Bool, true, false, cond, ◌&&◌}
 use Prim.Native.Nat.{ℕ, zero, suc, ◌+◌, ◌≤◌, ◌<◌}
@@ -10,11 +10,11 @@ use native.Mathlib.Numerals.{add-one}
 use native.Mathlib.Omega.{arith}
 use lib.IntN.{ℤ, pos, negsuc, ◌+ℤ◌, ◌-ℤ◌}
 use lib.Signed.{le_z, lt_z}
-use lib.ListN.{length, get_or, take, drop, set, replicate, length-set, length-take, length-append, drop_of_length-le, take-append-drop, get_or-append}
+use lib.ListN.{length, get_or, take, drop, set, replicate, length-set, length-take, length-append, get_or-append}
 use lib.Seq.{take_all}
 use Rattle.std.proofs.lemmas.List.{take-append-le}
-use Rattle.std.specs.Prelude.{Result, Ok, Err, IsErr, OnOk, is_ok, is_err}
-use Rattle.language.specs.Form.{Form, Built, built, out_of_range, Loop, closed, showing_of, in_range, all_in_range, zipped, build, sum_of, difference_of, multiple_of, ◌then_build◌, without, none_negative, is_zero, all_zero, same_number, same_numbers, same_form}
+use Rattle.std.specs.Prelude.{Result, Ok, Err, IsErr, OnOk, is_err}
+use Rattle.language.specs.Form.{Built, built, out_of_range, Loop, closed, showing_of, in_range, all_in_range, zipped, build, sum_of, difference_of, multiple_of, ◌then_build◌, without, none_negative, is_zero, all_zero, same_numbers, same_form}
 use Rattle.forms.specs.declared.OutOfRange.{OutOfRange}
 use Rattle.forms.specs.Flat.{Kept, Short, widened, as_form, built_of, showing_by}
 use mir.Syntax.{w32, w64}
@@ -22,7 +22,7 @@ use mir.Val.{to_z, of_z}
 use Rattle.language.proofs.Integers.{clash, lt_true, widen_back}
 use Rattle.std.specs.Bool.{Decides}
 use Rattle.std.specs.List.{list_all}
-use Rattle.form_laws.proofs.Equal.{same_number_lem, number_itself, same_numbers_lem, numbers_itself}
+use Rattle.form_laws.proofs.Equal.{same_numbers_lem, numbers_itself}
 
 module _ {A : Type 0} where
   abbrev pub front : ℕ → List A → List A → List A

@@ -25,8 +25,8 @@ returns-then-f-variables-ne0-clause-f_value c =
     let h : 0 < n = omega (arith, c.loop-n-test.true) in
     let d : n ≡ n - 1 + 1 = omega arith in
     λ l u. c.loop-n.invariant l u
-        ∙ met c.args.variables l u f c.requires.kept n h (λ e. c.if-f-variables-ne0.true (ap (of_z w64) (here f c.args.variables n h ∙ e)))
-        ∙ ap (λ (k : ℕ). loops_of k l u) d
+    ∙ met c.args.variables l u f c.requires.kept n h (λ e. c.if-f-variables-ne0.true (ap (of_z w64) (here f c.args.variables n h ∙ e)))
+    ∙ ap (λ (k : ℕ). loops_of k l u) d
 
 pub loop-n-preserved : goal.loop-n-preserved
 loop-n-preserved c =
