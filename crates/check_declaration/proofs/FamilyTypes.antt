@@ -9,25 +9,21 @@ use lib.ListN.{length, drop, take}
 use lib.Seq.{slice, drop-drop}
 use lib.IntN.{ℤ}
 use borrow.Author.Tests.{ne_eqb}
-use types.Run.{OneOf}
-use denote.Enum.Declared.{tag_of}
 use Rattle.language.specs.Limits.{most_variables, most_parameters}
 use Rattle.language.specs.Tree.{Ending, ended, bad_type, plain}
 use Rattle.language.specs.Read.{Field, fields, choose, due, ending, read_plain, parts_of, family_type_of, read_family_type, read_type}
 use Rattle.language.specs.Check.{Checked, good, refused, ◌>>=◌, ◌>>◌, require, no_leftover, check_number, Formal, Kind, formal, size_scope, plain_size, plain_kind, plain_kinds, check_counts, check_formal, kind_of}
 use Rattle.fields.specs.Header.{fields_at, header_of, tagged_in}
 use Rattle.fields.proofs.Headers.{Wholly, View, ends, cuts, goes, view, when_not}
-use Rattle.fields.specs.declared.Tagged.TheVariants.{Not}
 use Rattle.check_index.specs.Answers.{Beyond}
-use Rattle.check_index.specs.declared.Read.{Read}
-use Rattle.check_index.specs.declared.Read.TheVariants.{Upto, Refused}
-use Rattle.check_index.specs.contracts.Read.{the_type}
-use Rattle.check_index.proofs.Answers.{not_first, more_left, none_left}
+use Rattle.std.specs.Prelude.{Result, Ok, Err, None}
+use Rattle.refusals.specs.Reasons.{number_of}
+use Rattle.refusals.specs.declared.Refusal.{Refusal}
+use Rattle.check_index.proofs.Answers.{more_left, none_left}
 use Rattle.check_operand.specs.Tables.{Formals, kinds_at}
 use Rattle.check_declaration.specs.Types.{checked_row, checked_rows}
 use Rattle.check_declaration.specs.Families.{first_in, second_in, counts_in, checked_counts, BothRight}
 use Rattle.check_declaration.specs.declared.Counts.{Counts}
-use Rattle.check_declaration.specs.declared.Counts.TheVariants.{Both, Bad}
 use Rattle.language.specs.Check as C
 
 -- ---- a family type among types
@@ -36,7 +32,7 @@ pub type_family : (s : C.Scope) (program : List ℕ) (at to parent next : ℕ) �
 unfolding due read_type choose
 type_family s program at to parent next w = sym (ap (λ (fs : List Field). kind_of s (due read_type (plain (bad_type 4 parent)) fs)) w.first)
 
-pub type_plain : (s : C.Scope) (program : List ℕ) (at to parent : ℕ) → to ≤ length program → tagged_in 18 (header_of at (fields_at program at to)) ≡ Not → plain_kind s (due read_plain (bad_type 4 parent) (fields_at program at to)) ≡ kind_of s (due read_type (plain (bad_type 4 parent)) (fields_at program at to))
+pub type_plain : (s : C.Scope) (program : List ℕ) (at to parent : ℕ) → to ≤ length program → tagged_in 18 (header_of at (fields_at program at to)) ≡ None → plain_kind s (due read_plain (bad_type 4 parent) (fields_at program at to)) ≡ kind_of s (due read_type (plain (bad_type 4 parent)) (fields_at program at to))
 unfolding due read_type read_plain choose kind_of
 type_plain s program at to parent k e = go (view program at to k)
   where
@@ -81,11 +77,11 @@ module _ (q : ℕ) where
       by true false = refl
       by true true = refl
 
-pub both_right : (at next : ℕ) (c : Counts) (m p : ℕ) → c ≡ Both m p → BothRight at next c → (m ≤ most_variables) × (1 ≤ p) × (p ≤ most_parameters) × (at + 5 ≤ next)
-both_right at next c m p u h = rw u at h
+pub both_right : (at next : ℕ) (c : Result Counts Refusal) (n : Counts) → c ≡ Ok n → BothRight at next c → (n.variables ≤ most_variables) × (1 ≤ n.parameters) × (n.parameters ≤ most_parameters) × (at + 5 ≤ next)
+both_right at next c n u h = rw u at h
 
 -- the answer on a family type, by the answers on its numbers and on its plain types
-module _ (s : C.Scope) (program : List ℕ) (at next : ℕ) (c : Counts) (e : checked_counts c ≡ counts_in at (slice (at + 3) next program)) where
+module _ (s : C.Scope) (program : List ℕ) (at next : ℕ) (c : Result Counts Refusal) (e : checked_counts c ≡ counts_in at (slice (at + 3) next program)) where
   abbrev here : Checked Kind
   here = kind_of s (read_family_type at (slice (at + 3) next program))
 
@@ -94,11 +90,11 @@ module _ (s : C.Scope) (program : List ℕ) (at next : ℕ) (c : Counts) (e : ch
       family_type_is at s (slice (at + 3) next program)
       ∙ (λ i. sym e i >>= takes_of at (two_on program at next i))
 
-  pub counts_bad : (n p : ℕ) → c ≡ Bad n p → refused n p ≡ here
+  pub counts_bad : (f : Refusal) → c ≡ Err f → refused (number_of f.0) f.1 ≡ here
   unfolding checked_counts ◌>>=◌
-  counts_bad n p u = sym (here_is ∙ ap (λ (x : Counts). checked_counts x >>= takes_of at (fields_at program (at + 5) next)) u)
+  counts_bad f u = sym (here_is ∙ ap (λ (x : Result Counts Refusal). checked_counts x >>= takes_of at (fields_at program (at + 5) next)) u)
 
-  module _ (m p : ℕ) (u : c ≡ Both m p) (formals : Formals) (r : Read) (first : ℕ) (kinds : List ℕ) (sizes : List (List ℤ))
+  module _ (m p : ℕ) (u : c ≡ Ok (record { variables = m; parameters = p })) (formals : Formals) (r : Result ℕ Refusal) (first : ℕ) (kinds : List ℕ) (sizes : List (List ℤ))
       (t : checked_rows formals r p first kinds sizes ≡ plain_kinds (size_scope m) (parts_of read_plain (bad_type 4 at) p (fields_at program (at + 5) next))) where
     abbrev finished : List Field → List Kind → Checked Formal
     finished fs ks = no_leftover at (ending fs) >> good (record { variables = m; sizes = map plain_size ks })
@@ -106,22 +102,18 @@ module _ (s : C.Scope) (program : List ℕ) (at next : ℕ) (c : Counts) (e : ch
     both_is : here ≡ ((checked_rows formals r p first kinds sizes >>= finished (drop p (fields_at program (at + 5) next))) >>= λ g. good (formal g))
     unfolding checked_counts check_formal ◌>>=◌
     both_is =
-        here_is ∙ ap (λ (x : Counts). checked_counts x >>= takes_of at (fields_at program (at + 5) next)) u
+        here_is ∙ ap (λ (x : Result Counts Refusal). checked_counts x >>= takes_of at (fields_at program (at + 5) next)) u
         ∙ ap (λ (x : Checked (List Kind)). (x >>= finished (drop p (fields_at program (at + 5) next))) >>= λ g. good (formal g)) (sym t)
 
-    pub plain_refused : OneOf (1 ∷ []) (tag_of the_type r) → (g : Formals) (row : ℕ) (k₁ : List ℕ) (s₁ : List (List ℤ)) → checked_row g r row k₁ s₁ ≡ here
+    pub plain_refused : {f : Refusal} → r ≡ Err f → (g : Formals) (row : ℕ) (k₁ : List ℕ) (s₁ : List (List ℤ)) → checked_row g (Err f) row k₁ s₁ ≡ here
     unfolding checked_rows checked_row ◌>>=◌
-    plain_refused h g row k₁ s₁ = by r h ∙ sym both_is
-      where
-        by : (r : Read) → OneOf (1 ∷ []) (tag_of the_type r) → checked_row g r row k₁ s₁ ≡ ((checked_rows formals r p first kinds sizes >>= finished (drop p (fields_at program (at + 5) next))) >>= λ g. good (formal g))
-        by (Upto n) h = not_first h
-        by (Refused n q) h = refl
+    plain_refused h g row k₁ s₁ = sym (both_is ∙ ap (λ (x : Result ℕ Refusal). (checked_rows formals x p first kinds sizes >>= finished (drop p (fields_at program (at + 5) next))) >>= λ g. good (formal g)) h)
 
-    module _ (end : ℕ) (v : r ≡ Upto end) (b : Beyond program (at + 5) next p end) where
+    module _ (end : ℕ) (v : r ≡ Ok end) (b : Beyond program (at + 5) next p end) where
       end_is : here ≡ (finished (fields_at program end next) (kinds_at formals p first kinds sizes) >>= λ g. good (formal g))
       unfolding checked_rows ◌>>=◌
       end_is =
-          both_is ∙ ap (λ (x : Read). (checked_rows formals x p first kinds sizes >>= finished (drop p (fields_at program (at + 5) next))) >>= λ g. good (formal g)) v
+          both_is ∙ ap (λ (x : Result ℕ Refusal). (checked_rows formals x p first kinds sizes >>= finished (drop p (fields_at program (at + 5) next))) >>= λ g. good (formal g)) v
           ∙ ap (λ (fs : List Field). finished fs (kinds_at formals p first kinds sizes) >>= λ g. good (formal g)) b.rest
 
       pub plain_left : end < next → next ≤ length program → refused 4 at ≡ here

@@ -10,8 +10,6 @@ use lib.IntN.{ℤ}
 use lib.ListN.{length, get_or, set, length-set}
 use lib.Seq.{get_or-set_same, get_or-set_other}
 use borrow.Author.Tests.{eqb-true, eqb-false, ltb-true, ltb-false}
-use types.Run.{OneOf}
-use denote.Enum.Declared.{tag_of}
 use Rattle.language.specs.Limits.{most_families, most_variables}
 use Rattle.language.specs.Form.{Form}
 use Rattle.language.specs.Check.{Formal, plain_size}
@@ -22,10 +20,9 @@ use Rattle.check_operand.specs.Tables.{Formals, kind_in, kind_of_row, size_of_ro
 use Rattle.check_operand.proofs.Tables.{rows_same}
 use Rattle.check_call.specs.Calls.{plain_in, plain_by, plains_at, formal_in, formal_at, IsPlain}
 use Rattle.check_index.specs.Answers.{Passes}
-use Rattle.check_index.specs.declared.Read.{Read}
-use Rattle.check_index.specs.declared.Read.TheVariants.{Upto, Refused}
-use Rattle.check_index.specs.contracts.Read.{the_type}
-use Rattle.check_index.proofs.Answers.{not_first}
+use Rattle.std.specs.Prelude.{Result, Ok, Err}
+use Rattle.refusals.specs.Reasons.{number_of}
+use Rattle.refusals.specs.declared.Refusal.{Refusal}
 use Rattle.check_declaration.specs.Types.{size_row, plain_row, row_number, OperandTable, InUse, InUseAfter, Apart, TypesWithin, PlainRows, PlainAfter, FormalRight, FormalsIn, FormalsAfter, FormalsBefore, Stays}
 use Rattle.check_declaration.proofs.Tables.{number_kind, apart_kind}
 
@@ -48,24 +45,11 @@ more_plain bytes first j k₀ k₁ s₀ s₁ p a q i h = by (ltb i j) refl
         let z : first + i ≡ first + j + 0 = omega arith in
         rw z (q 0 (omega arith))
 
-pub plain_upto : (r : Read) (n count first : ℕ) (kinds : List ℕ) → r ≡ Upto n → PlainAfter r count first kinds → PlainRows count first kinds
+pub plain_upto : (r : Result ℕ Refusal) (n count first : ℕ) (kinds : List ℕ) → r ≡ Ok n → PlainAfter r count first kinds → PlainRows count first kinds
 plain_upto r n count first kinds e h = rw e at h
 
--- nothing is said of types where one is refused
-pub within_stops : (at to count : ℕ) (r : Read) → OneOf (1 ∷ []) (tag_of the_type r) → TypesWithin at to count r
-within_stops at to count (Upto n) h = not_first h
-within_stops at to count (Refused n p) h = tt
-
-pub within_upto : (at to count : ℕ) (r : Read) (n : ℕ) → r ≡ Upto n → TypesWithin at to count r → (at + 3 * count ≤ n) × (n ≤ to)
+pub within_upto : (at to count : ℕ) (r : Result ℕ Refusal) (n : ℕ) → r ≡ Ok n → TypesWithin at to count r → (at + 3 * count ≤ n) × (n ≤ to)
 within_upto at to count r n e h = rw e at h
-
-pub after_stops : (rows registers : ℕ) (r : Read) (kinds : List ℕ) → OneOf (1 ∷ []) (tag_of the_type r) → InUseAfter rows registers r kinds
-after_stops rows registers (Upto n) kinds h = not_first h
-after_stops rows registers (Refused n p) kinds h = tt
-
-pub plain_stops : (r : Read) (count first : ℕ) (kinds : List ℕ) → OneOf (1 ∷ []) (tag_of the_type r) → PlainAfter r count first kinds
-plain_stops (Upto n) count first kinds h = not_first h
-plain_stops (Refused n p) count first kinds h = tt
 
 -- ---- what a family parameter takes, from its rows
 
@@ -262,22 +246,14 @@ kinds_stay bytes rows first at registers n i {f₀} {k₀} {s₀} {f₁} {k₁} 
 pub formals_later : (at to : ℕ) (families : List (List ℕ)) (kinds : List ℕ) → at ≤ to → FormalsIn at families kinds → FormalsIn to families kinds
 formals_later at to families kinds h f x = let r = f x in record { few = r.few; inside = r.inside; low = r.low; high = λ i z. omega (arith, r.high i z); plain = r.plain }
 
-pub formals_upto : (n : ℕ) (r : Read) (families : List (List ℕ)) (kinds : List ℕ) → r ≡ Upto n → FormalsAfter r families kinds → FormalsIn n families kinds
+pub formals_upto : (n : ℕ) (r : Result ℕ Refusal) (families : List (List ℕ)) (kinds : List ℕ) → r ≡ Ok n → FormalsAfter r families kinds → FormalsIn n families kinds
 formals_upto n r families kinds e h = rw e at h
 
-pub formals_stop : (to : ℕ) (r : Read) (families : List (List ℕ)) (kinds : List ℕ) → OneOf (1 ∷ []) (tag_of the_type r) → FormalsBefore to r families kinds
-formals_stop to (Upto n) families kinds h = not_first h
-formals_stop to (Refused n p) families kinds h = tt
-
 -- a plain parameter in its row
-pub plain_after : (program : List ℕ) (at to row registers : ℕ) (r : Read) (k₀ k₁ : List ℕ) → InUse row registers at k₀ → Passes program at to r → InUseAfter 0 registers r k₁ → InUseAfter (row + 1) registers r k₁
-plain_after program at to row registers (Upto n) k₀ k₁ u p h = record { few = omega (arith, u.few, p.low); few_registers = h.few_registers; named = h.named }
-plain_after program at to row registers (Refused n q) k₀ k₁ u p h = tt
+pub plain_after : (program : List ℕ) (at to row registers : ℕ) (r : Result ℕ Refusal) (k₀ k₁ : List ℕ) → InUse row registers at k₀ → Passes program at to r → InUseAfter 0 registers r k₁ → InUseAfter (row + 1) registers r k₁
+plain_after program at to row registers (Ok n) k₀ k₁ u p h = record { few = omega (arith, u.few, p.low); few_registers = h.few_registers; named = h.named }
+plain_after program at to row registers (Err e) k₀ k₁ u p h = tt
 
-pub formals_after : (program : List ℕ) (bytes row at to : ℕ) (r : Read) (families : List (List ℕ)) {k₀ : List ℕ} {s₀ : List (List ℤ)} {k₁ : List ℕ} {s₁ : List (List ℤ)} → FormalsIn at families k₀ → Apart bytes row 1 k₀ s₀ k₁ s₁ → row < length k₀ / 2 → Passes program at to r → FormalsAfter r families k₁
-formals_after program bytes row at to (Upto n) families f a h p = formals_lower bytes row 1 at families f a (omega arith) n (omega (arith, p.low))
-formals_after program bytes row at to (Refused n q) families f a h p = tt
-
-pub formals_refused : (r : Read) (families : List (List ℕ)) (kinds : List ℕ) → OneOf (1 ∷ []) (tag_of the_type r) → FormalsAfter r families kinds
-formals_refused (Upto n) families kinds h = not_first h
-formals_refused (Refused n p) families kinds h = tt
+pub formals_after : (program : List ℕ) (bytes row at to : ℕ) (r : Result ℕ Refusal) (families : List (List ℕ)) {k₀ : List ℕ} {s₀ : List (List ℤ)} {k₁ : List ℕ} {s₁ : List (List ℤ)} → FormalsIn at families k₀ → Apart bytes row 1 k₀ s₀ k₁ s₁ → row < length k₀ / 2 → Passes program at to r → FormalsAfter r families k₁
+formals_after program bytes row at to (Ok n) families f a h p = formals_lower bytes row 1 at families f a (omega arith) n (omega (arith, p.low))
+formals_after program bytes row at to (Err e) families f a h p = tt

@@ -9,17 +9,14 @@ use lib.ListN.{length}
 use lib.IntN.{ℤ}
 use borrow.Author.Tests.{le-leb, lt-leb, le-ltb, lt-ltb, leb-true, ltb-true}
 use native.Mathlib.Decide.{dec_lt}
-use types.Run.{OneOf}
-use denote.Enum.Declared.{tag_of}
 use Rattle.language.specs.Limits.{most_registers}
 use Rattle.language.specs.Read.{ending, two_bytes, register_size, register_end}
 use Rattle.language.specs.Check.{Checked, good, refused, ◌>>=◌, ◌>>◌, require, no_leftover, check_number, check_register}
 use Rattle.kinds.specs.declared.Kind.{Kind}
-use Rattle.check_index.specs.contracts.Read.{the_type}
 use Rattle.check_declaration.specs.Registers.{register_in, checked_register, RegisterSet}
-use Rattle.check_index.specs.declared.Read.{Read}
-use Rattle.check_index.specs.declared.Read.TheVariants.{Upto, Refused}
-use Rattle.check_index.proofs.Answers.{not_first}
+use Rattle.std.specs.Prelude.{Result, Ok, Err}
+use Rattle.refusals.specs.Reasons.{number_of}
+use Rattle.refusals.specs.declared.Refusal.{Refusal}
 use Rattle.language.specs.Check as C
 
 module _ (p count total most : ℕ) (content : List ℕ) where
@@ -82,19 +79,15 @@ module _ (p count total most n : ℕ) where
   many true q x c e = numbers x (ltb-true count most_registers q) c e
   many false q x c e = never e
 
-pub size_fits_lem : (r : Read) (n p count total most : ℕ) (content : List ℕ) → r ≡ Upto n → checked_register r ≡ register_in p count total most content → Sized count total most n
+pub size_fits_lem : (r : Result ℕ Refusal) (n p count total most : ℕ) (content : List ℕ) → r ≡ Ok n → checked_register r ≡ register_in p count total most content → Sized count total most n
 unfolding checked_register check_register
 size_fits_lem r n p count total most content u e = many p count total most n (ltb count most_registers) refl (check_number p (register_size content)) (C.no_leftover p (register_end content)) (sym (ap checked_register u) ∙ e)
 
 -- a register's size takes two bytes
-pub size_two : (r : Read) (n p count total most : ℕ) (content : List ℕ) → r ≡ Upto n → checked_register r ≡ register_in p count total most content → 2 ≤ length content
+pub size_two : (r : Result ℕ Refusal) (n p count total most : ℕ) (content : List ℕ) → r ≡ Ok n → checked_register r ≡ register_in p count total most content → 2 ≤ length content
 unfolding checked_register
 size_two r n p count total most content u e = go (dec_lt (length content) 2)
   where
     go : Dec (length content < 2) → 2 ≤ length content
     go (yes k) = never (sym (ap checked_register u) ∙ e ∙ sym (size_short p count total most content (size_fits_lem r n p count total most content u e).room k))
     go (no k) = omega arith
-
-pub register_stops : (bytes next : ℕ) (r : Read) (kind : Kind) (count total most : ℕ) (k₀ : List ℕ) (s₀ : List (List ℤ)) (k₁ : List ℕ) (s₁ : List (List ℤ)) → OneOf (1 ∷ []) (tag_of the_type r) → RegisterSet bytes next r kind count total most k₀ s₀ k₁ s₁
-register_stops bytes next (Upto n) kind count total most k₀ s₀ k₁ s₁ h = not_first h
-register_stops bytes next (Refused n p) kind count total most k₀ s₀ k₁ s₁ h = tt

@@ -14,8 +14,10 @@ use Rattle.language.specs.Check.{Checked, good, refused, ◌>>=◌, ◌>>◌, re
 use Rattle.language.proofs.FormLaws.{Zeros, also, Within, constant_within, variable_within, within_sum, within_difference, within_multiple}
 use Rattle.forms.specs.Flat.{Kept, as_form}
 use Rattle.check_declaration.specs.Types.{checked_type}
-use Rattle.check_declaration.specs.declared.TypeRead.{TypeRead}
-use Rattle.check_declaration.specs.declared.TypeRead.TheVariants.{Many}
+use Rattle.check_declaration.specs.declared.PlainType as P
+use Rattle.check_declaration.specs.declared.PlainType.TheVariants.{Many}
+use Rattle.std.specs.Prelude.{Result, Ok, Err}
+use Rattle.refusals.specs.declared.Refusal.{Refusal}
 
 module _ (n : ℕ) where
   -- a form in the first n variables, or a refusal
@@ -96,9 +98,9 @@ zeros_all [] z = refl
 zeros_all (c ∷ cs) (also e z) = λ i. e i ∷ zeros_all cs z i
 
 -- beyond the numbers of such a size, the list of such a form has only zeros
-pub narrow : (r : TypeRead) (n : ℕ) (l : List ℤ) (s : Scope) (x : PlainType) → r ≡ Many n → Kept l → checked_type r l ≡ plain_kind s x → s.variables + length s.loops ≤ 4 → drop 5 l ≡ replicate 8 (pos 0)
+pub narrow : (r : Result P.PlainType Refusal) (n : ℕ) (l : List ℤ) (s : Scope) (x : PlainType) → r ≡ Ok (Many n) → Kept l → checked_type r l ≡ plain_kind s x → s.variables + length s.loops ≤ 4 → drop 5 l ≡ replicate 8 (pos 0)
 unfolding checked_type as_form
-narrow r n l s x u k e h = by l k (subst (λ (c : Checked Kind). FewKind 4 c) (sym e ∙ ap (λ (y : TypeRead). checked_type y l) u) (kind_few 4 s x h))
+narrow r n l s x u k e h = by l k (subst (λ (c : Checked Kind). FewKind 4 c) (sym e ∙ ap (λ (y : Result P.PlainType Refusal). checked_type y l) u) (kind_few 4 s x h))
   where
     by : (l : List ℤ) → Kept l → Within 4 (as_form l) → drop 5 l ≡ replicate 8 (pos 0)
     by [] k w = absurd (let z = k.long in omega arith)

@@ -10,8 +10,6 @@ use lib.IntN.{ℤ}
 use lib.ListN.{length, get_or, set, length-set}
 use lib.Seq.{get_or-set_same, get_or-set_other}
 use borrow.Author.Tests.{eqb-true, eqb-false}
-use types.Run.{OneOf}
-use denote.Enum.Declared.{tag_of}
 use Rattle.language.specs.Limits.{most_registers}
 use Rattle.kinds.specs.Numbers.{number_of, kind_with, kind_back}
 use Rattle.kinds.specs.declared.Kind.{Kind}
@@ -21,10 +19,8 @@ use Rattle.forms.specs.Rows.{ShortRows}
 use Rattle.check_operand.specs.Tables.{Formals, kind_of_row, size_of_row, kind_in, kind_by, kind_at, kinds_at}
 use Rattle.check_operand.proofs.Tables.{rows_same}
 use Rattle.check_declaration.specs.Types.{size_row, row_number, OperandTable, InUse, InUseAfter, InUseBefore, Apart}
-use Rattle.check_index.specs.declared.Read.{Read}
-use Rattle.check_index.specs.declared.Read.TheVariants.{Upto, Refused}
-use Rattle.check_index.specs.contracts.Read.{the_type}
-use Rattle.check_index.proofs.Answers.{not_first}
+use Rattle.std.specs.Prelude.{Result, Ok, Err}
+use Rattle.refusals.specs.declared.Refusal.{Refusal}
 
 short_set : (rows : List (List ℤ)) (n i : ℕ) (l : List ℤ) → ShortRows rows n → Short l → ShortRows (set rows i l) n
 short_set rows n i l r k = record {
@@ -62,11 +58,7 @@ apart_none bytes first count kinds sizes t = record { table = t; kinds_same = re
 pub in_use_later : (rows more registers at to : ℕ) (kinds : List ℕ) → InUse rows registers at kinds → at ≤ to → 3 * more ≤ 3 * most_registers + to → InUse more registers to kinds
 in_use_later rows more registers at to kinds u h k = record { few = k; few_registers = u.few_registers; named = λ j. omega (arith, u.named j) }
 
-pub in_use_stops : (rows registers to : ℕ) (r : Read) (kinds : List ℕ) → OneOf (1 ∷ []) (tag_of the_type r) → InUseBefore rows registers to r kinds
-in_use_stops rows registers to (Upto n) kinds h = not_first h
-in_use_stops rows registers to (Refused n p) kinds h = tt
-
-pub in_use_upto : (rows registers n : ℕ) (r : Read) (kinds : List ℕ) → r ≡ Upto n → InUseAfter rows registers r kinds → InUse rows registers n kinds
+pub in_use_upto : (rows registers n : ℕ) (r : Result ℕ Refusal) (kinds : List ℕ) → r ≡ Ok n → InUseAfter rows registers r kinds → InUse rows registers n kinds
 in_use_upto rows registers n r kinds e h = rw e at h
 
 -- a row that names a size of an earlier row than the next

@@ -8,8 +8,6 @@ use lib.Seq.{slice}
 use lib.IntN.{ℤ}
 use borrow.Author.Tests.{ne_eqb}
 use native.Mathlib.Decide.{dec_lt}
-use types.Run.{OneOf}
-use denote.Enum.Declared.{tag_of}
 use Rattle.language.specs.Tree.{bad_index, bad_type}
 use Rattle.language.specs.Form.{Form, built}
 use Rattle.language.specs.Read.{Field, field, Reader, choose, due, ending, fields_after, qbits_of, outer_index, read_index, index_by, read_literal, read_variable, operation_of, read_plain, read_qbit, bad_header, parts_of, read_type}
@@ -18,34 +16,32 @@ use Rattle.language.specs.Check.{Checked, good, refused, ◌>>=◌, ◌>>◌, Ki
 use Rattle.fields.proofs.Headers.{Wholly, View, ends, cuts, goes, view, one_byte, slice_none}
 use Rattle.fields.specs.Header.{fields_at}
 use Rattle.forms.specs.Flat.{Kept, as_form, Short, widened}
-use Rattle.check_index.specs.contracts.Read.{the_type}
-use Rattle.check_index.proofs.Answers.{more_left, none_left, not_first, then_goes}
+use Rattle.check_index.proofs.Answers.{more_left, none_left, then_upto}
 use Rattle.check_index.specs.Answers.{PastField, FormEndsAt, checked_form, checked_part}
 use Rattle.check_index.specs.Indexes.{scope_of}
 use Rattle.kinds.specs.declared.Kind as K
 use Rattle.kinds.specs.declared.Kind.TheVariants.{Qubit, Quantum}
 use Rattle.check_operand.specs.Tables.{Formals, scope_with, kind_in, size_of_row, kind_at, kinds_at, tabulated}
 use Rattle.check_declaration.specs.Types.{row_number, checked_sized_type, checked_type, TypePasses, OperandTable, checked_row, checked_rows}
-use Rattle.check_index.specs.declared.Read.{Read}
-use Rattle.check_index.specs.declared.Read.TheVariants.{Upto, Refused}
+use Rattle.std.specs.Prelude.{Result, Ok, Err}
+use Rattle.refusals.specs.Reasons.{number_of}
+use Rattle.refusals.specs.declared.Refusal.{Refusal}
 use Rattle.check_operand.proofs.Tables.{same_forms, row_more}
-use Rattle.check_declaration.specs.declared.TypeRead.{TypeRead}
-use Rattle.check_declaration.specs.declared.TypeRead.TheVariants.{Single, Many, Bad}
+use Rattle.check_declaration.specs.declared.PlainType.{PlainType}
+use Rattle.check_declaration.specs.declared.PlainType.TheVariants.{Single, Many}
 use Rattle.check_declaration.proofs.Tables.{number_kind, row_kind, row_both}
 use Rattle.language.specs.Tree as T
 use Rattle.language.specs.Check as C
 
-pub size_stops : (r : Read) (l : List ℤ) (next : Form → Checked Kind) (k : List ℤ) → OneOf (1 ∷ []) (tag_of the_type r) → checked_sized_type r k ≡ (checked_form r l >>= next)
+pub size_stops : (r : Result ℕ Refusal) (l : List ℤ) (next : Form → Checked Kind) (k : List ℤ) {e : Refusal} → r ≡ Err e → checked_sized_type (Err e) k ≡ (checked_form r l >>= next)
 unfolding checked_sized_type checked_form ◌>>=◌
-size_stops (Upto n) l next k h = not_first h
-size_stops (Refused n p) l next k h = refl
+size_stops r l next k h = sym (ap (λ (x : Result ℕ Refusal). checked_form x l >>= next) h)
 
-pub shown_stops : (t : Read) (next : Checked Kind) (k : List ℤ) → OneOf (1 ∷ []) (tag_of the_type t) → checked_sized_type t k ≡ (checked_part t >> next)
+pub shown_stops : (t : Result ℕ Refusal) (next : Checked Kind) (k : List ℤ) {e : Refusal} → t ≡ Err e → checked_sized_type (Err e) k ≡ (checked_part t >> next)
 unfolding checked_sized_type checked_part ◌>>◌
-shown_stops (Upto n) next k h = not_first h
-shown_stops (Refused n p) next k h = refl
+shown_stops t next k h = sym (ap (λ (x : Result ℕ Refusal). checked_part x >> next) h)
 
-module _ (fs : List Signature) (ks : List Kind) (m : ℕ) (program : List ℕ) (at next : ℕ) (r : Read) (l : List ℤ) (e : checked_form r l ≡ form_of (scope_of m) (due outer_index (bad_index 4 at) (fields_at program (at + 3) next))) where
+module _ (fs : List Signature) (ks : List Kind) (m : ℕ) (program : List ℕ) (at next : ℕ) (r : Result ℕ Refusal) (l : List ℤ) (e : checked_form r l ≡ form_of (scope_of m) (due outer_index (bad_index 4 at) (fields_at program (at + 3) next))) where
   abbrev pub typed : Checked Kind
   typed = plain_kind (scope_with fs ks m []) (qbits_of at (fields_at program (at + 3) next))
 
@@ -56,31 +52,31 @@ module _ (fs : List Signature) (ks : List Kind) (m : ℕ) (program : List ℕ) (
   unfolding plain_kind qbits_of scope_of
   typed_is = ap (λ (c : Checked Form). c >>= finish (drop 1 (fields_at program (at + 3) next))) (sym (e ∙ same_forms (scope_of m) (scope_with fs ks m []) (due outer_index (bad_index 4 at) (fields_at program (at + 3) next)) refl))
 
-  pub type_stops : (k : List ℤ) → OneOf (1 ∷ []) (tag_of the_type r) → checked_sized_type r k ≡ typed
+  pub type_stops : (k : List ℤ) {e : Refusal} → r ≡ Err e → checked_sized_type (Err e) k ≡ typed
   type_stops k h = size_stops r l (finish (drop 1 (fields_at program (at + 3) next))) k h ∙ sym typed_is
 
-  module _ (end : ℕ) (u : r ≡ Upto end) (v : PastField program (at + 3) next end) where
+  module _ (end : ℕ) (u : r ≡ Ok end) (v : PastField program (at + 3) next end) where
     type_end : typed ≡ finish (fields_at program end next) (as_form l)
     unfolding checked_form ◌>>=◌
-    type_end = typed_is ∙ ap (λ (x : Read). checked_form x l >>= finish (drop 1 (fields_at program (at + 3) next))) u ∙ ap (λ (gs : List Field). finish gs (as_form l)) v.rest
+    type_end = typed_is ∙ ap (λ (x : Result ℕ Refusal). checked_form x l >>= finish (drop 1 (fields_at program (at + 3) next))) u ∙ ap (λ (gs : List Field). finish gs (as_form l)) v.rest
 
     pub type_long : end < next → next ≤ length program → refused 4 at ≡ typed
     unfolding no_leftover ◌>>◌
     type_long h k = sym (type_end ∙ ap (λ (x : T.Ending). no_leftover at x >> (must_show at (scope_with fs ks m []) (built (as_form l)) >> good (quantum (as_form l)))) (more_left program end next h k))
 
-    module _ (h : next ≤ end) (t : Read) (d : checked_part t ≡ must_show at (scope_with fs ks m []) (built (as_form l))) where
+    module _ (h : next ≤ end) (t : Result ℕ Refusal) (d : checked_part t ≡ must_show at (scope_with fs ks m []) (built (as_form l))) where
       type_shown : typed ≡ (checked_part t >> good (quantum (as_form l)))
       unfolding no_leftover ◌>>◌
       type_shown =
           type_end ∙ ap (λ (x : T.Ending). no_leftover at x >> (must_show at (scope_with fs ks m []) (built (as_form l)) >> good (quantum (as_form l)))) (none_left program end next h)
           ∙ ap (λ (c : Checked (Unit {0})). c >> good (quantum (as_form l))) (sym d)
 
-      pub type_not : (k : List ℤ) → OneOf (1 ∷ []) (tag_of the_type t) → checked_sized_type t k ≡ typed
+      pub type_not : (k : List ℤ) {e : Refusal} → t ≡ Err e → checked_sized_type (Err e) k ≡ typed
       type_not k q = shown_stops t (good (quantum (as_form l))) k q ∙ sym type_shown
 
-      pub type_good : OneOf (0 ∷ []) (tag_of the_type t) → checked_sized_type (Upto next) l ≡ typed
+      pub type_good : (n : ℕ) → t ≡ Ok n → checked_sized_type (Ok next) l ≡ typed
       unfolding checked_sized_type
-      type_good q = sym (type_shown ∙ then_goes t (good (quantum (as_form l))) q)
+      type_good n q = sym (type_shown ∙ then_upto t n (good (quantum (as_form l))) q)
 
 -- an index takes 4 bytes at least, and so a type with a size takes 7
 never : {A : Type 0} {B : Type 0} {a : A} {n p : ℕ} → refused n p ≡ good a → B
@@ -154,28 +150,24 @@ module _ (s : C.Scope) (program : List ℕ) (at to parent : ℕ) where
     unfolding read_plain choose plain_kind
     type_other x y = sym (type_is ∙ rw (ne_eqb tag 16 x, ne_eqb tag 17 y))
 
-pub ends_kept : (next : ℕ) (r : Read) (l : List ℤ) → OneOf (0 ∷ []) (tag_of the_type r) → FormEndsAt next r l → Kept l
-ends_kept next (Upto n) l h e = e.1
-ends_kept next (Refused n p) l h e = absurd (let z : ◌≡◌ {A = ℕ} 1 0 = h in omega arith)
+pub ends_kept : (next : ℕ) (r : Result ℕ Refusal) (l : List ℤ) (n : ℕ) → r ≡ Ok n → FormEndsAt next r l → Kept l
+ends_kept next r l n h e = (rw h at e).1
 
-pub size_many : (next : ℕ) (r : Read) (l : List ℤ) → OneOf (0 ∷ []) (tag_of the_type r) → good (quantum (as_form l)) ≡ checked_sized_type r l
+pub size_many : (r : Result ℕ Refusal) (l : List ℤ) (n : ℕ) → r ≡ Ok n → good (quantum (as_form l)) ≡ checked_sized_type r l
 unfolding checked_sized_type
-size_many next (Upto n) l h = refl
-size_many next (Refused n p) l h = absurd (let z : ◌≡◌ {A = ℕ} 1 0 = h in omega arith)
+size_many r l n h = sym (ap (λ (x : Result ℕ Refusal). checked_sized_type x l) h)
 
-pub size_refused : (n q : ℕ) (r : Read) (l : List ℤ) → r ≡ Refused n q → refused n q ≡ checked_sized_type r l
+pub size_refused : (e : Refusal) (r : Result ℕ Refusal) (l : List ℤ) → r ≡ Err e → refused (number_of e.0) e.1 ≡ checked_sized_type r l
 unfolding checked_sized_type
-size_refused n q r l e = sym (ap (λ (x : Read). checked_sized_type x l) e)
+size_refused e r l h = sym (ap (λ (x : Result ℕ Refusal). checked_sized_type x l) h)
 
-pub row_stops : (formals : Formals) (r : Read) (count first row : ℕ) (kinds : List ℕ) (sizes : List (List ℤ)) (next : Kind → Checked (List Kind)) → OneOf (1 ∷ []) (tag_of the_type r) → checked_rows formals r count first kinds sizes ≡ (checked_row formals r row kinds sizes >>= next)
+pub row_stops : (formals : Formals) (r : Result ℕ Refusal) (count first row : ℕ) (kinds : List ℕ) (sizes : List (List ℤ)) (next : Kind → Checked (List Kind)) {e : Refusal} → r ≡ Err e → checked_rows formals (Err e) count first kinds sizes ≡ (checked_row formals r row kinds sizes >>= next)
 unfolding checked_rows checked_row ◌>>=◌
-row_stops formals (Upto n) count first row kinds sizes next h = not_first h
-row_stops formals (Refused n p) count first row kinds sizes next h = refl
+row_stops formals r count first row kinds sizes next h = sym (ap (λ (x : Result ℕ Refusal). checked_row formals x row kinds sizes >>= next) h)
 
-pub rows_stop : (formals : Formals) (r : Read) (count first : ℕ) (kinds : List ℕ) (sizes : List (List ℤ)) (next : List Kind → Checked (List Kind)) → OneOf (1 ∷ []) (tag_of the_type r) → checked_rows formals r count first kinds sizes ≡ (checked_rows formals r count first kinds sizes >>= next)
+pub rows_stop : (formals : Formals) (e : Refusal) (count first : ℕ) (kinds : List ℕ) (sizes : List (List ℤ)) (next : List Kind → Checked (List Kind)) → checked_rows formals (Err e) count first kinds sizes ≡ (checked_rows formals (Err e) count first kinds sizes >>= next)
 unfolding checked_rows ◌>>=◌
-rows_stop formals (Upto n) count first kinds sizes next h = not_first h
-rows_stop formals (Refused n p) count first kinds sizes next h = refl
+rows_stop formals e count first kinds sizes next = refl
 
 -- types of either level, one after the other: how one is read and what its kind is
 pub record Level : Type 1 where
@@ -209,7 +201,7 @@ type_cons s x xs = refl
 abbrev pub type_level : C.Scope → ℕ → Level
 type_level s parent = record { Sort = T.ParameterType; part = read_type; absent = T.plain (bad_type 4 parent); one = kind_of s; all = kinds_of s; none = type_nil s; some = type_cons s }
 
-module _ (L : Level) (n : ℕ) (program : List ℕ) (at to : ℕ) (formals : Formals) (r : Read) (row : ℕ) (kinds : List ℕ) (sizes : List (List ℤ)) (e : checked_row formals r row kinds sizes ≡ L.one (due L.part L.absent (fields_at program at to))) where
+module _ (L : Level) (n : ℕ) (program : List ℕ) (at to : ℕ) (formals : Formals) (r : Result ℕ Refusal) (row : ℕ) (kinds : List ℕ) (sizes : List (List ℤ)) (e : checked_row formals r row kinds sizes ≡ L.one (due L.part L.absent (fields_at program at to))) where
   abbrev types_here : Checked (List Kind)
   types_here = L.all (parts_of L.part L.absent (suc n) (fields_at program at to))
 
@@ -220,13 +212,13 @@ module _ (L : Level) (n : ℕ) (program : List ℕ) (at to : ℕ) (formals : For
   unfolding parts_of
   types_are = L.some _ _ ∙ ap (λ (c : Checked Kind). c >>= types_after) (sym e)
 
-  pub types_stop : (count first : ℕ) → OneOf (1 ∷ []) (tag_of the_type r) → checked_rows formals r count first kinds sizes ≡ types_here
+  pub types_stop : (count first : ℕ) {e : Refusal} → r ≡ Err e → checked_rows formals (Err e) count first kinds sizes ≡ types_here
   types_stop count first h = row_stops formals r count first row kinds sizes types_after h ∙ sym types_are
 
-  pub types_go : (next : ℕ) → r ≡ Upto next → PastField program at to next → types_here ≡ (L.all (parts_of L.part L.absent n (fields_at program next to)) >>= λ ks. good (kind_at formals row kinds sizes ∷ ks))
+  pub types_go : (next : ℕ) → r ≡ Ok next → PastField program at to next → types_here ≡ (L.all (parts_of L.part L.absent n (fields_at program next to)) >>= λ ks. good (kind_at formals row kinds sizes ∷ ks))
   unfolding checked_row ◌>>=◌
   types_go next u v =
-      types_are ∙ ap (λ (x : Read). checked_row formals x row kinds sizes >>= types_after) u
+      types_are ∙ ap (λ (x : Result ℕ Refusal). checked_row formals x row kinds sizes >>= types_after) u
       ∙ ap (λ (fs : List Field). L.all (parts_of L.part L.absent n fs) >>= λ ks. good (kind_at formals row kinds sizes ∷ ks)) v.rest
 
 -- the kinds so far, and one more; those so far stay
@@ -253,27 +245,27 @@ all_kinds L fs ks = ap (λ (c : Checked (List Kind)). c >>= λ rest. good (ks ++
     append_nil [] = refl
     append_nil (x ∷ xs) = ap (λ (y : List Kind). x ∷ y) (append_nil xs)
 
-module _ (r : TypeRead) (n : ℕ) (l : List ℤ) (bytes row : ℕ) (kinds : List ℕ) (sizes : List (List ℤ)) (t : OperandTable bytes kinds sizes) (h : row < length kinds) where
-  pub typed_single : (b : ℕ) → b ≡ row_number Qubit 0 → r ≡ Single n → (formals : Formals) → checked_row formals (Upto n) row (set kinds row b) sizes ≡ checked_type r l
+module _ (r : Result PlainType Refusal) (n : ℕ) (l : List ℤ) (bytes row : ℕ) (kinds : List ℕ) (sizes : List (List ℤ)) (t : OperandTable bytes kinds sizes) (h : row < length kinds) where
+  pub typed_single : (b : ℕ) → b ≡ row_number Qubit 0 → r ≡ Ok (Single n) → (formals : Formals) → checked_row formals (Ok n) row (set kinds row b) sizes ≡ checked_type r l
   unfolding checked_row checked_type kind_in
   typed_single b u e formals =
       ap good (row_kind bytes row kinds sizes t h b formals ∙ ap (λ (k : K.Kind). kind_in k (as_form (widened (get_or sizes (size_of_row b) []))) (formals (size_of_row b))) (number_kind Qubit 0 b u))
-      ∙ sym (ap (λ (x : TypeRead). checked_type x l) e)
+      ∙ sym (ap (λ (x : Result PlainType Refusal). checked_type x l) e)
 
-  pub typed_many : (b own : ℕ) → b ≡ row_number Quantum own → (short : List ℤ) → ((j : ℕ) → size_of_row (get_or kinds j 0) < own) → own < length sizes → r ≡ Many n → Short short → widened short ≡ l
-      → (formals : Formals) → checked_row formals (Upto n) row (set kinds row b) (set sizes own short) ≡ checked_type r l
+  pub typed_many : (b own : ℕ) → b ≡ row_number Quantum own → (short : List ℤ) → ((j : ℕ) → size_of_row (get_or kinds j 0) < own) → own < length sizes → r ≡ Ok (Many n) → Short short → widened short ≡ l
+      → (formals : Formals) → checked_row formals (Ok n) row (set kinds row b) (set sizes own short) ≡ checked_type r l
   unfolding checked_row checked_type kind_in
   typed_many b own u short d f e k w formals =
       ap good (row_both bytes row kinds sizes t h b own short k d f Quantum u formals ∙ ap (λ (x : List ℤ). quantum (as_form x)) w)
-      ∙ sym (ap (λ (x : TypeRead). checked_type x l) e)
+      ∙ sym (ap (λ (x : Result PlainType Refusal). checked_type x l) e)
 
-pub typed_bad : (r : TypeRead) (n q : ℕ) (l : List ℤ) (row : ℕ) (kinds : List ℕ) (sizes : List (List ℤ)) → r ≡ Bad n q → (formals : Formals) → checked_row formals (Refused n q) row kinds sizes ≡ checked_type r l
+pub typed_bad : (r : Result PlainType Refusal) (e : Refusal) (l : List ℤ) (row : ℕ) (kinds : List ℕ) (sizes : List (List ℤ)) → r ≡ Err e → (formals : Formals) → checked_row formals (Err e) row kinds sizes ≡ checked_type r l
 unfolding checked_row checked_type
-typed_bad r n q l row kinds sizes e formals = sym (ap (λ (x : TypeRead). checked_type x l) e)
+typed_bad r e l row kinds sizes h formals = sym (ap (λ (x : Result PlainType Refusal). checked_type x l) h)
 
-module _ (program : List ℕ) (at to : ℕ) (r : TypeRead) (l : List ℤ) (n : ℕ) (h : TypePasses program at to r l) where
-  pub past_single : r ≡ Single n → PastField program at to n
+module _ (program : List ℕ) (at to : ℕ) (r : Result PlainType Refusal) (l : List ℤ) (n : ℕ) (h : TypePasses program at to r l) where
+  pub past_single : r ≡ Ok (Single n) → PastField program at to n
   past_single e = rw e at h
 
-  pub past_many : r ≡ Many n → PastField program at to n × Kept l × (at + 7 ≤ n)
+  pub past_many : r ≡ Ok (Many n) → PastField program at to n × Kept l × (at + 7 ≤ n)
   past_many e = rw e at h

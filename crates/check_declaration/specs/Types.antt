@@ -9,7 +9,7 @@ use Rattle.check_declaration.specs.declared.PlainType.{PlainType}
 use Rattle.check_declaration.specs.declared.PlainType.TheVariants.{Single, Many}
 use Rattle.refusals.specs.Reasons.{number_of}
 use Rattle.refusals.specs.declared.Refusal.{Refusal}
-use Rattle.kinds.specs.Numbers.{number_of}
+use Rattle.kinds.specs.Numbers.{number_of as kind_number}
 use Rattle.check_operand.specs.Tables.{Formals, kind_of_row, size_of_row, kind_at, kinds_at}
 use Rattle.check_call.specs.Calls.{formal_at, IsPlain}
 use Rattle.kinds.specs.declared.Kind as K
@@ -21,7 +21,7 @@ size_row at registers = 1 + (at + 2 * registers) / 7
 
 -- the number in the table of operands for a kind whose size is in a row
 abbrev pub row_number : K.Kind → (row : ℕ) → ℕ
-row_number kind row = row * 4 + number_of kind
+row_number kind row = row * 4 + kind_number kind
 
 -- the first row of the plain types of the family type at a place, in a table of so many rows: its upper half is theirs
 abbrev pub plain_row : (rows at : ℕ) → ℕ

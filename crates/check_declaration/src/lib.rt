@@ -17,9 +17,8 @@ ghost use Rattle.check_declaration.specs.Families.{checked_counts, counts_in, Bo
 
 use check_call::FamilyRow;
 use check_operand::KINDS;
-use fields::{Header, NoHeader};
+use fields::NoHeader;
 use forms::{FORM_NUMBERS, Form, Ranges, SIZE_NUMBERS, Size};
-use kinds::Kind;
 use limits::{DEEPEST, MOST_FAMILIES, MOST_PARAMETERS, MOST_REGISTERS, MOST_VARIABLES};
 use refusals::{Reason, Refusal};
 
@@ -82,9 +81,10 @@ fn plain_type(
     match fields::header_at(program, at, to) {
         Err(NoHeader::End) => Err(Refusal(Reason::BadContent, parent)),
         Err(NoHeader::Cut) => Err(Refusal(Reason::BadHeader, at)),
-        Ok(Header { tag, next }) => {
+        Ok(header) => {
+            let next = header.next;
             let from = at + 3;
-            match tag {
+            match header.tag {
                 fields::QBIT => {
                     if from < next {
                         return Err(Refusal(Reason::BadContent, at));
@@ -112,7 +112,7 @@ fn size_row(at: usize, registers: usize) -> usize
 }
 
 // The number in the table of operands for a kind whose size is in a row.
-fn row_number(kind: Kind, row: usize) -> u16
+fn row_number(kind: kinds::Kind, row: usize) -> u16
     requires { row < 16384 }
     ensures { result ≡ row_number kind row }
 {
@@ -147,14 +147,14 @@ fn plain_row(
     let mut f = [0i64; FORM_NUMBERS];
     match plain_type(program, at, to, parent, m, &mut f)? {
         PlainType::Single(next) => {
-            kinds[row] = row_number(Kind::Qubit, 0);
+            kinds[row] = row_number(kinds::Kind::Qubit, 0);
             Ok(next)
         }
         PlainType::Many(next) => {
             let mut size = [0i32; SIZE_NUMBERS];
             forms::store(&mut size, &f);
             let own = size_row(at, registers);
-            kinds[row] = row_number(Kind::Quantum, own);
+            kinds[row] = row_number(kinds::Kind::Quantum, own);
             sizes[own] = size;
             Ok(next)
         }
@@ -240,7 +240,7 @@ fn family_row(
         return Err(Refusal(Reason::BadContent, at));
     }
     let own = size_row(at, registers);
-    kinds[row] = row_number(Kind::Family, own);
+    kinds[row] = row_number(kinds::Kind::Family, own);
     let entry = [m as u16, count as u16, first as u16];
     let formal = MOST_FAMILIES + own;
     families[formal] = entry;
@@ -384,7 +384,7 @@ pub fn register(
     program: &[u8],
     at: usize,
     next: usize,
-    kind: Kind,
+    kind: kinds::Kind,
     count: usize,
     total: usize,
     most: usize,

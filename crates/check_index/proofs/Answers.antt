@@ -15,7 +15,6 @@ use Rattle.fields.proofs.Headers.{Wholly, View, ends, cuts, goes, view, fields_e
 use Rattle.forms.specs.Flat.{Kept, as_form}
 use Rattle.check_index.specs.Answers.{checked_form, FormEndsAt, FormPasses, PastField, checked_part, EndsAt, Passes, Beyond, PassesCount}
 use Rattle.std.specs.Prelude.{Result, Ok, Err}
-use Rattle.refusals.specs.Reasons.{number_of}
 use Rattle.refusals.specs.declared.Refusal.{Refusal}
 
 pub checked_then : {B : Type 0} (r : Result ℕ Refusal) (l : List ℤ) (m : ℕ) (next : Form → Checked B) → r ≡ Ok m → (checked_form r l >>= next) ≡ next (as_form l)

@@ -23,7 +23,6 @@ use Rattle.check_index.specs.declared.Operation.{Operation}
 use Rattle.check_index.specs.declared.IndexTag.{IndexTag}
 use Rattle.check_index.specs.declared.IndexTag.TheVariants.{Both}
 use Rattle.std.specs.Prelude.{Result, Ok, Err}
-use Rattle.refusals.specs.Reasons.{number_of}
 use Rattle.refusals.specs.declared.Refusal.{Refusal}
 use Rattle.refusals.specs.declared.Reason.TheVariants.{FormOutOfRange}
 use Rattle.forms.specs.declared.OutOfRange.{OutOfRange}

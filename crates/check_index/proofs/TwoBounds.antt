@@ -1,6 +1,6 @@
 -- Two indexes in a row: the bounds of a loop, or of a slice. Assumes nothing.
 use mathlib.Core.Path.{◌≡◌, refl, sym, ap, ◌∙◌}
-use mathlib.Core.List.{List, [], ◌∷◌}
+use mathlib.Core.List.{List}
 use Prim.Native.Nat.{ℕ}
 use lib.IntN.{ℤ}
 use lib.ListN.{drop}
@@ -14,7 +14,6 @@ use Rattle.check_index.specs.Answers.{checked_form, PastField, FormPasses, check
 use Rattle.check_index.proofs.Answers.{beyond_none, beyond_more}
 use Rattle.check_index.specs.Bounds.{checked_bounds, bounds_due, BoundsPass}
 use Rattle.std.specs.Prelude.{Result, Ok, Err}
-use Rattle.refusals.specs.Reasons.{number_of}
 use Rattle.refusals.specs.declared.Refusal.{Refusal}
 use Rattle.language.specs.Check as C
 

@@ -1,16 +1,14 @@
 -- What is shown, and which kinds fit. Assumes nothing.
 use mathlib.Core.Path.{◌≡◌, refl, sym, ap, ◌∙◌}
-use mathlib.Core.List.{List, [], ◌∷◌}
-use mathlib.Core.Bool.{Bool, true, false}
+use mathlib.Core.List.{List}
 use Prim.Native.Nat.{ℕ}
 use lib.IntN.{ℤ}
-use types.Run.{OneOf, miss}
-use denote.Enum.Declared.{tag_of}
+use Rattle.std.specs.Prelude.{Result, Ok, Err}
 use Rattle.language.specs.Form.{Form, Built, built, out_of_range, difference_of, ◌then_build◌}
 use Rattle.language.specs.Check.{good, refused, Formal, Kind, must_show, whole_fits, element_size}
-use Rattle.kinds.specs.contracts.Kind.{the_type}
 use Rattle.kinds.specs.declared.Kind.TheVariants.{Qubit, Quantum, Classical, Family}
 use Rattle.forms.specs.Flat.{as_form, built_of}
+use Rattle.forms.specs.declared.OutOfRange.{OutOfRange}
 use Rattle.check_operand.specs.Tables.{Known, kind_in}
 use Rattle.check_operand.specs.Operands.{wanted_of}
 use Rattle.check_operand.specs.declared.Wanted.TheVariants.{Wire, Bit, Register, Family as Passed}
@@ -18,11 +16,13 @@ use Rattle.kinds.specs.declared.Kind as K
 use Rattle.language.specs.Check as C
 
 -- what is built where a difference was refused, or made
-pub not_made : (l : List ℤ) {t : Bool} {b : Built} → built_of t l ≡ b → t ≡ false → b ≡ out_of_range
-not_made l e q = sym e ∙ ap (λ (t : Bool). built_of t l) q
+pub not_made : (l : List ℤ) {t : Result (Unit {0}) OutOfRange} {b : Built} {o : OutOfRange} → built_of t l ≡ b → t ≡ Err o → b ≡ out_of_range
+unfolding built_of
+not_made l e q = sym e ∙ ap (λ (t : Result (Unit {0}) OutOfRange). built_of t l) q
 
-pub is_made : (l : List ℤ) {t : Bool} {b : Built} → built_of t l ≡ b → t ≡ true → b ≡ built (as_form l)
-is_made l e q = sym e ∙ ap (λ (t : Bool). built_of t l) q
+pub is_made : (l : List ℤ) {t : Result (Unit {0}) OutOfRange} {b : Built} {u : Unit {0}} → built_of t l ≡ b → t ≡ Ok u → b ≡ built (as_form l)
+unfolding built_of
+is_made l e q = sym e ∙ ap (λ (t : Result (Unit {0}) OutOfRange). built_of t l) q
 
 -- what is built from what may be refused
 module _ (next : Form → Built) where
@@ -40,9 +40,9 @@ module _ (p : ℕ) (s : C.Scope) (f : Form) (l : List ℤ) (known : Known) (g : 
   unfolding wanted_of whole_fits kind_in
   wire_good = refl
 
-  pub wire_bad : (k : K.Kind) → OneOf (1 ∷ 2 ∷ 3 ∷ []) (tag_of the_type k) → refused 9 p ≡ whole_fits p s (wanted_of known Wire l) (kind_in k f g)
+  pub wire_bad : (k : K.Kind) → (k ≡ Qubit → ⊥) → refused 9 p ≡ whole_fits p s (wanted_of known Wire l) (kind_in k f g)
   unfolding wanted_of whole_fits kind_in
-  wire_bad Qubit h = absurd (miss (1 ∷ 2 ∷ 3 ∷ []) 0 tt h)
+  wire_bad Qubit h = absurd (h refl)
   wire_bad Quantum h = refl
   wire_bad Classical h = refl
   wire_bad Family h = refl
@@ -51,14 +51,14 @@ module _ (p : ℕ) (s : C.Scope) (f : Form) (l : List ℤ) (known : Known) (g : 
   unfolding wanted_of whole_fits
   bit_bad k = refl
 
-  pub register_good : (t : Bool) → must_show p s (built_of t l then_build difference_of f) ≡ whole_fits p s (wanted_of known (Register t) l) (kind_in Quantum f g)
+  pub register_good : (t : Result (Unit {0}) OutOfRange) → must_show p s (built_of t l then_build difference_of f) ≡ whole_fits p s (wanted_of known (Register t) l) (kind_in Quantum f g)
   unfolding wanted_of whole_fits kind_in
   register_good t = refl
 
-  pub register_bad : (t : Bool) (k : K.Kind) → OneOf (0 ∷ 2 ∷ 3 ∷ []) (tag_of the_type k) → refused 9 p ≡ whole_fits p s (wanted_of known (Register t) l) (kind_in k f g)
+  pub register_bad : (t : Result (Unit {0}) OutOfRange) (k : K.Kind) → (k ≡ Quantum → ⊥) → refused 9 p ≡ whole_fits p s (wanted_of known (Register t) l) (kind_in k f g)
   unfolding wanted_of whole_fits kind_in
   register_bad t Qubit h = refl
-  register_bad t Quantum h = absurd (miss (0 ∷ 2 ∷ 3 ∷ []) 1 tt h)
+  register_bad t Quantum h = absurd (h refl)
   register_bad t Classical h = refl
   register_bad t Family h = refl
 
@@ -72,10 +72,10 @@ module _ (p : ℕ) (f : Form) (l : List ℤ) (known : Known) (g : Formal) where
   unfolding wanted_of element_size kind_in
   element_wire = refl
 
-  pub element_no_wire : (k : K.Kind) → OneOf (0 ∷ 2 ∷ 3 ∷ []) (tag_of the_type k) → refused 9 p ≡ element_size p (wanted_of known Wire l) (kind_in k f g)
+  pub element_no_wire : (k : K.Kind) → (k ≡ Quantum → ⊥) → refused 9 p ≡ element_size p (wanted_of known Wire l) (kind_in k f g)
   unfolding wanted_of element_size kind_in
   element_no_wire Qubit h = refl
-  element_no_wire Quantum h = absurd (miss (0 ∷ 2 ∷ 3 ∷ []) 1 tt h)
+  element_no_wire Quantum h = absurd (h refl)
   element_no_wire Classical h = refl
   element_no_wire Family h = refl
 
@@ -83,14 +83,14 @@ module _ (p : ℕ) (f : Form) (l : List ℤ) (known : Known) (g : Formal) where
   unfolding wanted_of element_size kind_in
   element_bit = refl
 
-  pub element_no_bit : (k : K.Kind) → OneOf (0 ∷ 1 ∷ 3 ∷ []) (tag_of the_type k) → refused 9 p ≡ element_size p (wanted_of known Bit l) (kind_in k f g)
+  pub element_no_bit : (k : K.Kind) → (k ≡ Classical → ⊥) → refused 9 p ≡ element_size p (wanted_of known Bit l) (kind_in k f g)
   unfolding wanted_of element_size kind_in
   element_no_bit Qubit h = refl
   element_no_bit Quantum h = refl
-  element_no_bit Classical h = absurd (miss (0 ∷ 1 ∷ 3 ∷ []) 2 tt h)
+  element_no_bit Classical h = absurd (h refl)
   element_no_bit Family h = refl
 
-  pub element_register : (t : Bool) (k : Kind) → refused 9 p ≡ element_size p (wanted_of known (Register t) l) k
+  pub element_register : (t : Result (Unit {0}) OutOfRange) (k : Kind) → refused 9 p ≡ element_size p (wanted_of known (Register t) l) k
   unfolding wanted_of element_size
   element_register t k = refl
 

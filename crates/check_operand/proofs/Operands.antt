@@ -8,8 +8,7 @@ use lib.IntN.{ℤ}
 use lib.ListN.{length, drop, get_elem?}
 use lib.Seq.{slice}
 use borrow.Author.Tests.{ne_eqb}
-use types.Run.{OneOf}
-use denote.Enum.Declared.{tag_of}
+use Rattle.std.specs.Prelude.{Result, Ok, Err}
 use Rattle.language.specs.Tree.{bad_index, bad_operand}
 use Rattle.language.specs.Read.{Field, field, bad_header, choose, ending, due, outer_index, read_whole, read_element, element_of, read_slice, read_passed, read_operand}
 use Rattle.language.specs.Form.{Form}
@@ -17,13 +16,11 @@ use Rattle.language.specs.Check.{Checked, refused, ◌>>=◌, ◌>>◌, no_lefto
 use Rattle.fields.specs.Header.{fields_at}
 use Rattle.fields.proofs.Headers.{Wholly}
 use Rattle.forms.specs.Flat.{as_form}
-use Rattle.check_index.specs.contracts.Read.{the_type}
+use Rattle.refusals.specs.declared.Refusal.{Refusal}
 use Rattle.check_index.specs.Answers.{checked_form, PastField, checked_part}
 use Rattle.check_operand.specs.Operands.{checked_size, Answerable}
 use Rattle.check_operand.specs.declared.Wanted.{Wanted}
-use Rattle.check_index.specs.declared.Read.{Read}
-use Rattle.check_index.specs.declared.Read.TheVariants.{Upto, Refused}
-use Rattle.check_index.proofs.Answers.{not_first, not_second, more_left, none_left, form_stops, checked_then, drop_two}
+use Rattle.check_index.proofs.Answers.{more_left, none_left, form_stops, checked_then, drop_two}
 use Rattle.language.specs.Tree as T
 use Rattle.language.specs.Check as C
 
@@ -92,15 +89,15 @@ module _ (s : C.Scope) (d : C.Due) (at : ℕ) (content : List ℕ) where
     unfolding in_scope ◌>>=◌
     element_beyond q = sym (element_is ∙ ap (λ (o : Option Kind). in_scope at o >>= typed) q)
 
-    module _ (k : Kind) (q : get_elem? s.operands n ≡ some k) (r : Read) (l : List ℤ) (t : checked_form r l ≡ form_of s (due outer_index (bad_index 4 at) inside)) where
+    module _ (k : Kind) (q : get_elem? s.operands n ≡ some k) (r : Result ℕ Refusal) (l : List ℤ) (t : checked_form r l ≡ form_of s (due outer_index (bad_index 4 at) inside)) where
       element_some : check_operand s d (read_element at content) ≡ (checked_form r l >>= λ f. (no_leftover at (ending (drop 1 inside)) >> sized k f))
       unfolding in_scope ◌>>=◌
       element_some = element_is ∙ ap (λ (o : Option Kind). in_scope at o >>= typed) q ∙ ap (λ (c : Checked Form). c >>= λ f. (no_leftover at (ending (drop 1 inside)) >> sized k f)) (sym t)
 
-      pub element_stops : OneOf (1 ∷ []) (tag_of the_type r) → checked_part r ≡ check_operand s d (read_element at content)
+      pub element_stops : {e : Refusal} → r ≡ Err e → checked_part (Err e) ≡ check_operand s d (read_element at content)
       element_stops h = form_stops r l (λ f. no_leftover at (ending (drop 1 inside)) >> sized k f) h ∙ sym element_some
 
-      module _ (end : ℕ) (u : r ≡ Upto end) (v : PastField program (at + 4) next end) where
+      module _ (end : ℕ) (u : r ≡ Ok end) (v : PastField program (at + 4) next end) where
         element_end : check_operand s d (read_element at content) ≡ (no_leftover at (ending (fields_at program end next)) >> sized k (as_form l))
         element_end =
             element_some ∙ checked_then r l end (λ f. no_leftover at (ending (drop 1 inside)) >> sized k f) u
@@ -113,22 +110,14 @@ module _ (s : C.Scope) (d : C.Due) (at : ℕ) (content : List ℕ) where
         element_good h = left_good program at end next (sized k (as_form l)) h ∙ sym element_end
 
 -- an element or a slice, from the answer on its kind
-module _ (c : Checked Form) (next : Form → Checked (Unit {0})) (size : Form) (r : Read) (e : checked_size r size ≡ c) where
-  pub kind_stops : OneOf (1 ∷ []) (tag_of the_type r) → checked_part r ≡ (c >>= next)
+module _ (c : Checked Form) (next : Form → Checked (Unit {0})) (size : Form) (r : Result ℕ Refusal) (e : checked_size r size ≡ c) where
+  pub kind_stops : {q : Refusal} → r ≡ Err q → checked_part (Err q) ≡ (c >>= next)
   unfolding checked_size checked_part ◌>>=◌
-  kind_stops h = by r h ∙ ap (λ (x : Checked Form). x >>= next) e
-    where
-      by : (r : Read) → OneOf (1 ∷ []) (tag_of the_type r) → checked_part r ≡ (checked_size r size >>= next)
-      by (Upto n) h = not_first h
-      by (Refused n p) h = refl
+  kind_stops h = sym (ap (λ (x : Result ℕ Refusal). checked_size x size >>= next) h) ∙ ap (λ (x : Checked Form). x >>= next) e
 
-  pub kind_goes : OneOf (0 ∷ []) (tag_of the_type r) → next size ≡ (c >>= next)
+  pub kind_goes : {n : ℕ} → r ≡ Ok n → next size ≡ (c >>= next)
   unfolding checked_size ◌>>=◌
-  kind_goes h = by r h ∙ ap (λ (x : Checked Form). x >>= next) e
-    where
-      by : (r : Read) → OneOf (0 ∷ []) (tag_of the_type r) → next size ≡ (checked_size r size >>= next)
-      by (Upto n) h = refl
-      by (Refused n p) h = not_second h
+  kind_goes h = sym (ap (λ (x : Result ℕ Refusal). checked_size x size >>= next) h) ∙ ap (λ (x : Checked Form). x >>= next) e
 
 -- the operand due, by its tag
 module _ (program : List ℕ) (at to parent tag next : ℕ) (w : Wholly program at to tag next) where

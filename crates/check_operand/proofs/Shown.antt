@@ -1,10 +1,15 @@
 -- What a verdict answers, alone and before what is checked next. Assumes nothing.
 use mathlib.Core.Path.{◌≡◌, refl, sym, ap, ◌∙◌}
-use mathlib.Core.Bool.{false}
+use mathlib.Core.Bool.{true, false}
 use Prim.Native.Nat.{ℕ}
 use native.Mathlib.Omega.{arith}
+use Rattle.std.specs.Prelude.{Result, Ok, Err, is_err}
 use Rattle.language.specs.Form.{Form, Showing, shown, not_shown, beyond_range, is_shown, built}
 use Rattle.language.specs.Check.{Checked, ◌>>◌, fine, by_showing, must_show, room_after, check_within}
+use Rattle.language.proofs.Integers.{clash}
+use Rattle.forms.specs.declared.Unshown.{Unshown}
+use Rattle.forms.specs.Flat.{shown_of}
+use Rattle.forms.proofs.Verdicts.{is_shown_lem, not_shown_lem}
 use Rattle.language.specs.Check as C
 
 module _ (p : ℕ) where
@@ -38,3 +43,12 @@ module _ (p : ℕ) (s : C.Scope) (size f : Form) {x : Showing} (e : x ≡ C.show
   pub within_goes : x ≡ shown → {y : Showing} → y ≡ C.showing_in s (room_after size f) → by_showing p y ≡ check_within p s size f
   unfolding must_show
   within_goes h q = ap (by_showing p) q ∙ goes p h (must_show p s (room_after size f)) ∙ within_is
+
+-- by a test by `is_err`
+pub err_not_shown : (v : Result (Unit {0}) Unshown) → is_err v ≡ true → false ≡ is_shown (shown_of v)
+err_not_shown (Ok u) e = absurd (clash (sym e))
+err_not_shown (Err x) e = not_shown_lem (Err x) refl
+
+pub ok_shown : (v : Result (Unit {0}) Unshown) → is_err v ≡ false → shown_of v ≡ shown
+ok_shown (Ok u) e = is_shown_lem (Ok u) refl
+ok_shown (Err x) e = absurd (clash e)

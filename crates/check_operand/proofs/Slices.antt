@@ -1,15 +1,14 @@
 -- Slices: where they lie, whether they fit, and the one at a place. Assumes nothing.
 use mathlib.Core.Path.{◌≡◌, refl, sym, ap, ◌∙◌}
 use mathlib.Core.List.{List, [], ◌∷◌}
-use mathlib.Core.Bool.{Bool, false}
+use mathlib.Core.Bool.{false}
 use mathlib.Core.Option.{Option, none, some}
 use Prim.Native.Nat.{ℕ, ◌+◌, ◌≤◌, ◌<◌}
 use native.Mathlib.Omega.{arith}
 use lib.IntN.{ℤ}
 use lib.ListN.{length, drop, get_elem?}
 use lib.Seq.{slice}
-use types.Run.{OneOf, miss}
-use denote.Enum.Declared.{tag_of}
+use Rattle.std.specs.Prelude.{Result, Ok, Err}
 use Rattle.language.specs.Tree.{bad_index}
 use Rattle.language.specs.Read.{Field, ending, due, outer_index, read_slice, slice_of}
 use Rattle.language.specs.Form.{Form, Loop, Built, built, out_of_range, Showing, shown, not_shown, beyond_range, is_shown}
@@ -17,20 +16,17 @@ use Rattle.language.specs.Check.{Checked, good, refused, ◌>>=◌, ◌>>◌, no
 use Rattle.kinds.specs.declared.Kind.TheVariants.{Qubit, Quantum, Classical, Family}
 use Rattle.fields.specs.Header.{fields_at}
 use Rattle.forms.specs.Flat.{as_form}
-use Rattle.check_index.specs.contracts.Read.{the_type}
+use Rattle.forms.specs.declared.OutOfRange.{OutOfRange}
+use Rattle.refusals.specs.declared.Refusal.{Refusal}
 use Rattle.check_index.specs.Answers.{checked_part, Beyond}
 use Rattle.check_index.specs.Bounds.{checked_bounds, bounds_due}
-use Rattle.check_index.specs.declared.Read.{Read}
-use Rattle.check_index.specs.declared.Read.TheVariants.{Upto}
 use Rattle.check_index.proofs.TwoBounds.{bounds_are, bounds_end, bounds_then}
 use Rattle.check_operand.specs.Tables.{Known, kind_in}
 use Rattle.check_operand.specs.Operands.{wanted_of}
 use Rattle.check_operand.specs.declared.Wanted.{Wanted}
 use Rattle.check_operand.specs.declared.Wanted.TheVariants.{Wire, Bit, Register, Family as Passed}
-use Rattle.check_operand.specs.contracts.Wanted.{the_type as wanted-type}
 use Rattle.check_operand.proofs.Shown.{stops, goes}
 use Rattle.check_operand.proofs.Operands.{left_long, left_good}
-use Rattle.kinds.specs.contracts.Kind as K
 use Rattle.kinds.specs.declared.Kind as D
 use Rattle.language.specs.Check as C
 
@@ -76,21 +72,21 @@ module _ (at : ℕ) (s : C.Scope) (size first last : Form) where
 
 -- whether a slice fits: not where no register is due or none stands there, else by the answer on where it lies
 module _ (at : ℕ) (s : C.Scope) (m : List ℤ) (size first last : Form) (known : Known) (g : Formal) where
-  pub slice_unwanted : (w : Wanted) (k : Kind) → OneOf (0 ∷ 1 ∷ 3 ∷ []) (tag_of wanted-type w) → refused 9 at ≡ slice_fits at s (wanted_of known w m) k first last
+  pub slice_unwanted : (w : Wanted) (k : Kind) → ((b : Result (Unit {0}) OutOfRange) → w ≡ Register b → ⊥) → refused 9 at ≡ slice_fits at s (wanted_of known w m) k first last
   unfolding slice_fits sliced_size wanted_of ◌>>=◌
   slice_unwanted Wire k h = refl
   slice_unwanted Bit k h = refl
-  slice_unwanted (Register b) k h = absurd (miss (0 ∷ 1 ∷ 3 ∷ []) 2 tt h)
+  slice_unwanted (Register b) k h = absurd (h b refl)
   slice_unwanted (Passed x) k h = refl
 
-  pub slice_no_register : (b : Bool) (k : D.Kind) → OneOf (0 ∷ 2 ∷ 3 ∷ []) (tag_of K.the_type k) → refused 9 at ≡ slice_fits at s (wanted_of known (Register b) m) (kind_in k size g) first last
+  pub slice_no_register : (b : Result (Unit {0}) OutOfRange) (k : D.Kind) → (k ≡ Quantum → ⊥) → refused 9 at ≡ slice_fits at s (wanted_of known (Register b) m) (kind_in k size g) first last
   unfolding slice_fits sliced_size wanted_of kind_in ◌>>=◌
   slice_no_register b Qubit h = refl
-  slice_no_register b Quantum h = absurd (miss (0 ∷ 2 ∷ 3 ∷ []) 1 tt h)
+  slice_no_register b Quantum h = absurd (h refl)
   slice_no_register b Classical h = refl
   slice_no_register b Family h = refl
 
-  module _ (b : Bool) (x : Showing) (l : List ℤ) (v : with_form at x l ≡ check_slice at s size first last) where
+  module _ (b : Result (Unit {0}) OutOfRange) (x : Showing) (l : List ℤ) (v : with_form at x l ≡ check_slice at s size first last) where
     abbrev enough : Form → Checked (Unit {0})
     enough n = whole_fits at s (wanted_of known (Register b) m) (C.quantum n)
 
@@ -136,17 +132,17 @@ module _ (s : C.Scope) (d : C.Due) (at : ℕ) (content : List ℕ) where
     unfolding in_scope ◌>>=◌
     slice_beyond q = sym (slice_is ∙ ap (λ (o : Option Kind). in_scope at o >>= bounded) q)
 
-    module _ (k : Kind) (q : get_elem? s.operands n ≡ some k) (r : Read) (l h : List ℤ) (t : checked_bounds r l h ≡ bounds_due s at inside) where
+    module _ (k : Kind) (q : get_elem? s.operands n ≡ some k) (r : Result ℕ Refusal) (l h : List ℤ) (t : checked_bounds r l h ≡ bounds_due s at inside) where
       slice_some : check_operand s d (read_slice at content) ≡ (checked_bounds r l h >>= fits k)
       unfolding in_scope ◌>>=◌
       slice_some =
           slice_is ∙ ap (λ (o : Option Kind). in_scope at o >>= bounded) q
           ∙ sym (bounds_are s (due outer_index (bad_index 4 at) inside) (due outer_index (bad_index 4 at) (drop 1 inside)) (fits k)) ∙ ap (λ (c : Checked Loop). c >>= fits k) (sym t)
 
-      pub slice_stops : OneOf (1 ∷ []) (tag_of the_type r) → checked_part r ≡ check_operand s d (read_slice at content)
+      pub slice_stops : {e : Refusal} → r ≡ Err e → checked_part (Err e) ≡ check_operand s d (read_slice at content)
       slice_stops z = bounds_end r l h (fits k) z ∙ sym slice_some
 
-      module _ (end : ℕ) (u : r ≡ Upto end) (v : Beyond program (at + 4) next 2 end) where
+      module _ (end : ℕ) (u : r ≡ Ok end) (v : Beyond program (at + 4) next 2 end) where
         slice_end : check_operand s d (read_slice at content) ≡ (no_leftover at (ending (fields_at program end next)) >> slice_fits at s d k (as_form l) (as_form h))
         slice_end =
             slice_some ∙ bounds_then r l h end (fits k) u

@@ -94,6 +94,10 @@ unfolding check_bounds
 bounds_same fs ks m n l h at x =
     (λ j. scope_forms fs ks m n l h (due outer_index (bad_index 4 at) x) j >>= λ f. (scope_forms fs ks m n l h (due outer_index (bad_index 4 at) (drop 1 x)) j >>= λ g. good (record { low = f; high = g })))
 
+-- a scope by equal parts
+pub same_scope : (fs : List Signature) (ks : List Kind) {m p n o : ℕ} {l k h j : List (List ℤ)} → m ≡ p → n ≡ o → l ≡ k → h ≡ j → scope_with fs ks m (loops_of n l h) ≡ scope_with fs ks p (loops_of o k j)
+same_scope fs ks a b c d = λ i. scope_with fs ks (a i) (loops_of (b i) (c i) (d i))
+
 pub rows_set : (fs : List (List ℤ)) (n i : ℕ) (l : List ℤ) → Rows fs n → Kept l → Rows (set fs i l) n
 rows_set fs n i l r k = record {
   enough = (let e = r.enough in omega (arith, length-set fs i l));

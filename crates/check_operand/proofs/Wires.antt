@@ -9,8 +9,7 @@ use lib.Dec.{leb, eqb}
 use lib.ListN.{length, get_or, drop, get_elem?}
 use lib.Seq.{slice}
 use borrow.Author.Tests.{leb-true, leb-false, eqb-true, eqb-false, eq-eqb, ne_eqb}
-use types.Run.{OneOf, miss}
-use denote.Enum.Declared.{tag_of}
+use Rattle.std.specs.Prelude.{Result, Ok, Err}
 use Rattle.language.specs.Tree.{Ending, Index, Operand, whole, element, bad_index, bad_operand}
 use Rattle.language.specs.Read.{Field, fields, ending, due, outer_index, read_whole, read_element, element_of, read_slice, slice_of, read_passed, read_operand, operand_due}
 use Rattle.language.specs.Form.{Form, same_form}
@@ -21,38 +20,30 @@ use Rattle.fields.specs.Header.{fields_at}
 use Rattle.fields.proofs.Headers.{Wholly, View, ends, cuts, goes, view, slice_none, one_byte}
 use Rattle.forms.specs.Flat.{Kept, as_form}
 use Rattle.check_index.specs.Answers.{checked_form, checked_part, PastField}
-use Rattle.check_index.specs.declared.Read.{Read}
-use Rattle.check_index.specs.declared.Read.TheVariants.{Upto, Refused}
-use Rattle.check_index.specs.contracts.Read.{the_type}
-use Rattle.check_index.proofs.Answers.{not_first}
+use Rattle.refusals.specs.declared.Refusal.{Refusal}
 use Rattle.check_operand.specs.Tables.{Known}
 use Rattle.check_operand.specs.Operands.{wanted_of, checked_two, FormOf, Leaves, Comparable, same_by}
 use Rattle.check_operand.specs.declared.Wanted.{Wanted}
 use Rattle.check_operand.specs.declared.Wanted.TheVariants.{Wire, Bit, Register, Family}
-use Rattle.check_operand.specs.contracts.Wanted.{the_type as wanted-type}
 use Rattle.check_operand.proofs.Operands.{whole_none, element_none, operand_end, operand_cut, operand_other, reads_whole, reads_element, reads_slice, reads_passed}
 
 -- ---- the forms that are left
 
-pub leaves_form : (s : C.Scope) (o : Operand) (r : Read) (l : List ℤ) → FormOf s o l → Leaves s o r l
-leaves_form s o (Upto n) l h = h
-leaves_form s o (Refused n p) l h = tt
+pub leaves_form : (s : C.Scope) (o : Operand) (r : Result ℕ Refusal) (l : List ℤ) → FormOf s o l → Leaves s o r l
+leaves_form s o (Ok n) l h = h
+leaves_form s o (Err e) l h = tt
 
-pub leaves_stops : (s : C.Scope) (o : Operand) (r : Read) (l : List ℤ) → OneOf (1 ∷ []) (tag_of the_type r) → Leaves s o r l
-leaves_stops s o (Upto n) l h = not_first h
-leaves_stops s o (Refused n p) l h = tt
-
-pub leaves_upto : (s : C.Scope) (o : Operand) (r : Read) (l : List ℤ) (n : ℕ) → r ≡ Upto n → Leaves s o r l → FormOf s o l
+pub leaves_upto : (s : C.Scope) (o : Operand) (r : Result ℕ Refusal) (l : List ℤ) (n : ℕ) → r ≡ Ok n → Leaves s o r l → FormOf s o l
 leaves_upto s o r l n e h = rw e at h
 
-pub fine_upto : (r : Read) (n : ℕ) (x : Checked (Unit {0})) → checked_part r ≡ x → r ≡ Upto n → x ≡ fine
+pub fine_upto : (r : Result ℕ Refusal) (n : ℕ) (x : Checked (Unit {0})) → checked_part r ≡ x → r ≡ Ok n → x ≡ fine
 unfolding checked_part
 fine_upto r n x e u = sym e ∙ ap checked_part u
 
 -- an index that is right has the form beside its answer
-pub form_is : (r : Read) (l : List ℤ) (n : ℕ) (x : Checked Form) → checked_form r l ≡ x → r ≡ Upto n → x ≡ good (as_form l)
+pub form_is : (r : Result ℕ Refusal) (l : List ℤ) (n : ℕ) (x : Checked Form) → checked_form r l ≡ x → r ≡ Ok n → x ≡ good (as_form l)
 unfolding checked_form
-form_is r l n x e u = sym e ∙ ap (λ (y : Read). checked_form y l) u
+form_is r l n x e u = sym e ∙ ap (λ (y : Result ℕ Refusal). checked_form y l) u
 
 -- operands that have none
 pub whole_form : (s : C.Scope) (at : ℕ) (content : List ℕ) (l : List ℤ) → FormOf s (read_whole at content) l
@@ -223,16 +214,13 @@ two_then p s C.bit w o e = then_fine (check_two p s C.bit w o e)
 two_then p s (C.register i) w o e = then_fine (check_two p s (C.register i) w o e)
 two_then p s (C.fitting g) w o e = then_fine (check_two p s (C.fitting g) w o e)
 
-pub second_wire : (k : Known) (a : Wanted) (l : List ℤ) → OneOf (0 ∷ []) (tag_of wanted-type a) → wanted_of k a l ≡ C.wire
+pub second_wire : (k : Known) (a : Wanted) (l : List ℤ) → a ≡ Wire → wanted_of k a l ≡ C.wire
 unfolding wanted_of
-second_wire k Wire l h = refl
-second_wire k Bit l h = absurd (miss (0 ∷ []) 1 tt h)
-second_wire k (Register t) l h = absurd (miss (0 ∷ []) 2 tt h)
-second_wire k (Family x) l h = absurd (miss (0 ∷ []) 3 tt h)
+second_wire k a l h = ap (λ (a : Wanted). wanted_of k a l) h
 
-pub second_other : (p : ℕ) (s : C.Scope) (k : Known) (a : Wanted) (l : List ℤ) (w o : Operand) → OneOf (1 ∷ 2 ∷ 3 ∷ []) (tag_of wanted-type a) → last_test p s (wanted_of k a l) w o ≡ fine
+pub second_other : (p : ℕ) (s : C.Scope) (k : Known) (a : Wanted) (l : List ℤ) (w o : Operand) → (a ≡ Wire → ⊥) → last_test p s (wanted_of k a l) w o ≡ fine
 unfolding wanted_of
-second_other p s k Wire l w o h = absurd (miss (1 ∷ 2 ∷ 3 ∷ []) 0 tt h)
+second_other p s k Wire l w o h = absurd (h refl)
 second_other p s k Bit l w o h = refl
 second_other p s k (Register t) l w o h = refl
 second_other p s k (Family x) l w o h = refl

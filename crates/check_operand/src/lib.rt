@@ -16,9 +16,8 @@ ghost use Rattle.check_operand.specs.Scopes.{scope_at};
 ghost use Rattle.check_operand.specs.Operands.{checked_size, shown_form, wanted_of, SizeRight, Answerable, one_wire, two_operands, Leaves, Comparable, same_by};
 ghost use Rattle.check_index.specs.Answers.{checked_part, EndsAt, Passes};
 
-use fields::{Header, NoHeader};
+use fields::NoHeader;
 use forms::{FORM_NUMBERS, Form, OutOfRange, Ranges, Size, Unshown};
-use kinds::Kind;
 use limits::DEEPEST;
 use refusals::{Reason, Refusal};
 
@@ -40,10 +39,10 @@ pub enum Wanted {
 }
 
 // The kind that a number in the table of operands stands for.
-pub fn kind_by(number: u16) -> Kind
+pub fn kind_by(number: u16) -> kinds::Kind
     ensures { result ≡ kind_of_row number }
 {
-    Kind::from(number % KINDS)
+    kinds::Kind::from(number % KINDS)
 }
 
 // The row of the size that a number in the table of operands stands for.
@@ -150,7 +149,7 @@ fn large_enough(
 fn whole_fits(
     wanted: Wanted,
     size: &Form,
-    kind: Kind,
+    kind: kinds::Kind,
     own: &Size,
     at: usize,
     next: usize,
@@ -163,12 +162,12 @@ fn whole_fits(
 {
     match wanted {
         Wanted::Wire => match kind {
-            Kind::Qubit => Ok(next),
+            kinds::Kind::Qubit => Ok(next),
             _ => Err(Refusal(Reason::WrongKind, at)),
         },
         Wanted::Bit => Err(Refusal(Reason::WrongKind, at)),
         Wanted::Register(known) => match kind {
-            Kind::Quantum => {
+            kinds::Kind::Quantum => {
                 let mut room = [0i64; FORM_NUMBERS];
                 forms::load(&mut room, own);
                 let v = large_enough(known, size, &mut room, ranges);
@@ -181,21 +180,22 @@ fn whole_fits(
 }
 
 // Whether an element of an operand of a kind is what is due, for the field from `at` to `next`.
-fn element_kind(wanted: Wanted, kind: Kind, at: usize, next: usize) -> Result<usize, Refusal>
+fn element_kind(wanted: Wanted, kind: kinds::Kind, at: usize, next: usize) -> Result<usize, Refusal>
     ensures f_value { (f : Form) (l : List ℤ) (k : Known) (g : Formal) → checked_size result f ≡ element_size at (wanted_of k wanted l) (kind_in kind f g) }
     ensures ends_at { EndsAt next result }
 {
+    let wrong = Refusal(Reason::WrongKind, at);
     match wanted {
         Wanted::Wire => match kind {
-            Kind::Quantum => Ok(next),
-            _ => Err(Refusal(Reason::WrongKind, at)),
+            kinds::Kind::Quantum => Ok(next),
+            _ => Err(wrong),
         },
         Wanted::Bit => match kind {
-            Kind::Classical => Ok(next),
-            _ => Err(Refusal(Reason::WrongKind, at)),
+            kinds::Kind::Classical => Ok(next),
+            _ => Err(wrong),
         },
-        Wanted::Register(_) => Err(Refusal(Reason::WrongKind, at)),
-        Wanted::Family(_) => Err(Refusal(Reason::WrongKind, at)),
+        Wanted::Register(_) => Err(wrong),
+        Wanted::Family(_) => Err(wrong),
     }
 }
 
@@ -280,7 +280,7 @@ fn element(
 fn slice_fits(
     wanted: Wanted,
     size: &Form,
-    kind: Kind,
+    kind: kinds::Kind,
     own: &Size,
     first: &Form,
     last: &mut Form,
@@ -298,7 +298,7 @@ fn slice_fits(
     let Wanted::Register(known) = wanted else {
         return Err(Refusal(Reason::WrongKind, at));
     };
-    let Kind::Quantum = kind else {
+    let kinds::Kind::Quantum = kind else {
         return Err(Refusal(Reason::WrongKind, at));
     };
     let v = slice_within(first, last, own, ranges);
@@ -405,11 +405,11 @@ pub fn operand(
     match fields::header_at(program, at, to) {
         Err(NoHeader::End) => Err(Refusal(Reason::BadContent, parent)),
         Err(NoHeader::Cut) => Err(Refusal(Reason::BadHeader, at)),
-        Ok(Header { tag, next }) => match tag {
-            fields::WHOLE => whole(program, at, next, wanted, size, scope),
-            fields::ELEMENT => element(program, at, next, wanted, form, scope),
-            fields::SLICE => part(program, at, next, wanted, size, scope),
-            fields::PASSED => misplaced(program, at, next, wanted, scope),
+        Ok(header) => match header.tag {
+            fields::WHOLE => whole(program, at, header.next, wanted, size, scope),
+            fields::ELEMENT => element(program, at, header.next, wanted, form, scope),
+            fields::SLICE => part(program, at, header.next, wanted, size, scope),
+            fields::PASSED => misplaced(program, at, header.next, wanted, scope),
             _ => Err(Refusal(Reason::BadTag, at)),
         },
     }

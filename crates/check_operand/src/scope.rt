@@ -1,4 +1,5 @@
 // What is in scope where an operand stands.
+ghost use Rattle.std.specs.Prelude.{◌≡◌};
 ghost use Rattle.check_operand.specs.Tables.{TablesRight};
 
 use forms::{Form, Ranges, Size};

@@ -8,8 +8,6 @@ use lib.Dec.{leb}
 use lib.IntN.{ℤ}
 use lib.ListN.{length, take, drop}
 use lib.Seq.{slice, length-slice, drop-drop}
-use types.Run.{OneOf}
-use denote.Enum.Declared.{tag_of}
 use Rattle.language.specs.Tree.{Place, Operation, sum, difference, product, Index, bad_index, place_of, bad_operand}
 use Rattle.language.specs.Read.{Field, field, bad_header, Reader, of_fields, due, fields_after, first_field, field_of, two_bytes, fields, ending, operand_due, read_operand, read_index, outer_index, read_literal, read_variable, operation_of, index_by, phase_of, cphase_of}
 use Rattle.language.specs.Form.{built}
@@ -17,11 +15,10 @@ use Rattle.language.specs.Check.{Checked, Scope, form_of, must_show, check_natur
 use Rattle.language.proofs.ReadLaws.{AllRows, choose_all}
 use Rattle.fields.specs.Header.{fields_at}
 use Rattle.forms.specs.Flat.{as_form}
-use Rattle.check_index.specs.declared.Read.{Read}
-use Rattle.check_index.specs.declared.Read.TheVariants.{Upto, Refused}
+use Rattle.std.specs.Prelude.{Result, Ok, Err}
+use Rattle.refusals.specs.declared.Refusal.{Refusal}
 use Rattle.check_index.specs.Answers.{checked_part, checked_form, EndsAt, Passes, PastField}
-use Rattle.check_index.specs.contracts.Read.{the_type}
-use Rattle.check_index.proofs.Answers.{not_first, checked_then, form_stops}
+use Rattle.check_index.proofs.Answers.{checked_then, form_stops}
 use Rattle.check_operand.specs.Operands.{one_wire, two_operands}
 use Rattle.check_phase.specs.Phases.{phase_due, cphase_due}
 
@@ -70,11 +67,11 @@ module _ (s : Scope) (program : List ℕ) (from next at : ℕ) where
   abbrev k : Index
   k = due outer_index (bad_index 4 at) (fields_at program from next)
 
-  pub natural_stops : (r : Read) (l : List ℤ) → checked_form r l ≡ form_of s k → OneOf (1 ∷ []) (tag_of the_type r) → checked_part r ≡ check_natural s k
+  pub natural_stops : (r : Result ℕ Refusal) (l : List ℤ) → checked_form r l ≡ form_of s k → {w : Refusal} → r ≡ Err w → checked_part (Err w) ≡ check_natural s k
   unfolding check_natural
   natural_stops r l e h = form_stops r l (λ f. must_show (place_of k) s (built f)) h ∙ ap (λ (c : Checked _). c >>= λ f. must_show (place_of k) s (built f)) e
 
-  pub natural_shows : (r : Read) (l : List ℤ) (mid : ℕ) → checked_form r l ≡ form_of s k → r ≡ Upto mid → PastField program from next mid → next ≤ length program → must_show from s (built (as_form l)) ≡ check_natural s k
+  pub natural_shows : (r : Result ℕ Refusal) (l : List ℤ) (mid : ℕ) → checked_form r l ≡ form_of s k → r ≡ Ok mid → PastField program from next mid → next ≤ length program → must_show from s (built (as_form l)) ≡ check_natural s k
   unfolding check_natural fields_at
   natural_shows r l mid e u p h =
       let some : 1 ≤ length (slice from next program) = omega (arith, length-slice from next program h, p.low, p.high) in
@@ -83,13 +80,9 @@ module _ (s : Scope) (program : List ℕ) (from next at : ℕ) where
       ∙ ap (λ (c : Checked _). c >>= λ f. must_show (place_of k) s (built f)) e
 
 -- how far it reaches
-pub passes_stops : (program : List ℕ) (at to : ℕ) (r : Read) → OneOf (1 ∷ []) (tag_of the_type r) → Passes program at to r
-passes_stops program at to (Upto n) h = not_first h
-passes_stops program at to (Refused n p) h = tt
-
-pub passes_ends : (program : List ℕ) (at to mid : ℕ) (r : Read) → PastField program at to mid → EndsAt mid r → Passes program at to r
-passes_ends program at to mid (Upto n) p e = rw e p
-passes_ends program at to mid (Refused n q) p e = tt
+pub passes_ends : (program : List ℕ) (at to mid : ℕ) (r : Result ℕ Refusal) → PastField program at to mid → EndsAt mid r → Passes program at to r
+passes_ends program at to mid (Ok n) p e = rw e p
+passes_ends program at to mid (Err q) p e = tt
 
 -- ---- what is due after it
 

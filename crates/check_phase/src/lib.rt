@@ -1,13 +1,12 @@
 // The check of phases: their k, and their operands.
 #![tactic(auto)]
 
-ghost use Rattle.std.specs.Prelude.{◌≡◌, List, ◌≤◌, length};
+ghost use Rattle.std.specs.Prelude.{◌≡◌, ◌≤◌, length};
 ghost use Rattle.language.specs.Tree.{bad_index};
 ghost use Rattle.language.specs.Read.{due, outer_index};
-ghost use Rattle.language.specs.Check.{Kind, Signature, check_natural};
+ghost use Rattle.language.specs.Check.{check_natural};
 ghost use Rattle.fields.specs.Header.{fields_at};
-ghost use Rattle.forms.specs.Rows.{loops_of};
-ghost use Rattle.check_operand.specs.Tables.{Known, scope_with};
+ghost use Rattle.check_operand.specs.Tables.{Known};
 ghost use Rattle.check_index.specs.Answers.{checked_part, Passes};
 ghost use Rattle.check_operand.specs.Scopes.{scope_at};
 ghost use Rattle.check_phase.specs.Phases.{phase_due, cphase_due};
@@ -26,7 +25,7 @@ fn natural(
     scope: &Scope,
 ) -> Result<usize, Refusal>
     requires next_in_bounds { next ≤ length program.now }
-    ensures result_value { (fs : List Signature) (ks : List Kind) → checked_part result ≡ check_natural (scope_with fs ks scope.now.visible.variables (loops_of scope.now.visible.loops scope.now.lows.now scope.now.highs.now)) (due outer_index (bad_index 4 at) (fields_at program.now from next)) }
+    ensures result_value { (k : Known) → checked_part result ≡ check_natural (scope_at k scope.now) (due outer_index (bad_index 4 at) (fields_at program.now from next)) }
     ensures passes { Passes program.now from next result }
 {
     let mut f = [0i64; FORM_NUMBERS];

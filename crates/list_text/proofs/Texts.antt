@@ -13,14 +13,13 @@ use lib.Seq.{sets-eq, take_at}
 use Rattle.io.specs.Digits.{last_digits, IsDigitCount}
 use Rattle.language.specs.Limits.{record_size}
 use Rattle.text_bytes.specs.Decimal.{ascii, digit, decimal}
-use Rattle.text_bytes.specs.Buffers.{Room, Puts}
+use Rattle.text_bytes.specs.Buffers.{Puts}
 use Rattle.text_bytes.proofs.DecimalLaws.{decimal_digit, decimal_next}
 use Rattle.list_text.specs.Lines.{number_text, gate_text, condition_text, line_text, lines_text, Put}
 
 -- a word that was put, as the text up to its end
-pub word_put : {before word after : List ℕ} {from to : ℕ} → Room before from word → Puts before from word after to → Put before from after to word (length word)
-word_put {before} {word} {after} {from} {to} r p =
-    let h = r.fits in
+pub word_put : {before word after : List ℕ} {from to : ℕ} → Puts before from word after to → from + length word ≤ length before → Put before from after to word (length word)
+word_put {before} {word} {after} {from} {to} p h =
     let n : length (take from before ++ word) ≡ to = length-append (take from before) word ∙ omega (arith, length-take from before, p.past) in
     let s : after ≡ take from before ++ word ++ drop (from + length word) before = p.stored ∙ sets-eq word before from h in
     record { text = rw s (take_at (take from before ++ word) (drop (from + length word) before) to n); bound = omega (arith, p.past) }

@@ -18,14 +18,6 @@ pub struct Chunk {
     pub size: usize,
 }
 
-// Puts a word into the text at `from` and answers where it ends.
-fn put(word: &[u8], text: &mut [u8], from: usize) -> usize
-    requires { from + length word.now ≤ length text.old }
-    ensures { Put text.old from text.new result word.now (length word.now) }
-{
-    text_bytes::put(word, text, from)
-}
-
 // Puts a space and a number in decimal.
 fn number(n: u64, text: &mut [u8], from: usize) -> usize
     requires { from + 21 ≤ length text.old }
@@ -33,8 +25,8 @@ fn number(n: u64, text: &mut [u8], from: usize) -> usize
 {
     let mut digits = [0u8; 20];
     let many = io::decimal(n, &mut digits);
-    let at = put(b" ", text, from);
-    put(&digits[..many], text, at)
+    let at = text_bytes::put(b" ", text, from);
+    text_bytes::put(&digits[..many], text, at)
 }
 
 // Puts a name and a number.
@@ -43,7 +35,7 @@ fn named(name: &[u8], first: u64, text: &mut [u8], from: usize) -> usize
     requires from_in_bounds { from + 29 ≤ length text.old }
     ensures { Put text.old from text.new result (name.now ++ number_text first) 29 }
 {
-    let at = put(name, text, from);
+    let at = text_bytes::put(name, text, from);
     number(first, text, at)
 }
 
@@ -96,7 +88,7 @@ fn condition(kind: u8, bit: u64, text: &mut [u8], from: usize) -> usize
         return from;
     }
     let at = paired(b"if", bit, u64::from(kind) - 1, text, from);
-    put(b" ", text, at)
+    text_bytes::put(b" ", text, at)
 }
 
 // The two-byte number at a place of a record.
@@ -117,7 +109,7 @@ fn line(bytes: &[u8], text: &mut [u8], from: usize) -> usize
     let first = two_bytes(bytes, 2);
     let second = two_bytes(bytes, 4);
     let end = gate(bytes[0], first, second, two_bytes(bytes, 8), text, at);
-    put(b"\n", text, end)
+    text_bytes::put(b"\n", text, end)
 }
 
 // Puts the lines of the records from `first` on, as many of `total` as there is room for.
@@ -150,5 +142,5 @@ pub fn last_line(outcome: u64, place: u64, records: u64, steps: u64, text: &mut 
     let placed = paired(b"end", outcome, place, text, 0);
     let recorded = number(records, text, placed);
     let stepped = number(steps, text, recorded);
-    put(b"\n", text, stepped)
+    text_bytes::put(b"\n", text, stepped)
 }

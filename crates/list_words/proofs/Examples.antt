@@ -1,31 +1,31 @@
 -- Numbers of words, and what words ask for, computed. Assumes nothing.
 use mathlib.Core.Path.{◌≡◌, refl}
 use mathlib.Core.List.{[], ◌∷◌}
-use mathlib.Core.Option.{none, some}
+use Rattle.std.specs.Prelude.{Some, None}
 use Rattle.list_words.specs.Words.{all_digits, value_from, number_in, size_bytes, and_sizes, sizes_in, same_word, family_at, request_of, before, words_in}
 use Rattle.list_words.specs.Words.{whole, family, listing, help, bad}
 
 -- `042`
-leading_zero : number_in (48 ∷ 52 ∷ 50 ∷ []) ≡ some 42
+leading_zero : number_in (48 ∷ 52 ∷ 50 ∷ []) ≡ Some 42
 unfolding all_digits value_from number_in
 leading_zero = refl
 
 -- `4294967295`
-largest : number_in (52 ∷ 50 ∷ 57 ∷ 52 ∷ 57 ∷ 54 ∷ 55 ∷ 50 ∷ 57 ∷ 53 ∷ []) ≡ some 4294967295
+largest : number_in (52 ∷ 50 ∷ 57 ∷ 52 ∷ 57 ∷ 54 ∷ 55 ∷ 50 ∷ 57 ∷ 53 ∷ []) ≡ Some 4294967295
 unfolding all_digits value_from number_in
 largest = refl
 
 -- `4294967296`
-too_large_lem : number_in (52 ∷ 50 ∷ 57 ∷ 52 ∷ 57 ∷ 54 ∷ 55 ∷ 50 ∷ 57 ∷ 54 ∷ []) ≡ none
+too_large_lem : number_in (52 ∷ 50 ∷ 57 ∷ 52 ∷ 57 ∷ 54 ∷ 55 ∷ 50 ∷ 57 ∷ 54 ∷ []) ≡ None
 unfolding all_digits value_from number_in
 too_large_lem = refl
 
 -- `1x`
-no_digit : number_in (49 ∷ 120 ∷ []) ≡ none
+no_digit : number_in (49 ∷ 120 ∷ []) ≡ None
 unfolding all_digits value_from number_in
 no_digit = refl
 
-empty : number_in [] ≡ none
+empty : number_in [] ≡ None
 unfolding all_digits value_from number_in
 empty = refl
 

@@ -1,15 +1,20 @@
 -- Laws on words: their numbers, the bytes of sizes, and the words of a text. Assumes nothing.
 use Prim.Native.Nat.{ℕ, zero, suc, ◌+◌, ◌*◌, ◌-◌, ◌<◌, ◌≤◌}
 use mathlib.Core.Path.{◌≡◌, refl, sym, ap, ◌∙◌}
+use mathlib.Core.Logic.{◌⊎◌, inl, inr}
 use mathlib.Core.Bool.{Bool, true, false, cond, ◌&&◌}
 use mathlib.Core.List.{List, [], ◌∷◌, ◌++◌, append_assoc, append-nil}
-use mathlib.Core.Option.{Option, none, some}
+use Rattle.std.specs.Prelude.{◌==◌, Option, Some, None}
+use Rattle.std.specs.List.{position, position_or_len}
+use Rattle.std.proofs.lemmas.List.Sums.{fails_before_first}
+use Rattle.std.proofs.lemmas.List.Quantifiers.{position-Some}
 use native.Mathlib.Numerals.{add-one}
+use native.Mathlib.Nat.{add-zero}
 use native.Mathlib.Omega.{arith}
-use borrow.Author.Tests.{lt-ltb, le-ltb, lt-leb, le-leb, ne_eqb, eq-eqb, eqb-true}
+use borrow.Author.Tests.{lt-ltb, le-ltb, lt-leb, le-leb, ne_eqb, eq-eqb, eqb-true, eqb-false, ltb-false}
 use lib.Dec.{eqb, leb, ltb}
-use lib.ListN.{length, take, drop, get_or, set, length-set, length-take, length-drop, drop_of_length-le}
-use lib.Seq.{take-suc, take-suc-set, drop-cons, get_or-drop}
+use lib.ListN.{length, take, drop, get_or, length-take, length-drop, drop_of_length-le}
+use lib.Seq.{take-length, take-suc, drop-cons, get_or-drop}
 use Rattle.list_words.specs.declared.Span.{Span}
 use Rattle.list_words.specs.Words.{all_digits, value_from, number_in, size_bytes, and_sizes, sizes_in, before, words_in, listing, help, whole, help_word, same_word, family_at, request_of}
 use Rattle.list_words.specs.Jobs.{WordAt}
@@ -25,11 +30,11 @@ value_grows n [] = omega arith
 value_grows n (byte ∷ rest) = omega (arith, value_grows (10 * n + (byte - 48)) rest)
 
 -- a test that fails gives no number
-fails : (a b c : Bool) (o : Option ℕ) → b ≡ false → none ≡ cond (a && b && c) o none
+fails : (a b c : Bool) (o : Option ℕ) → b ≡ false → None ≡ cond (a && b && c) o None
 fails true b c o e = rw e
 fails false b c o e = refl
 
-fails_last : (a b c : Bool) (o : Option ℕ) → c ≡ false → none ≡ cond (a && b && c) o none
+fails_last : (a b c : Bool) (o : Option ℕ) → c ≡ false → None ≡ cond (a && b && c) o None
 fails_last true true c o e = rw e
 fails_last true false c o e = refl
 fails_last false b c o e = refl
@@ -44,7 +49,7 @@ pub record Reading (word : List ℕ) (i n : ℕ) : Type 0 where
 pub reading_start : (word : List ℕ) → Reading word 0 0
 reading_start word = record { within = omega arith; small = omega arith; digits = refl; value = refl }
 
-pub no_byte : (word : List ℕ) → length word ≡ 0 → none ≡ number_in word
+pub no_byte : (word : List ℕ) → length word ≡ 0 → None ≡ number_in word
 unfolding number_in
 no_byte word h = rw (le-ltb 0 (length word) (omega arith))
 
@@ -57,19 +62,23 @@ module _ (word : List ℕ) (i n : ℕ) (r : Reading word i n) (h : i < length wo
   unfolding value_from
   value_from_lem = r.value ∙ ap (value_from n) (next_byte word i h)
 
-  pub below_digits : get_or word i 0 < 48 → none ≡ number_in word
+  below_digits : get_or word i 0 < 48 → None ≡ number_in word
   unfolding number_in
-  below_digits low = fails (ltb 0 (length word)) (all_digits word) (ltb (value_from 0 word) 4294967296) (some (value_from 0 word)) (digits_from ∙ rw (lt-leb 48 (get_or word i 0) low))
+  below_digits low = fails (ltb 0 (length word)) (all_digits word) (ltb (value_from 0 word) 4294967296) (Some (value_from 0 word)) (digits_from ∙ rw (lt-leb 48 (get_or word i 0) low))
 
-  pub above_digits : 57 < get_or word i 0 → none ≡ number_in word
+  above_digits : 57 < get_or word i 0 → None ≡ number_in word
   unfolding number_in
-  above_digits high = fails (ltb 0 (length word)) (all_digits word) (ltb (value_from 0 word) 4294967296) (some (value_from 0 word))
+  above_digits high = fails (ltb 0 (length word)) (all_digits word) (ltb (value_from 0 word) 4294967296) (Some (value_from 0 word))
       (digits_from ∙ rw (le-leb 48 (get_or word i 0) (omega arith), lt-leb (get_or word i 0) 57 high))
 
-  pub too_large_lem : 4294967296 ≤ 10 * n + (get_or word i 0 - 48) → none ≡ number_in word
+  pub no_digit : (get_or word i 0 < 48) ⊎ (57 < get_or word i 0) → None ≡ number_in word
+  no_digit (inl low) = below_digits low
+  no_digit (inr high) = above_digits high
+
+  pub too_large_lem : 4294967296 ≤ 10 * n + (get_or word i 0 - 48) → None ≡ number_in word
   unfolding number_in
   too_large_lem large =
-      fails_last (ltb 0 (length word)) (all_digits word) (ltb (value_from 0 word) 4294967296) (some (value_from 0 word))
+      fails_last (ltb 0 (length word)) (all_digits word) (ltb (value_from 0 word) 4294967296) (Some (value_from 0 word))
       (le-ltb (value_from 0 word) 4294967296 (omega (arith, value_from_lem, value_grows (10 * n + (get_or word i 0 - 48)) (drop (i + 1) word))))
 
   pub reading_next : 48 ≤ get_or word i 0 → get_or word i 0 ≤ 57 → 10 * n + (get_or word i 0 - 48) < 4294967296
@@ -81,32 +90,13 @@ module _ (word : List ℕ) (i n : ℕ) (r : Reading word i n) (h : i < length wo
     value = value_from_lem;
   }
 
-pub reading_done : (word : List ℕ) (i n : ℕ) → Reading word i n → (i < length word → ⊥) → (length word ≡ 0 → ⊥) → some n ≡ number_in word
+pub reading_done : (word : List ℕ) (i n : ℕ) → Reading word i n → (i < length word → ⊥) → (length word ≡ 0 → ⊥) → Some n ≡ number_in word
 unfolding number_in all_digits value_from
 reading_done word i n r h k =
     let nothing : drop i word ≡ [] = drop_of_length-le word {i = i} (omega arith) in
     let digits : all_digits word ≡ true = r.digits ∙ rw nothing in
     let value : value_from 0 word ≡ n = r.value ∙ rw nothing in
     rw (value, digits, lt-ltb 0 (length word) (omega arith), lt-ltb n 4294967296 r.small)
-
--- four bytes stored one after another
-pub four_stored : (l : List ℕ) (at a b c d : ℕ) → at + 4 ≤ length l
-    → take (at + 4) (set (set (set (set l at a) (at + 1) b) (at + 2) c) (at + 3) d) ≡ take at l ++ a ∷ b ∷ c ∷ d ∷ []
-four_stored l at a b c d h =
-    let l₁ = set l at a in
-    let l₂ = set l₁ (at + 1) b in
-    let l₃ = set l₂ (at + 2) c in
-    let e₁ : length l₁ ≡ length l = length-set l at a in
-    let e₂ : length l₂ ≡ length l₁ = length-set l₁ (at + 1) b in
-    let e₃ : length l₃ ≡ length l₂ = length-set l₂ (at + 2) c in
-    let n₂ : at + 2 ≡ suc (at + 1) = omega arith in
-    let n₃ : at + 3 ≡ suc (at + 2) = omega arith in
-    let n₄ : at + 4 ≡ suc (at + 3) = omega arith in
-    let s₁ : take (at + 1) l₁ ≡ take at l ++ (a ∷ []) = ap (λ (k : ℕ). take k l₁) (add-one at) ∙ take-suc-set l at a (omega arith) in
-    let s₂ : take (at + 2) l₂ ≡ take (at + 1) l₁ ++ (b ∷ []) = ap (λ (k : ℕ). take k l₂) n₂ ∙ take-suc-set l₁ (at + 1) b (omega arith) in
-    let s₃ : take (at + 3) l₃ ≡ take (at + 2) l₂ ++ (c ∷ []) = ap (λ (k : ℕ). take k l₃) n₃ ∙ take-suc-set l₂ (at + 2) c (omega arith) in
-    let s₄ : take (at + 4) (set l₃ (at + 3) d) ≡ take (at + 3) l₃ ++ (d ∷ []) = ap (λ (k : ℕ). take k (set l₃ (at + 3) d)) n₄ ∙ take-suc-set l₃ (at + 3) d (omega arith) in
-    s₄ ∙ simp (s₃, s₂, s₁, append_assoc)
 
 -- bytes before the first word
 unfoldable pub before_all : List ℕ → List (List ℕ) → List (List ℕ)
@@ -194,33 +184,69 @@ text_ends text from i h p done =
       words = p.words ∙ rw nothing (before_nothing (take (i - from) (drop from text)) some_bytes);
     }
 
+-- ---- the first 0 of a text from a place on
+
+passing_on : (text : List ℕ) (from n : ℕ) → from + n ≤ length text → ((k : ℕ) → k < n → (get_or text (from + k) 0 ≡ 0 → ⊥)) → Passing text from (from + n)
+passing_on text from zero h f = rw add-zero (passing_start text from (omega arith))
+passing_on text from (suc n) h f =
+    let e : from + n + 1 ≡ from + suc n = omega arith in
+    rw (← e) (passing_next text from (from + n) (passing_on text from n (omega arith) (λ k l. f k (omega arith))) (omega arith) (f n (omega arith)))
+
+pub rest_is : (text : List ℕ) (from : ℕ) → take (length text - from) (drop from text) ≡ drop from text
+rest_is text from = rw (length-drop from text) at (take-length (drop from text))
+
+none_passes : (l : List ℕ) → position (λ (b : ℕ). b == 0) l ≡ None → length l ≤ position_or_len (λ (b : ℕ). b == 0) l
+none_passes l e = by_test (ltb (position_or_len (λ (b : ℕ). b == 0) l) (length l)) refl e
+  where
+    by_test : (t : Bool) → ltb (position_or_len (λ (b : ℕ). b == 0) l) (length l) ≡ t → cond t (Some (position_or_len (λ (b : ℕ). b == 0) l)) None ≡ None → length l ≤ position_or_len (λ (b : ℕ). b == 0) l
+    by_test true f g = absurd (let z : ◌≡◌ {A = ℕ} 0 1 = cc in omega arith)
+    by_test false f g = ltb-false _ _ f
+
+module _ (text : List ℕ) (from : ℕ) (h : from < length text) where
+  not_before : (k : ℕ) → (get_or (drop from text) k 0 == 0) ≡ false → get_or text (from + k) 0 ≡ 0 → ⊥
+  not_before k e z = eqb-false (get_or (drop from text) k 0) 0 e (get_or-drop from text k 0 ∙ z)
+
+  pub word_found : (n : ℕ) → position (λ (b : ℕ). b == 0) (drop from text) ≡ Some n → WordAt text from (record { end = from + n; next = from + n + 1 })
+  word_found n e =
+      let p = position-Some (λ (b : ℕ). b == 0) (drop from text) n 0 e in
+      let l : from + n < length text = omega (arith, p.0, length-drop from text) in
+      word_ends text from (from + n) (passing_on text from n (omega arith) (λ k m. not_before k (p.2 k m))) l
+      (sym (get_or-drop from text n 0) ∙ eqb-true (get_or (drop from text) n 0) 0 p.1)
+
+  pub word_last : position (λ (b : ℕ). b == 0) (drop from text) ≡ None → WordAt text from (record { end = length text; next = length text })
+  word_last e =
+      let n : from + length (drop from text) ≡ length text = omega (arith, length-drop from text) in
+      let p : Passing text from (from + length (drop from text)) =
+      passing_on text from (length (drop from text)) (omega arith) (λ k m. not_before k (fails_before_first (λ (b : ℕ). b == 0) (drop from text) k 0 (omega (arith, none_passes (drop from text) e)))) in
+      text_ends text from (length text) h (rw n at p) (omega arith)
+
 -- bytes before those of sizes
 unfoldable pub after : List ℕ → Option (List ℕ) → Option (List ℕ)
-after bytes none = none
-after bytes (some rest) = some (bytes ++ rest)
+after bytes None = None
+after bytes (Some rest) = Some (bytes ++ rest)
 
 after_nothing : (o : Option (List ℕ)) → o ≡ after [] o
 unfolding after
-after_nothing none = refl
-after_nothing (some rest) = refl
+after_nothing None = refl
+after_nothing (Some rest) = refl
 
-after_size : (bytes : List ℕ) (n : ℕ) (o : Option (List ℕ)) → after bytes (and_sizes (some n) o) ≡ after (bytes ++ size_bytes n) o
+after_size : (bytes : List ℕ) (n : ℕ) (o : Option (List ℕ)) → after bytes (and_sizes (Some n) o) ≡ after (bytes ++ size_bytes n) o
 unfolding after and_sizes
-after_size bytes n none = refl
-after_size bytes n (some rest) = ap some (sym (append_assoc bytes (size_bytes n) rest))
+after_size bytes n None = refl
+after_size bytes n (Some rest) = ap Some (sym (append_assoc bytes (size_bytes n) rest))
 
-no_words : (most : ℕ) → sizes_in most [] ≡ some []
+no_words : (most : ℕ) → sizes_in most [] ≡ Some []
 unfolding sizes_in
 no_words zero = refl
 no_words (suc most) = refl
 
 -- a text with a byte has a word
-no_room : (l : List ℕ) → 0 < length l → sizes_in 0 (words_in l) ≡ none
+no_room : (l : List ℕ) → 0 < length l → sizes_in 0 (words_in l) ≡ None
 unfolding sizes_in words_in before
 no_room [] h = absurd (omega arith)
 no_room (byte ∷ rest) h = by_first (eqb byte 0) (words_in rest)
   where
-    by_first : (b : Bool) (words : List (List ℕ)) → sizes_in 0 (cond b ([] ∷ words) (before byte words)) ≡ none
+    by_first : (b : Bool) (words : List (List ℕ)) → sizes_in 0 (cond b ([] ∷ words) (before byte words)) ≡ None
     by_first true words = refl
     by_first false [] = refl
     by_first false (word ∷ words) = refl
@@ -236,18 +262,18 @@ pub sizing_start : (text : List ℕ) (from : ℕ) (sizes : List ℕ) → from �
 sizing_start text from sizes h k = record { within = h; few = omega arith; room = k; same = after_nothing (sizes_in 16 (words_in (drop from text))) }
 
 module _ (text : List ℕ) (from : ℕ) (sizes : List ℕ) (at many : ℕ) (p : Sizing text from sizes at many) where
-  pub too_many_lem : at < length text → many ≡ 16 → none ≡ sizes_in 16 (words_in (drop from text))
+  pub too_many_lem : at < length text → many ≡ 16 → None ≡ sizes_in 16 (words_in (drop from text))
   unfolding after
   too_many_lem h all =
       let left : 16 - many ≡ 0 = omega arith in
       let there : 0 < length (drop at text) = simp length-drop (omega arith) in
       sym (p.same ∙ rw left (rw (no_room (drop at text) there)))
 
-  pub sizing_done : (at < length text → ⊥) → some (take (4 * many) sizes) ≡ sizes_in 16 (words_in (drop from text))
+  pub sizing_done : (at < length text → ⊥) → Some (take (4 * many) sizes) ≡ sizes_in 16 (words_in (drop from text))
   unfolding after words_in
   sizing_done h =
       let nothing : drop at text ≡ [] = drop_of_length-le text {i = at} (omega arith) in
-      sym (p.same ∙ rw nothing (rw (no_words (16 - many)) (ap some (append-nil (take (4 * many) sizes)))))
+      sym (p.same ∙ rw nothing (rw (no_words (16 - many)) (ap Some (append-nil (take (4 * many) sizes)))))
 
   module _ (s : Span) (w : WordAt text at s) (h : many ≡ 16 → ⊥) where
     one_more_lem : sizes_in 16 (words_in (drop from text))
@@ -258,11 +284,11 @@ module _ (text : List ℕ) (from : ℕ) (sizes : List ℕ) (at many : ℕ) (p : 
         let left : 16 - many ≡ suc (16 - (many + 1)) = omega arith in
         p.same ∙ rw (left, w.words)
 
-    pub no_number : none ≡ number_in (take (s.end - at) (drop at text)) → none ≡ sizes_in 16 (words_in (drop from text))
+    pub no_number : None ≡ number_in (take (s.end - at) (drop at text)) → None ≡ sizes_in 16 (words_in (drop from text))
     unfolding after and_sizes
     no_number e = sym (one_more_lem ∙ rw (sym e))
 
-    pub sizing_next : (n : ℕ) (now : List ℕ) → some n ≡ number_in (take (s.end - at) (drop at text)) → length now ≡ length sizes
+    pub sizing_next : (n : ℕ) (now : List ℕ) → Some n ≡ number_in (take (s.end - at) (drop at text)) → length now ≡ length sizes
         → take (4 * many + 4) now ≡ take (4 * many) sizes ++ size_bytes n → Sizing text from now s.next (many + 1)
     sizing_next n now e kept put =
         let few : many ≤ 16 = p.few in

@@ -20,8 +20,7 @@ use Rattle.qasm_text.specs.TextResult.{TextResult, TextAnswer, TextConclusion, t
 use Rattle.qasm_text.specs.TextSound.{TextSound, TextFinishes}
 use Rattle.qasm_text.proofs.RecordsBack.{sound_read}
 use Rattle.qasm_text.proofs.TextSoundness.{not_printed, into_size, run_text_sound, instance_text_sound, run_text_by, instance_text_by}
-use Rattle.core.specs.declared.option.Option.{Option as Answered}
-use Rattle.std.specs.Prelude.{Some, None}
+use Rattle.std.specs.Prelude.{Option as Answered, Some, None}
 use Rattle.qasm_print.specs.Prints.{Prints}
 use Rattle.metaqasm.specs.TextAnswers.{SoundRunText, SoundInstanceText}
 

@@ -91,7 +91,11 @@ fn parts_of(
         let single = tag != fields::CX;
         return Ok(Parts {
             single,
-            op: if single { gates::code(tag, reversed) } else { Op::Cx },
+            op: if single {
+                gates::code(tag, reversed)
+            } else {
+                Op::Cx
+            },
             k: 0,
             next: from,
         });
@@ -100,7 +104,11 @@ fn parts_of(
     let single = tag == fields::PHASE;
     Ok(Parts {
         single,
-        op: if single { phase_op(reversed) } else { cphase_op(reversed) },
+        op: if single {
+            phase_op(reversed)
+        } else {
+            cphase_op(reversed)
+        },
         k: halvings.k,
         next: halvings.next,
     })
@@ -132,8 +140,9 @@ pub fn act(
     ensures { Does out.old st out.new result (action_at mode (length out.old) tag place (slice from to bytes.now) (frame_in mode (take mode.variables vars.now) scope regs.now)) }
 {
     let many = usize::from(mode.variables);
-    let parts = parts_of(bytes, from, to, tag, vars, many, mode.reversed)
-        .map_err(|fault| gates::stop(fault, place, st))?;
+    let parts = parts_of(bytes, from, to, tag, vars, many, mode.reversed).map_err(
+        |fault| gates::stop(fault, place, st),
+    )?;
     gates::on_wires(
         bytes,
         parts.next,

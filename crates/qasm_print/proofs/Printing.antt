@@ -10,8 +10,7 @@ use Rattle.language.specs.Machine.{Record}
 use Rattle.qasm_text.specs.Text.{lines, header, text_of}
 use Rattle.qasm_text.specs.TextResult.{text_into}
 use Rattle.qasm_length.specs.Lengths.{Measures}
-use Rattle.qasm_length.specs.declared.TextLength.{TextLength}
-use Rattle.qasm_length.specs.declared.TextLength.TheVariants.{Fits, TooLong}
+use Rattle.std.specs.Prelude.{Option, Some, None}
 use Rattle.text_bytes.specs.Buffers.{Room, Puts}
 use Rattle.qasm_print.specs.Prints.{Prints}
 
@@ -20,12 +19,12 @@ pub pieces_text : (buffer text : List ℕ) → length text ≤ length buffer →
 unfolding text_into
 pieces_text buffer text h = sets-eq text buffer 0 (omega arith) ∙ rw zero-add
 
-module _ (before : List ℕ) (wires bits : ℕ) (rs : List Record) (r : TextLength) (m : Measures (length before) (length (text_of wires bits rs)) r) where
+module _ (before : List ℕ) (wires bits : ℕ) (rs : List Record) (r : Option ℕ) (m : Measures (length before) (length (text_of wires bits rs)) r) where
   -- a text that is too long leaves the buffer
-  pub prints_nothing : r ≡ TooLong → Prints before (text_of wires bits rs) before r
+  pub prints_nothing : r ≡ None → Prints before (text_of wires bits rs) before r
   prints_nothing e = rw e (subst (Measures (length before) (length (text_of wires bits rs))) e m, refl)
 
-  module _ (n : ℕ) (e : r ≡ Fits n) where
+  module _ (n : ℕ) (e : r ≡ Some n) where
     measured : (n ≡ length (text_of wires bits rs)) × (length (text_of wires bits rs) ≤ length before)
     measured = subst (Measures (length before) (length (text_of wires bits rs))) e m
 

@@ -12,6 +12,9 @@ use native.Mathlib.Numerals.{add-one}
 use borrow.Author.Tests.{eqb-true, eqb-false, ne_eqb}
 use lib.Dec.{eqb}
 use lib.Bits.{bit_or}
+use lib.Count.{ones}
+use Rattle.std.specs.List.{sum_by}
+use Rattle.std.proofs.lemmas.List.Sums.{sum_by-cons}
 use lib.ListN.{length, set, get_or}
 use lib.Seq.{set-get_or}
 use Rattle.language.specs.Limits.{record_size}
@@ -20,7 +23,7 @@ use Rattle.language.specs.Machine.{Wire, forward, backward, do_h, do_t, do_tdg, 
 use Rattle.written_records.specs.RecordsIn.{action_of, number_at}
 use Rattle.written_records.specs.AnyBytes.{action_from, record_from, records_from}
 use Rattle.written_records.proofs.AnyRecords.{records_next}
-use Rattle.wire_map.specs.WireMap.{map_size, named_by, wires_named, bit_of}
+use Rattle.wire_map.specs.WireMap.{map_size, named_by, wires_named, bit_of, ones_over}
 use Rattle.wire_map.specs.Marking.{marked, Marks, BitSet}
 use Rattle.wire_map.proofs.Marking.{marked_length, marks_one, marks_then, marks_more}
 use Rattle.wire_map.proofs.Marked.{marked_again, marked_bit, marked_stays}
@@ -103,3 +106,11 @@ module _ (output before mid : List ℕ) (at w : ℕ) (l : map_size ≤ length be
 pub record_marked : (output before mid after : List ℕ) (i : ℕ) → Marks before (wires_named (records_from i output)) mid → Marks mid (named_by (record_from output (record_size * i)).action) after
     → Marks before (wires_named (records_from (i + 1) output)) after
 record_marked output before mid after i x y = rw (add-one i, records_next i output) (marks_more (records_from i output) (record_from output (record_size * i)) x y)
+
+-- ---- the count of ones
+
+-- the ones of each byte, summed
+pub ones_summed : (m : List ℕ) → sum_by ones m ≡ ones_over m
+unfolding ones_over
+ones_summed [] = refl
+ones_summed (b ∷ m) = sum_by-cons ones b m ∙ ap (λ (k : ℕ). ones b + k) (ones_summed m)

@@ -9,11 +9,12 @@ use Rattle.language.specs.Check.{Checked, good, ◌>>=◌, Kind, kinds_of}
 use Rattle.fields.specs.Header.{fields_at}
 use Rattle.check_operand.specs.Tables.{scope_with, kinds_at}
 use Rattle.check_call.specs.Calls.{formal_at}
-use Rattle.check_index.proofs.Answers.{beyond_none, beyond_more, beyond_stops, passes_upto}
+use Rattle.check_index.proofs.Answers.{beyond_none, beyond_more, passes_upto}
 use Rattle.check_declaration.specs.Types.{checked_rows}
-use Rattle.check_declaration.proofs.Tables.{in_use_later, in_use_stops, in_use_upto}
+use Rattle.check_declaration.proofs.Tables.{in_use_later, in_use_upto}
 use Rattle.check_declaration.proofs.Types.{type_level, rows_stop, types_stop, types_go, more_kinds, no_kinds, all_kinds}
-use Rattle.check_declaration.proofs.Formals.{stays_none, stays_more, kinds_stay, formals_later, formals_upto, formals_stop}
+use Rattle.check_declaration.proofs.Formals.{stays_none, stays_more, kinds_stay, formals_later, formals_upto}
+use Rattle.refusals.proofs.Handed.{handed}
 use Rattle.check_declaration.proofs.parameter_types.Goals as goal
 
 pub loop-j-init : goal.loop-j-init
@@ -21,12 +22,8 @@ loop-j-init c =
     let a = c.args in
     (omega arith, stays_none (length a.program.now) a.first a.at a.registers a.families.now a.kinds.now a.sizes.now c.requires.operand_table, beyond_none a.program.now a.at a.to, in_use_later a.first (a.first + 0) a.registers a.at a.at a.kinds.now c.requires.in_use (omega arith) (omega (arith, c.requires.in_use.few)), c.requires.at_le_to.0, c.requires.formals_in, (λ fs ks. let z : a.count - 0 ≡ a.count = omega arith in rw z (no_kinds (formal_at a.families.now a.kinds.now a.sizes.now) _ a.first a.kinds.now a.sizes.now)))
 
-pub overflow_add-row : goal.overflow_add-row
-overflow_add-row c =
-    omega (arith, c.loop-j.invariant.3.few, c.loop-j.invariant.4, c.requires.to_in_bounds, c.requires.at_le_to.1)
-
-pub typed_row-r-requires : goal.typed_row-r-requires
-typed_row-r-requires c =
+pub typed_row-requires : goal.typed_row-requires
+typed_row-requires c =
     let i = c.loop-j in
     let k = i.invariant.1.kinds_same in
     let s = i.invariant.1.sizes_same in
@@ -43,81 +40,57 @@ typed_row-r-requires c =
       formals_in = i.invariant.5;
     }
 
-pub shape_of-families-in_default : goal.shape_of-families-in_default
-shape_of-families-in_default c =
-    c.typed_row-r.ensures.stays.families_same ∙ c.loop-j.invariant.1.families_same
-
-pub shape_of-kinds-in_default : goal.shape_of-kinds-in_default
-shape_of-kinds-in_default c =
-    c.typed_row-r.ensures.stays.kinds_same ∙ c.loop-j.invariant.1.kinds_same
-
-pub shape_of-sizes-in_default : goal.shape_of-sizes-in_default
-shape_of-sizes-in_default c =
-    c.typed_row-r.ensures.stays.sizes_same ∙ c.loop-j.invariant.1.sizes_same
-
-pub returns-in_default : goal.returns-in_default
-returns-in_default c =
+pub returns-in_err-next : goal.returns-in_err-next
+returns-in_err-next c =
     let a = c.args in
     let program = a.program.now in
     let i = c.loop-j in
-    let families = c.typed_row-r.new.families in
-    let kinds = c.typed_row-r.new.kinds in
-    let sizes = c.typed_row-r.new.sizes in
+    let families = c.typed_row.new.families in
+    let kinds = c.typed_row.new.kinds in
+    let sizes = c.typed_row.new.sizes in
     let g = formal_at families kinds sizes in
     let e : a.count - i.j ≡ suc (a.count - (i.j + 1)) = (let h = c.loop-j-test.true in omega arith) in
     let before = formal_at i.families i.kinds i.sizes in
     let sofar : List Kind → Checked (List Kind) = λ rest. good (kinds_at before i.j a.first i.kinds i.sizes ++ rest) in
-    let along = i.invariant.2.low in record {
-      sizes_after = λ fs ks. rows_stop g c.typed_row-r.result a.count a.first kinds sizes sofar c.in_default.in_default-own.keys2
-          ∙ ap (λ (c : Checked (List Kind)). c >>= sofar) (types_stop (type_level (scope_with fs ks a.m []) a.parent) (a.count - (i.j + 1)) program i.from a.to g c.typed_row-r.result (a.first + i.j) kinds sizes (c.typed_row-r.ensures.sizes_after fs ks) a.count a.first c.in_default.in_default-own.keys2
+    let along = i.invariant.2.low in rw (handed c.from_residual.result c.from_residual.ensures.1) (record {
+      sizes_after = λ fs ks. rows_stop g _ a.count a.first kinds sizes sofar
+          ∙ ap (λ (c : Checked (List Kind)). c >>= sofar) (types_stop (type_level (scope_with fs ks a.m []) a.parent) (a.count - (i.j + 1)) program i.from a.to g c.typed_row.result (a.first + i.j) kinds sizes (c.typed_row.ensures.sizes_after fs ks) a.count a.first c.in_err-next.was
           ∙ ap (λ (n : ℕ). kinds_of (scope_with fs ks a.m []) (types_of a.parent n (fields_at program i.from a.to))) (sym e))
           ∙ sym (i.invariant.6 fs ks);
-      passes_count = beyond_stops program a.at a.to a.count c.typed_row-r.result c.in_default.in_default-own.keys2;
-      in_use_before = in_use_stops (a.first + a.count) a.registers a.to c.typed_row-r.result kinds c.in_default.in_default-own.keys2;
-      formals_before = formals_stop a.to c.typed_row-r.result families kinds c.in_default.in_default-own.keys2;
-      stays = stays_more (length program) a.first a.at i.from a.registers i.j along i.invariant.1 c.typed_row-r.ensures.stays;
-    }
+      passes_count = tt;
+      in_use_before = tt;
+      formals_before = tt;
+      stays = stays_more (length program) a.first a.at i.from a.registers i.j along i.invariant.1 c.typed_row.ensures.stays;
+    })
 
 pub loop-j-preserved : goal.loop-j-preserved
 loop-j-preserved c =
     let a = c.args in
     let program = a.program.now in
     let i = c.loop-j in
-    let families = c.typed_row-r.new.families in
-    let kinds = c.typed_row-r.new.kinds in
-    let sizes = c.typed_row-r.new.sizes in
+    let families = c.typed_row.new.families in
+    let kinds = c.typed_row.new.kinds in
+    let sizes = c.typed_row.new.sizes in
     let g = formal_at families kinds sizes in
     let e : a.count - i.j ≡ suc (a.count - (i.j + 1)) = (let h = c.loop-j-test.true in omega arith) in
     let before = formal_at i.families i.kinds i.sizes in
     let sofar : List Kind → Checked (List Kind) = λ rest. good (kinds_at before i.j a.first i.kinds i.sizes ++ rest) in
     let along = i.invariant.2.low in
-    let next = c.in-Upto.next in
-    let v = passes_upto program i.from a.to c.typed_row-r.result next c.in-Upto.is c.typed_row-r.ensures.passes in
-    let used = in_use_upto (a.first + i.j + 1) a.registers next c.typed_row-r.result kinds c.in-Upto.is c.typed_row-r.ensures.in_use_after in
+    let next = c.in_ok-next.next in
+    let v = passes_upto program i.from a.to c.typed_row.result next c.in_ok-next.was c.typed_row.ensures.passes in
+    let used = in_use_upto (a.first + i.j + 1) a.registers next c.typed_row.result kinds c.in_ok-next.was c.typed_row.ensures.in_use_after in
     let h = c.loop-j-test.true in (
       omega arith,
-      stays_more (length program) a.first a.at i.from a.registers i.j along i.invariant.1 c.typed_row-r.ensures.stays,
+      stays_more (length program) a.first a.at i.from a.registers i.j along i.invariant.1 c.typed_row.ensures.stays,
       beyond_more program a.at a.to i.j i.from next i.invariant.2 v,
       in_use_later (a.first + i.j + 1) (a.first + (i.j + 1)) a.registers next next kinds used (omega arith) (omega (arith, used.few)),
       v.high,
-      formals_upto next c.typed_row-r.result families kinds c.in-Upto.is c.typed_row-r.ensures.formals_after,
+      formals_upto next c.typed_row.result families kinds c.in_ok-next.was c.typed_row.ensures.formals_after,
       (λ fs ks. i.invariant.6 fs ks
           ∙ ap (λ (n : ℕ). kinds_of (scope_with fs ks a.m []) (types_of a.parent n (fields_at program i.from a.to)) >>= sofar) e
-          ∙ ap (λ (c : Checked (List Kind)). c >>= sofar) (types_go (type_level (scope_with fs ks a.m []) a.parent) (a.count - (i.j + 1)) program i.from a.to g c.typed_row-r.result (a.first + i.j) kinds sizes (c.typed_row-r.ensures.sizes_after fs ks) next c.in-Upto.is v)
-          ∙ more_kinds (kinds_of (scope_with fs ks a.m []) (types_of a.parent (a.count - (i.j + 1)) (fields_at program next a.to))) a.first i.j before g i.kinds i.sizes kinds sizes (kinds_stay (length program) (a.first + i.j) (a.first + i.j) i.from a.registers i.j a.first i.invariant.3 c.typed_row-r.ensures.stays (omega arith))),
+          ∙ ap (λ (c : Checked (List Kind)). c >>= sofar) (types_go (type_level (scope_with fs ks a.m []) a.parent) (a.count - (i.j + 1)) program i.from a.to g c.typed_row.result (a.first + i.j) kinds sizes (c.typed_row.ensures.sizes_after fs ks) next c.in_ok-next.was v)
+          ∙ more_kinds (kinds_of (scope_with fs ks a.m []) (types_of a.parent (a.count - (i.j + 1)) (fields_at program next a.to))) a.first i.j before g i.kinds i.sizes kinds sizes (kinds_stay (length program) (a.first + i.j) (a.first + i.j) i.from a.registers i.j a.first i.invariant.3 c.typed_row.ensures.stays (omega arith))),
     )
-
-pub shape_of-families : goal.shape_of-families
-shape_of-families c =
-    c.loop-j.invariant.1.families_same
-
-pub shape_of-kinds : goal.shape_of-kinds
-shape_of-kinds c =
-    c.loop-j.invariant.1.kinds_same
-
-pub shape_of-sizes : goal.shape_of-sizes
-shape_of-sizes c =
-    c.loop-j.invariant.1.sizes_same
 
 pub returns : goal.returns
 unfolding checked_rows

@@ -9,11 +9,12 @@ use Rattle.language.specs.Read.{read_plain, parts_of}
 use Rattle.language.specs.Check.{Checked, good, ◌>>=◌, Kind, plain_kinds}
 use Rattle.fields.specs.Header.{fields_at}
 use Rattle.check_operand.specs.Tables.{Formals, scope_with, kinds_at}
-use Rattle.check_index.proofs.Answers.{beyond_none, beyond_more, beyond_stops, passes_upto}
+use Rattle.check_index.proofs.Answers.{beyond_none, beyond_more, passes_upto}
 use Rattle.check_declaration.specs.Types.{checked_rows}
 use Rattle.check_declaration.proofs.Tables.{apart_none, apart_more, in_use_upto, rows_below}
 use Rattle.check_declaration.proofs.Types.{plain_level, rows_stop, types_stop, types_go, more_kinds, no_kinds, all_kinds}
-use Rattle.check_declaration.proofs.Formals.{no_plain, more_plain, plain_upto, within_stops, after_stops, plain_stops}
+use Rattle.check_declaration.proofs.Formals.{no_plain, more_plain, plain_upto}
+use Rattle.refusals.proofs.Handed.{handed}
 use Rattle.check_declaration.proofs.plain_rows.Goals as goal
 
 pub loop-j-init : goal.loop-j-init
@@ -21,14 +22,8 @@ loop-j-init c =
     let a = c.args in
     (omega arith, apart_none (length a.program.now) a.first a.count a.kinds.now a.sizes.now c.requires.operand_table, beyond_none a.program.now a.at a.to, c.requires.in_use, c.requires.at_le_to.0, omega arith, no_plain a.first a.kinds.now, (λ fs ks g. let z : a.count - 0 ≡ a.count = omega arith in rw z (no_kinds g _ a.first a.kinds.now a.sizes.now)))
 
-pub overflow_add-row : goal.overflow_add-row
-overflow_add-row c =
-    let h = c.loop-j-test.true in
-    let r = c.requires.count_in_bounds in
-    omega (arith, c.well_formed, c.loop-j.invariant.1.kinds_same)
-
-pub plain_row-r-requires : goal.plain_row-r-requires
-plain_row-r-requires c =
+pub plain_row-requires : goal.plain_row-requires
+plain_row-requires c =
     let h = c.loop-j-test.true in
     let r = c.requires.count_in_bounds in
     record {
@@ -40,70 +35,54 @@ plain_row-r-requires c =
       operand_table = c.loop-j.invariant.1.table;
     }
 
-pub shape_of-kinds-in_default : goal.shape_of-kinds-in_default
-shape_of-kinds-in_default c =
-    c.plain_row-r.ensures.apart.kinds_same ∙ c.loop-j.invariant.1.kinds_same
-
-pub shape_of-sizes-in_default : goal.shape_of-sizes-in_default
-shape_of-sizes-in_default c =
-    c.plain_row-r.ensures.apart.sizes_same ∙ c.loop-j.invariant.1.sizes_same
-
-pub returns-in_default : goal.returns-in_default
-returns-in_default c =
+pub returns-in_err-next : goal.returns-in_err-next
+returns-in_err-next c =
     let a = c.args in
     let program = a.program.now in
     let i = c.loop-j in
-    let kinds = c.plain_row-r.new.kinds in
-    let sizes = c.plain_row-r.new.sizes in
+    let kinds = c.plain_row.new.kinds in
+    let sizes = c.plain_row.new.sizes in
     let e : a.count - i.j ≡ suc (a.count - (i.j + 1)) = (let h = c.loop-j-test.true in omega arith) in
     let sofar : Formals → List Kind → Checked (List Kind) = λ g rest. good (kinds_at g i.j a.first i.kinds i.sizes ++ rest) in
-    let last = apart_more (length program) a.first a.count i.j c.loop-j-test.true i.invariant.1 c.plain_row-r.ensures.apart in record {
-      sizes_after = λ fs ks g. rows_stop g c.plain_row-r.result a.count a.first kinds sizes (sofar g) c.in_default.in_default-own.keys2
-          ∙ ap (λ (c : Checked (List Kind)). c >>= sofar g) (types_stop (plain_level (scope_with fs ks a.m []) a.parent) (a.count - (i.j + 1)) program i.from a.to g c.plain_row-r.result (a.first + i.j) kinds sizes (c.plain_row-r.ensures.sizes_after fs ks g) a.count a.first c.in_default.in_default-own.keys2
+    let last = apart_more (length program) a.first a.count i.j c.loop-j-test.true i.invariant.1 c.plain_row.ensures.apart in rw (handed c.from_residual.result c.from_residual.ensures.1) (record {
+      sizes_after = λ fs ks g. rows_stop g _ a.count a.first kinds sizes (sofar g)
+          ∙ ap (λ (c : Checked (List Kind)). c >>= sofar g) (types_stop (plain_level (scope_with fs ks a.m []) a.parent) (a.count - (i.j + 1)) program i.from a.to g c.plain_row.result (a.first + i.j) kinds sizes (c.plain_row.ensures.sizes_after fs ks g) a.count a.first c.in_err-next.was
           ∙ ap (λ (n : ℕ). plain_kinds (scope_with fs ks a.m []) (parts_of read_plain (bad_type 4 a.parent) n (fields_at program i.from a.to))) (sym e))
           ∙ sym (i.invariant.7 fs ks g);
-      passes_count = beyond_stops program a.at a.to a.count c.plain_row-r.result c.in_default.in_default-own.keys2;
-      types_within = within_stops a.at a.to a.count c.plain_row-r.result c.in_default.in_default-own.keys2;
-      in_use_after = after_stops 0 a.registers c.plain_row-r.result kinds c.in_default.in_default-own.keys2;
-      plain_after = plain_stops c.plain_row-r.result a.count a.first kinds c.in_default.in_default-own.keys2;
+      passes_count = tt;
+      types_within = tt;
+      in_use_after = tt;
+      plain_after = tt;
       apart = last;
-    }
+    })
 
 pub loop-j-preserved : goal.loop-j-preserved
 loop-j-preserved c =
     let a = c.args in
     let program = a.program.now in
     let i = c.loop-j in
-    let kinds = c.plain_row-r.new.kinds in
-    let sizes = c.plain_row-r.new.sizes in
+    let kinds = c.plain_row.new.kinds in
+    let sizes = c.plain_row.new.sizes in
     let e : a.count - i.j ≡ suc (a.count - (i.j + 1)) = (let h = c.loop-j-test.true in omega arith) in
     let sofar : Formals → List Kind → Checked (List Kind) = λ g rest. good (kinds_at g i.j a.first i.kinds i.sizes ++ rest) in
-    let next = c.in-Upto.next in
-    let v = passes_upto program i.from a.to c.plain_row-r.result next c.in-Upto.is c.plain_row-r.ensures.passes in
-    let used = in_use_upto 0 a.registers next c.plain_row-r.result kinds c.in-Upto.is c.plain_row-r.ensures.in_use_after in
-    let one = plain_upto c.plain_row-r.result next 1 (a.first + i.j) kinds c.in-Upto.is c.plain_row-r.ensures.plain_after in
+    let next = c.in_ok-next.next in
+    let v = passes_upto program i.from a.to c.plain_row.result next c.in_ok-next.was c.plain_row.ensures.passes in
+    let used = in_use_upto 0 a.registers next c.plain_row.result kinds c.in_ok-next.was c.plain_row.ensures.in_use_after in
+    let one = plain_upto c.plain_row.result next 1 (a.first + i.j) kinds c.in_ok-next.was c.plain_row.ensures.plain_after in
     let h = c.loop-j-test.true in
     let low = i.invariant.5 in (
       omega arith,
-      apart_more (length program) a.first a.count i.j h i.invariant.1 c.plain_row-r.ensures.apart,
+      apart_more (length program) a.first a.count i.j h i.invariant.1 c.plain_row.ensures.apart,
       beyond_more program a.at a.to i.j i.from next i.invariant.2 v,
       used,
       v.high,
       omega (arith, v.low),
-      more_plain (length program) a.first i.j i.kinds kinds i.sizes sizes i.invariant.6 c.plain_row-r.ensures.apart one,
+      more_plain (length program) a.first i.j i.kinds kinds i.sizes sizes i.invariant.6 c.plain_row.ensures.apart one,
       (λ fs ks g. i.invariant.7 fs ks g
           ∙ ap (λ (n : ℕ). plain_kinds (scope_with fs ks a.m []) (parts_of read_plain (bad_type 4 a.parent) n (fields_at program i.from a.to)) >>= sofar g) e
-          ∙ ap (λ (c : Checked (List Kind)). c >>= sofar g) (types_go (plain_level (scope_with fs ks a.m []) a.parent) (a.count - (i.j + 1)) program i.from a.to g c.plain_row-r.result (a.first + i.j) kinds sizes (c.plain_row-r.ensures.sizes_after fs ks g) next c.in-Upto.is v)
-          ∙ more_kinds (plain_kinds (scope_with fs ks a.m []) (parts_of read_plain (bad_type 4 a.parent) (a.count - (i.j + 1)) (fields_at program next a.to))) a.first i.j g g i.kinds i.sizes kinds sizes (rows_below (length program) (a.first + i.j) 1 i.j a.first c.plain_row-r.ensures.apart (omega arith) g)),
+          ∙ ap (λ (c : Checked (List Kind)). c >>= sofar g) (types_go (plain_level (scope_with fs ks a.m []) a.parent) (a.count - (i.j + 1)) program i.from a.to g c.plain_row.result (a.first + i.j) kinds sizes (c.plain_row.ensures.sizes_after fs ks g) next c.in_ok-next.was v)
+          ∙ more_kinds (plain_kinds (scope_with fs ks a.m []) (parts_of read_plain (bad_type 4 a.parent) (a.count - (i.j + 1)) (fields_at program next a.to))) a.first i.j g g i.kinds i.sizes kinds sizes (rows_below (length program) (a.first + i.j) 1 i.j a.first c.plain_row.ensures.apart (omega arith) g)),
     )
-
-pub shape_of-kinds : goal.shape_of-kinds
-shape_of-kinds c =
-    c.loop-j.invariant.1.kinds_same
-
-pub shape_of-sizes : goal.shape_of-sizes
-shape_of-sizes c =
-    c.loop-j.invariant.1.sizes_same
 
 pub returns : goal.returns
 unfolding checked_rows

@@ -13,26 +13,25 @@ use Rattle.check_operand.specs.Tables.{kind_in, size_of_row}
 use Rattle.check_declaration.proofs.Sizes.{constant_narrow}
 use Rattle.check_declaration.specs.Types.{size_row}
 use Rattle.check_declaration.specs.Registers.{checked_register}
-use Rattle.check_declaration.proofs.Registers.{size_fits_lem, size_two, register_stops}
+use Rattle.check_declaration.proofs.Registers.{size_fits_lem, size_two}
 use Rattle.check_declaration.proofs.Tables.{apart_both, row_both, in_use_set, number_size}
+use Rattle.refusals.proofs.Handed.{handed}
 use Rattle.check_declaration.proofs.register.Goals as goal
 
-pub returns-in_default : goal.returns-in_default
-returns-in_default c =
-    let a = c.args in
-    let program = a.program.now in
-    record {
-      result_value = c.register_size-r.ensures;
-      register_set = register_stops (length program) a.next c.register_size-r.result a.kind a.count a.total a.most a.kinds.now a.sizes.now a.kinds.now a.sizes.now c.in_default.in_default-own.keys2;
-    }
+pub returns-in_err-size : goal.returns-in_err-size
+returns-in_err-size c =
+    rw (handed c.from_residual.result c.from_residual.ensures.1) (record {
+      result_value = rw c.in_err-size.was at c.register_size.ensures;
+      register_set = tt;
+    })
 
 pub overflow_cast-size : goal.overflow_cast-size
 overflow_cast-size c =
     let a = c.args in
     let program = a.program.now in
     let content = slice (a.at + 3) a.next program in
-    let n = c.in-Upto.size in
-    let f = size_fits_lem c.register_size-r.result n a.at a.count a.total a.most content c.in-Upto.is c.register_size-r.ensures in
+    let n = c.in_ok-size.size in
+    let f = size_fits_lem c.register_size.result n a.at a.count a.total a.most content c.in_ok-size.was c.register_size.ensures in
     let room = f.room in
     let fits = f.fits in
     let before = c.requires.in_use in
@@ -44,8 +43,8 @@ set_constant-requires c =
     let a = c.args in
     let program = a.program.now in
     let content = slice (a.at + 3) a.next program in
-    let n = c.in-Upto.size in
-    let f = size_fits_lem c.register_size-r.result n a.at a.count a.total a.most content c.in-Upto.is c.register_size-r.ensures in
+    let n = c.in_ok-size.size in
+    let f = size_fits_lem c.register_size.result n a.at a.count a.total a.most content c.in_ok-size.was c.register_size.ensures in
     let room = f.room in
     let fits = f.fits in
     let before = c.requires.in_use in
@@ -67,8 +66,8 @@ size_row-own-requires c =
     let a = c.args in
     let program = a.program.now in
     let content = slice (a.at + 3) a.next program in
-    let n = c.in-Upto.size in
-    let f = size_fits_lem c.register_size-r.result n a.at a.count a.total a.most content c.in-Upto.is c.register_size-r.ensures in
+    let n = c.in_ok-size.size in
+    let f = size_fits_lem c.register_size.result n a.at a.count a.total a.most content c.in_ok-size.was c.register_size.ensures in
     let room = f.room in
     let fits = f.fits in
     let before = c.requires.in_use in
@@ -83,8 +82,8 @@ row_number-requires c =
     let a = c.args in
     let program = a.program.now in
     let content = slice (a.at + 3) a.next program in
-    let n = c.in-Upto.size in
-    let f = size_fits_lem c.register_size-r.result n a.at a.count a.total a.most content c.in-Upto.is c.register_size-r.ensures in
+    let n = c.in_ok-size.size in
+    let f = size_fits_lem c.register_size.result n a.at a.count a.total a.most content c.in_ok-size.was c.register_size.ensures in
     let room = f.room in
     let fits = f.fits in
     let before = c.requires.in_use in
@@ -96,8 +95,8 @@ offset_bounds-kinds-count c =
     let a = c.args in
     let program = a.program.now in
     let content = slice (a.at + 3) a.next program in
-    let n = c.in-Upto.size in
-    let f = size_fits_lem c.register_size-r.result n a.at a.count a.total a.most content c.in-Upto.is c.register_size-r.ensures in
+    let n = c.in_ok-size.size in
+    let f = size_fits_lem c.register_size.result n a.at a.count a.total a.most content c.in_ok-size.was c.register_size.ensures in
     let room = f.room in
     let fits = f.fits in
     let before = c.requires.in_use in
@@ -109,8 +108,8 @@ bounds-kinds-count c =
     let a = c.args in
     let program = a.program.now in
     let content = slice (a.at + 3) a.next program in
-    let n = c.in-Upto.size in
-    let f = size_fits_lem c.register_size-r.result n a.at a.count a.total a.most content c.in-Upto.is c.register_size-r.ensures in
+    let n = c.in_ok-size.size in
+    let f = size_fits_lem c.register_size.result n a.at a.count a.total a.most content c.in_ok-size.was c.register_size.ensures in
     let room = f.room in
     let fits = f.fits in
     let before = c.requires.in_use in
@@ -122,8 +121,8 @@ offset_bounds-sizes-own c =
     let a = c.args in
     let program = a.program.now in
     let content = slice (a.at + 3) a.next program in
-    let n = c.in-Upto.size in
-    let f = size_fits_lem c.register_size-r.result n a.at a.count a.total a.most content c.in-Upto.is c.register_size-r.ensures in
+    let n = c.in_ok-size.size in
+    let f = size_fits_lem c.register_size.result n a.at a.count a.total a.most content c.in_ok-size.was c.register_size.ensures in
     let room = f.room in
     let fits = f.fits in
     let before = c.requires.in_use in
@@ -138,8 +137,8 @@ bounds-sizes-own c =
     let a = c.args in
     let program = a.program.now in
     let content = slice (a.at + 3) a.next program in
-    let n = c.in-Upto.size in
-    let f = size_fits_lem c.register_size-r.result n a.at a.count a.total a.most content c.in-Upto.is c.register_size-r.ensures in
+    let n = c.in_ok-size.size in
+    let f = size_fits_lem c.register_size.result n a.at a.count a.total a.most content c.in_ok-size.was c.register_size.ensures in
     let room = f.room in
     let fits = f.fits in
     let before = c.requires.in_use in
@@ -154,8 +153,8 @@ returns c =
     let a = c.args in
     let program = a.program.now in
     let content = slice (a.at + 3) a.next program in
-    let n = c.in-Upto.size in
-    let f = size_fits_lem c.register_size-r.result n a.at a.count a.total a.most content c.in-Upto.is c.register_size-r.ensures in
+    let n = c.in_ok-size.size in
+    let f = size_fits_lem c.register_size.result n a.at a.count a.total a.most content c.in_ok-size.was c.register_size.ensures in
     let room = f.room in
     let fits = f.fits in
     let before = c.requires.in_use in
@@ -171,11 +170,11 @@ returns c =
     let b = c.row_number.result in
     let names = number_size a.kind own b c.row_number.ensures in
     let d : (j : ℕ) → size_of_row (get_or kinds j 0) < own = (λ j. omega (arith, before.named j)) in
-    let two = size_two c.register_size-r.result n a.at a.count a.total a.most content c.in-Upto.is c.register_size-r.ensures in
+    let two = size_two c.register_size.result n a.at a.count a.total a.most content c.in_ok-size.was c.register_size.ensures in
     let five : a.at + 5 ≤ a.next = omega (arith, length-slice (a.at + 3) a.next program c.requires.at_bound.1) in
     let l = c.store.new.row in
     let value = ap as_form c.store.ensures.row_after ∙ c.set_constant.ensures.f_after ∙ ap constant_form (range_back (range_yes (pos n) (omega arith))) in record {
-      result_value = sym (ap checked_register c.in-Upto.is) ∙ c.register_size-r.ensures;
+      result_value = sym (ap checked_register c.in_ok-size.was) ∙ c.register_size.ensures;
       register_set = record {
         room = room;
         fits = fits;

@@ -5,4 +5,4 @@ use Rattle.check_declaration.proofs.row_number.Goals as goal
 
 pub overflow_add-result : goal.overflow_add-result
 overflow_add-result c =
-    omega (arith, c.requires, c.number.ensures, c.wider.ensures, number_few c.args.kind)
+    omega (arith, c.requires, number_few c.args.kind)

@@ -1,31 +1,18 @@
 -- `check_operand::answered` meets its contract. Assumes nothing.
-use mathlib.Core.Path.{refl, sym, ap}
+use borrow.Author.Rules.{rules}
 use Rattle.language.specs.Check.{by_showing}
 use Rattle.forms.specs.Flat.{shown_of}
-use Rattle.forms.specs.declared.Verdict.{Verdict}
 use Rattle.check_index.specs.Answers.{checked_part}
 use Rattle.check_operand.proofs.answered.Goals as goal
 
-pub returns-in-Shown : goal.returns-in-Shown
+pub returns-in-Ok-clause-result_value : goal.returns-in-Ok-clause-result_value
 unfolding checked_part by_showing shown_of
-returns-in-Shown c =
-    record {
-      result_value = sym (ap (λ (v : Verdict). by_showing c.args.at (shown_of v)) c.in-Shown.is);
-      ends_at = refl;
-    }
+returns-in-Ok-clause-result_value c = search rules
 
-pub returns-in-NotShown : goal.returns-in-NotShown
+pub returns-in-Err-NotShown-clause-result_value : goal.returns-in-Err-NotShown-clause-result_value
 unfolding checked_part by_showing shown_of
-returns-in-NotShown c =
-    record {
-      result_value = sym (ap (λ (v : Verdict). by_showing c.args.at (shown_of v)) c.in-NotShown.is);
-      ends_at = tt;
-    }
+returns-in-Err-NotShown-clause-result_value c = search rules
 
-pub returns-in-OutOfRange : goal.returns-in-OutOfRange
+pub returns-in-Err-OutOfRange-clause-result_value : goal.returns-in-Err-OutOfRange-clause-result_value
 unfolding checked_part by_showing shown_of
-returns-in-OutOfRange c =
-    record {
-      result_value = sym (ap (λ (v : Verdict). by_showing c.args.at (shown_of v)) c.in-OutOfRange.is);
-      ends_at = tt;
-    }
+returns-in-Err-OutOfRange-clause-result_value c = search rules

@@ -5,7 +5,6 @@ use Rattle.check_operand.specs.declared.Wanted.{Wanted}
 use Rattle.check_operand.specs.Tables.{kind_in}
 use Rattle.check_operand.specs.Operands.{wanted_of, checked_size}
 use Rattle.check_operand.proofs.OperandKinds.{element_wire, element_no_wire, element_bit, element_no_bit, element_register, element_family}
-use borrow.Enum.Refused.{opened}
 use Rattle.check_operand.proofs.element_kind.Goals as goal
 
 pub returns-in-Quantum : goal.returns-in-Quantum
@@ -22,7 +21,7 @@ unfolding checked_size
 returns-in_default c =
     let a = c.args in
     record {
-      f_value = λ f l known g. element_no_wire a.at f l known g a.kind (opened c.in_default.in_default-own.keys2) ∙ ap (λ (w : Wanted). element_size a.at (wanted_of known w l) (kind_in a.kind f g)) (sym c.in-Wire.is);
+      f_value = λ f l known g. element_no_wire a.at f l known g a.kind c.in_default.not-Quantum ∙ ap (λ (w : Wanted). element_size a.at (wanted_of known w l) (kind_in a.kind f g)) (sym c.in-Wire.is);
       ends_at = tt;
     }
 
@@ -40,7 +39,7 @@ unfolding checked_size
 returns-in_default-kind c =
     let a = c.args in
     record {
-      f_value = λ f l known g. element_no_bit a.at f l known g a.kind (opened c.in_default-kind.in_default-kind-own.keys2) ∙ ap (λ (w : Wanted). element_size a.at (wanted_of known w l) (kind_in a.kind f g)) (sym c.in-Bit.is);
+      f_value = λ f l known g. element_no_bit a.at f l known g a.kind c.in_default-kind.not-Classical ∙ ap (λ (w : Wanted). element_size a.at (wanted_of known w l) (kind_in a.kind f g)) (sym c.in-Bit.is);
       ends_at = tt;
     }
 

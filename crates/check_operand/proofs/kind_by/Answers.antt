@@ -5,4 +5,4 @@ use Rattle.check_operand.proofs.kind_by.Goals as goal
 pub returns : goal.returns
 unfolding kind_of_row
 returns c =
-    c.with_number.ensures
+    c.from.ensures

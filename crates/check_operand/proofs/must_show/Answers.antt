@@ -7,6 +7,6 @@ pub returns : goal.returns
 unfolding must_show
 returns c =
     record {
-      result_value = λ fs ks. c.answered.ensures.result_value ∙ ap (by_showing c.args.at) c.show-v.ensures;
+      result_value = λ fs ks. c.answered.ensures.result_value ∙ ap (by_showing c.args.at) c.show.ensures;
       ends_at = c.answered.ensures.ends_at;
     }

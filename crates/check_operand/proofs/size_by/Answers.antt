@@ -5,4 +5,4 @@ use Rattle.check_operand.proofs.size_by.Goals as goal
 pub returns : goal.returns
 unfolding size_of_row
 returns c =
-    c.long.ensures.0
+    c.from.ensures

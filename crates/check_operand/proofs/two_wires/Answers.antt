@@ -7,7 +7,6 @@ two_operands-requires c =
     record {
       next_in_bounds = c.requires.next_in_bounds;
       answerable = (λ l. tt, λ o. tt);
-      tables_right = c.requires.tables_right;
     }
 
 pub returns : goal.returns

@@ -6,7 +6,7 @@ use native.Mathlib.Omega.{arith}
 use lib.ListN.{take}
 use Rattle.text_bytes.specs.Decimal.{ascii}
 use Rattle.list_text.specs.Lines.{condition_text, number_text}
-use Rattle.list_text.proofs.Texts.{then, condition_is}
+use Rattle.list_text.proofs.Texts.{word_put, then, condition_is}
 use Rattle.list_text.proofs.condition.Goals as goal
 
 pub returns-then-kind-eq0 : goal.returns-then-kind-eq0
@@ -21,6 +21,6 @@ returns-then-kind-eq0 c =
 pub returns : goal.returns
 unfolding ascii
 returns c =
-    then _ _ c.paired-at.ensures c.put.ensures
-    (ap (λ (k : ℕ). ascii "if" ++ number_text c.args.bit ++ number_text (k - 1) ++ ascii " ") c.wide.ensures ∙ condition_is c.args.kind c.args.bit c.if-kind-eq0.false)
+    then _ _ c.paired-at.ensures (word_put c.put.ensures (omega arith))
+    (ap (λ (k : ℕ). ascii "if" ++ number_text c.args.bit ++ number_text (k - 1) ++ ascii " ") c.from.ensures ∙ condition_is c.args.kind c.args.bit c.if-kind-eq0.false)
     (omega arith)

@@ -62,4 +62,4 @@ pub returns-in_default : goal.returns-in_default
 unfolding ascii
 returns-in_default c =
     let r = c.in_default.in_default-own.rest in
-    wider _ _ c.named-in_default.ensures (ap (λ (k : ℕ). ascii "op" ++ number_text k) c.wide.ensures ∙ gate_other c.args.op c.args.first c.args.second c.args.k r.0.0.0.0.0.0.0.0.0.1 r.0.0.0.0.0.0.0.0.1 r.0.0.0.0.0.0.0.1 r.0.0.0.0.0.0.1 r.0.0.0.0.0.1 r.0.0.0.0.1 r.0.0.0.1 r.0.0.1 r.0.1 r.1) (omega arith)
+    wider _ _ c.named-in_default.ensures (ap (λ (k : ℕ). ascii "op" ++ number_text k) c.from.ensures ∙ gate_other c.args.op c.args.first c.args.second c.args.k r.0.0.0.0.0.0.0.0.0.1 r.0.0.0.0.0.0.0.0.1 r.0.0.0.0.0.0.0.1 r.0.0.0.0.0.0.1 r.0.0.0.0.0.1 r.0.0.0.0.1 r.0.0.0.1 r.0.0.1 r.0.1 r.1) (omega arith)

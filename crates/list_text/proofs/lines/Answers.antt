@@ -17,30 +17,6 @@ unfolding lines_text
 loop-next-init c =
     (omega arith, omega arith, sym (ap (lines_text c.args.records.now c.args.first) (sub_self c.args.first)), omega arith, refl, omega arith)
 
-pub overflow_sub-text : goal.overflow_sub-text
-overflow_sub-text c =
-    omega arith
-
-pub overflow_mul-from : goal.overflow_mul-from
-overflow_mul-from c =
-    omega arith
-
-pub overflow_add-to : goal.overflow_add-to
-overflow_add-to c =
-    omega arith
-
-pub slice_bounds-line-count : goal.slice_bounds-line-count
-slice_bounds-line-count c =
-    omega arith
-
-pub slice_bounds-line-start : goal.slice_bounds-line-start
-slice_bounds-line-start c =
-    omega arith
-
-pub slice_bounds-line-end : goal.slice_bounds-line-end
-slice_bounds-line-end c =
-    omega arith
-
 pub line-size-requires : goal.line-size-requires
 line-size-requires c =
     let h : 128 ≤ length c.loop-next.text - c.loop-next.size = leb-true _ _ c.if-text-size-ge-LINE.true-raw in
@@ -48,14 +24,6 @@ line-size-requires c =
       record_size_in_bounds = simp (length-take, length-drop) (omega arith);
       from_in_bounds = omega arith;
     }
-
-pub overflow_add-next : goal.overflow_add-next
-overflow_add-next c =
-    omega arith
-
-pub loop-next-smaller : goal.loop-next-smaller
-loop-next-smaller c =
-    omega arith
 
 pub loop-next-preserved : goal.loop-next-preserved
 loop-next-preserved c =
@@ -71,26 +39,9 @@ loop-next-preserved c =
     ∙ sym (lines_more c.args.records.now c.args.first c.loop-next.next c.loop-next.invariant.0) in
     (omega arith, omega arith, t, omega arith, k ∙ s, omega arith)
 
-pub shape_of-text-else-text-size-ge-LINE : goal.shape_of-text-else-text-size-ge-LINE
-shape_of-text-else-text-size-ge-LINE c =
-    c.loop-next.invariant.4
-
 pub returns-else-text-size-ge-LINE : goal.returns-else-text-size-ge-LINE
 returns-else-text-size-ge-LINE c =
     let h : length c.loop-next.text - c.loop-next.size < 128 = leb-false _ _ c.if-text-size-ge-LINE.false-raw in
-    record {
-      text = c.loop-next.invariant.2;
-      room = prefix_len_of_le c.loop-next.size c.loop-next.text c.loop-next.invariant.3;
-      more = omega arith;
-      within = omega arith;
-    }
-
-pub shape_of-text-after-loop-next : goal.shape_of-text-after-loop-next
-shape_of-text-after-loop-next c =
-    c.loop-next.invariant.4
-
-pub returns-after-loop-next : goal.returns-after-loop-next
-returns-after-loop-next c =
     record {
       text = c.loop-next.invariant.2;
       room = prefix_len_of_le c.loop-next.size c.loop-next.text c.loop-next.invariant.3;

@@ -1,18 +1,19 @@
 -- `request` meets its contract, for no word, `--help`, a bad family, bad sizes, and a family at its sizes. Assumes nothing.
 use mathlib.Core.Path.{refl, sym, ap, subst, ◌∙◌}
-use mathlib.Core.Option.{none, some}
+use Rattle.std.specs.Prelude.{Some, None}
+use borrow.Author.Tests.{eqb-true}
 use native.Mathlib.Omega.{arith}
 use lib.ListN.{length-take, take}
 use Rattle.list_words.specs.Words.{family_at}
-use Rattle.list_words.specs.Jobs.{said_by, sizes_meant, SizesHeld, meant, job_meant}
+use Rattle.list_words.specs.Jobs.{sizes_meant, SizesHeld, meant, job_meant}
 use Rattle.list_words.proofs.WordLaws.{nothing_asked, help_asked, family_asked, not_same}
 use Rattle.list_words.proofs.request.Goals as goal
 
-pub returns-then-text-eq0 : goal.returns-then-text-eq0
+pub returns-then-is_empty : goal.returns-then-is_empty
 unfolding meant job_meant
-returns-then-text-eq0 c =
+returns-then-is_empty c =
     record {
-      sizes_after = nothing_asked c.args.text.now (omega arith);
+      sizes_after = nothing_asked c.args.text.now (eqb-true _ _ (sym c.if-is_empty.ensures));
       held = tt;
     }
 
@@ -32,31 +33,31 @@ pub slice_bounds-number_in-end : goal.slice_bounds-number_in-end
 slice_bounds-number_in-end c =
     simp length-take (omega (arith, c.word_at-first.ensures.past, c.word_at-first.ensures.high))
 
-pub returns-in_default : goal.returns-in_default
-unfolding meant job_meant family_at said_by
-returns-in_default c =
-    record {
-      sizes_after = family_asked c.args.text.now c.word_at-first.result c.word_at-first.ensures (not_same c.same.ensures.1 c.if-same.false) none _
-          (ap said_by (sym c.in_default.is) ∙ c.number_in.ensures) refl;
+pub returns-in_err-family : goal.returns-in_err-family
+unfolding meant family_at
+returns-in_err-family c =
+    rw c.from_residual.ensures (record {
+      sizes_after = family_asked c.args.text.now c.word_at-first.result c.word_at-first.ensures (not_same c.same.ensures.1 c.if-same.false) None _
+          (sym c.in_err-family.was ∙ c.number_in.ensures) refl;
       held = tt;
-    }
+    })
 
-pub returns-in_default-sizes_in : goal.returns-in_default-sizes_in
-unfolding meant job_meant family_at said_by sizes_meant
-returns-in_default-sizes_in c =
-    record {
-      sizes_after = family_asked c.args.text.now c.word_at-first.result c.word_at-first.ensures (not_same c.same.ensures.1 c.if-same.false) (some c.in-Number.family) none
-          (ap said_by (sym c.in-Number.is) ∙ c.number_in.ensures)
-          (ap (λ r. sizes_meant r c.sizes_in.new.sizes) (sym c.in_default-sizes_in.is) ∙ c.sizes_in.ensures.sizes_after);
+pub returns-in_err-size : goal.returns-in_err-size
+unfolding meant family_at sizes_meant
+returns-in_err-size c =
+    rw c.from_residual-in_err-size.ensures (record {
+      sizes_after = family_asked c.args.text.now c.word_at-first.result c.word_at-first.ensures (not_same c.same.ensures.1 c.if-same.false) (Some c.in_ok-family.family) None
+          (sym c.in_ok-family.was ∙ c.number_in.ensures)
+          (ap (λ r. sizes_meant r c.sizes_in.new.sizes) (sym c.in_err-size.was) ∙ c.sizes_in.ensures.sizes_after);
       held = tt;
-    }
+    })
 
 pub returns : goal.returns
-unfolding meant job_meant family_at said_by sizes_meant
+unfolding meant job_meant family_at sizes_meant
 returns c =
     record {
-      sizes_after = family_asked c.args.text.now c.word_at-first.result c.word_at-first.ensures (not_same c.same.ensures.1 c.if-same.false) (some c.in-Number.family) (some (take c.in-Bytes.size c.sizes_in.new.sizes))
-          (ap said_by (sym c.in-Number.is) ∙ c.number_in.ensures)
-          (ap (λ r. sizes_meant r c.sizes_in.new.sizes) (sym c.in-Bytes.is) ∙ c.sizes_in.ensures.sizes_after);
-      held = subst (λ r. SizesHeld r c.sizes_in.new.sizes) c.in-Bytes.is c.sizes_in.ensures.sizes_held;
+      sizes_after = family_asked c.args.text.now c.word_at-first.result c.word_at-first.ensures (not_same c.same.ensures.1 c.if-same.false) (Some c.in_ok-family.family) (Some (take c.in_ok-size.size c.sizes_in.new.sizes))
+          (sym c.in_ok-family.was ∙ c.number_in.ensures)
+          (ap (λ r. sizes_meant r c.sizes_in.new.sizes) (sym c.in_ok-size.was) ∙ c.sizes_in.ensures.sizes_after);
+      held = subst (λ r. SizesHeld r c.sizes_in.new.sizes) c.in_ok-size.was c.sizes_in.ensures.sizes_held;
     }

@@ -1,8 +1,8 @@
 -- `sizes_in` meets its contract. The loop's invariant: the words so far say so many sizes, which are in the first bytes. Assumes nothing.
-use mathlib.Core.Path.{refl, sym, ap, ◌∙◌}
+use mathlib.Core.Path.{refl, sym, ◌∙◌}
 use native.Mathlib.Omega.{arith}
 use lib.ListN.{length-take}
-use Rattle.list_words.specs.Jobs.{said_by, sizes_meant}
+use Rattle.list_words.specs.Jobs.{sizes_meant}
 use Rattle.list_words.proofs.WordLaws.{sizing_start, too_many_lem, sizing_done, no_number, sizing_next}
 use Rattle.list_words.proofs.sizes_in.Goals as goal
 
@@ -22,18 +22,14 @@ returns-then-many-eq-MOST_SIZES c =
       sizes_held = tt;
     }
 
-pub shape_of-sizes-in_default : goal.shape_of-sizes-in_default
-shape_of-sizes-in_default c =
-    c.loop-at.invariant.1
-
-pub returns-in_default : goal.returns-in_default
-unfolding sizes_meant said_by
-returns-in_default c =
-    record {
+pub returns-in_err-n : goal.returns-in_err-n
+unfolding sizes_meant
+returns-in_err-n c =
+    rw c.from_residual.ensures (record {
       sizes_after = no_number c.args.text.now c.args.from c.loop-at.sizes c.loop-at.at c.loop-at.many c.loop-at.invariant.0 c.word_at-word.result c.word_at-word.ensures c.if-many-eq-MOST_SIZES.false
-          (ap said_by (sym c.in_default.is) ∙ c.number_in.ensures);
+          (sym c.in_err-n.was ∙ c.number_in.ensures);
       sizes_held = tt;
-    }
+    })
 
 pub overflow_mul-many : goal.overflow_mul-many
 overflow_mul-many c =
@@ -52,15 +48,14 @@ loop-at-smaller c =
     omega (arith, c.loop-at.invariant.0.few, c.loop-at.invariant.0.room, c.word_at-word.ensures.more, c.word_at-word.ensures.high)
 
 pub loop-at-preserved : goal.loop-at-preserved
-unfolding said_by
 loop-at-preserved c = (
   sizing_next c.args.text.now c.args.from c.loop-at.sizes c.loop-at.at c.loop-at.many c.loop-at.invariant.0 c.word_at-word.result c.word_at-word.ensures c.if-many-eq-MOST_SIZES.false
-      c.in-Number.n c.put_size.new.sizes (ap said_by (sym c.in-Number.is) ∙ c.number_in.ensures) c.put_size.auto.sizes c.put_size.ensures,
+      c.in_ok-n.n c.put_size.new.sizes (sym c.in_ok-n.was ∙ c.number_in.ensures) c.put_size.auto.sizes c.put_size.ensures,
   c.put_size.auto.sizes ∙ c.loop-at.invariant.1,
 )
 
-pub overflow_mul-size : goal.overflow_mul-size
-overflow_mul-size c =
+pub overflow_mul-result : goal.overflow_mul-result
+overflow_mul-result c =
     omega (arith, c.loop-at.invariant.0.few)
 
 pub shape_of-sizes : goal.shape_of-sizes

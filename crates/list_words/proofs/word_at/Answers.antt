@@ -1,32 +1,21 @@
--- `word_at` meets its contract. The loop's invariant: the bytes up to i belong to the word. Assumes nothing.
-use native.Mathlib.Omega.{arith}
-use Rattle.list_words.proofs.WordLaws.{passing_start, passing_next, word_ends, text_ends}
+-- `word_at` meets its contract: the place of the first 0. Assumes nothing.
+use Rattle.std.proofs.Common.{rules, tests, ◌==◌, ℕ, drop, sym}
+use mathlib.Core.Path.{◌∙◌}
+use Rattle.std.proofs.lemmas.Iterator.{YieldsList-from_slice}
+use Rattle.std.proofs.lemmas.Iterator.Search.{position_from_yields_List}
+use Rattle.list_words.proofs.WordLaws.{rest_is, word_found, word_last}
 use Rattle.list_words.proofs.word_at.Goals as goal
 
-pub loop-i-init : goal.loop-i-init
-loop-i-init c =
-    passing_start c.args.text.now c.args.from (omega arith)
+pub returns-in-Some : goal.returns-in-Some
+returns-in-Some c =
+    let text = c.args.text.now in
+    let from = c.args.from in
+    let e = position_from_yields_List (λ (b : ℕ). b == 0) _ _ c.position.result c.position.ensures.ran (YieldsList-from_slice (drop from text) (c.iter.ensures.rest ∙ rest_is text from)) (λ x b q k. search (rules, tests)) in
+    word_found text from c.requires c.in-Some.size (sym e ∙ c.in-Some.is)
 
-pub overflow_add-next : goal.overflow_add-next
-overflow_add-next c =
-    omega arith
-
-pub bounds-text-i : goal.bounds-text-i
-bounds-text-i c =
-    omega arith
-
-pub returns-then-text-i-eq0 : goal.returns-then-text-i-eq0
-returns-then-text-i-eq0 c =
-    word_ends c.args.text.now c.args.from c.loop-i.i c.loop-i.invariant (omega arith) (omega arith)
-
-pub loop-i-smaller : goal.loop-i-smaller
-loop-i-smaller c =
-    omega arith
-
-pub loop-i-preserved : goal.loop-i-preserved
-loop-i-preserved c =
-    passing_next c.args.text.now c.args.from c.loop-i.i c.loop-i.invariant (omega arith) (omega arith)
-
-pub returns : goal.returns
-returns c =
-    text_ends c.args.text.now c.args.from c.loop-i.i (omega arith) c.loop-i.invariant (omega arith)
+pub returns-in-None : goal.returns-in-None
+returns-in-None c =
+    let text = c.args.text.now in
+    let from = c.args.from in
+    let e = position_from_yields_List (λ (b : ℕ). b == 0) _ _ c.position.result c.position.ensures.ran (YieldsList-from_slice (drop from text) (c.iter.ensures.rest ∙ rest_is text from)) (λ x b q k. search (rules, tests)) in
+    word_last text from c.requires (sym e ∙ c.in-None.is)

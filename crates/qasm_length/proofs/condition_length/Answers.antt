@@ -16,5 +16,5 @@ returns-then-kind-eq0 c =
 pub returns : goal.returns
 returns c =
     let a = c.args in
-    let e = ap (λ (k : ℕ). width (k - 1)) c.wider-value.ensures in
+    let e = ap (λ (k : ℕ). width (k - 1)) c.from-value.ensures in
     record { same = omega (arith, some_condition a.kind a.bit c.if-kind-eq0.false); bound = omega arith }

@@ -1,5 +1,5 @@
 -- `qasm_length::lines_length` meets its contract. The loop's invariant: the total is the length of the lines of the first `i` records, and it fits. Assumes nothing.
-use Prim.Native.Nat.{◌-◌, ◌≤◌}
+use Prim.Native.Nat.{◌≤◌}
 use mathlib.Core.Path.{◌≡◌}
 use lib.ListN.{length}
 use Rattle.qasm_text.specs.Text.{lines}
@@ -8,8 +8,4 @@ use Rattle.qasm_length.proofs.lines_length.Given as goal
 
 abbrev pub invariant-loop-i : goal.invariant-loop-i
 invariant-loop-i l =
-    (l.i ≤ l.records) × (l.total ≡ length (lines (records_from l.i l.output))) × (l.total ≤ l.room)
-
-abbrev pub decreases-loop-i : goal.decreases-loop-i
-decreases-loop-i l =
-    l.records - l.i
+    (l.total ≡ length (lines (records_from l.i l.output))) × (l.total ≤ l.room)

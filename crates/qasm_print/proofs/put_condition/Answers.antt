@@ -34,15 +34,15 @@ pub put_number-end-requires : goal.put_number-end-requires
 unfolding condition_text ascii
 put_number-end-requires c =
     let r = rw (condition_some c.args.kind c.args.bit c.if-kind-eq0.false) at c.requires in
-    rw c.wider-value.ensures (room_next (room_first (ascii ") ") r) (puts_both (puts_both c.put-word.ensures c.put_bit-name.ensures) c.put-equals.ensures))
+    rw c.from-value.ensures (room_next (room_first (ascii ") ") r) (puts_both (puts_both c.put-word.ensures c.put_bit-name.ensures) c.put-equals.ensures))
 
 pub put-requires : goal.put-requires
 unfolding condition_text ascii
 put-requires c =
     let r = rw (condition_some c.args.kind c.args.bit c.if-kind-eq0.false) at c.requires in
-    room_next r (puts_both (puts_both (puts_both c.put-word.ensures c.put_bit-name.ensures) c.put-equals.ensures) (rw c.wider-value.ensures at c.put_number-end.ensures))
+    room_next r (puts_both (puts_both (puts_both c.put-word.ensures c.put_bit-name.ensures) c.put-equals.ensures) (rw c.from-value.ensures at c.put_number-end.ensures))
 
 pub returns : goal.returns
 unfolding condition_text ascii
 returns c =
-    rw (condition_some c.args.kind c.args.bit c.if-kind-eq0.false) (puts_both (puts_both (puts_both (puts_both c.put-word.ensures c.put_bit-name.ensures) c.put-equals.ensures) (rw c.wider-value.ensures at c.put_number-end.ensures)) c.put.ensures)
+    rw (condition_some c.args.kind c.args.bit c.if-kind-eq0.false) (puts_both (puts_both (puts_both (puts_both c.put-word.ensures c.put_bit-name.ensures) c.put-equals.ensures) (rw c.from-value.ensures at c.put_number-end.ensures)) c.put.ensures)

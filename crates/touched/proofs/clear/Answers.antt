@@ -1,37 +1,15 @@
--- `touched::clear` meets its contract. The loop's invariant: the first `i` bytes are 0, and the others are as they were. Assumes nothing.
-use mathlib.Core.Path.{◌≡◌, refl, ap, ◌∙◌}
-use mathlib.Core.List.{◌++◌}
+-- `touched::clear` meets its contract. Assumes nothing.
+use mathlib.Core.Path.{◌≡◌, ap, ◌∙◌}
+use mathlib.Core.List.{List, ◌++◌}
+use Prim.Native.Nat.{ℕ}
 use native.Mathlib.Omega.{arith}
-use lib.ListN.{length, drop, replicate, set}
+use lib.ListN.{length, take, drop, replicate, length-take}
 use Rattle.wire_map.specs.WireMap.{map_size}
-use Rattle.wire_map.proofs.Marking.{clear_next, clear_length, clear_whole}
+use Rattle.wire_map.proofs.Marking.{clear_whole}
 use Rattle.touched.proofs.clear.Goals as goal
-
-pub loop-i-init : goal.loop-i-init
-loop-i-init c =
-    (omega arith, refl)
-
-pub bounds-map-i : goal.bounds-map-i
-bounds-map-i c =
-    omega (arith, ap length c.loop-i.invariant.1, clear_length c.args.map.now c.loop-i.i (omega arith))
-
-pub overflow_add-i : goal.overflow_add-i
-overflow_add-i c =
-    omega arith
-
-pub loop-i-smaller : goal.loop-i-smaller
-loop-i-smaller c =
-    omega arith
-
-pub loop-i-preserved : goal.loop-i-preserved
-loop-i-preserved c =
-    (omega arith, ap (λ l. set l c.loop-i.i 0) c.loop-i.invariant.1 ∙ clear_next c.args.map.now c.loop-i.i (omega arith))
-
-pub shape_of-map : goal.shape_of-map
-shape_of-map c =
-    ap length c.loop-i.invariant.1 ∙ clear_length c.args.map.now c.loop-i.i (omega arith)
 
 pub returns : goal.returns
 returns c =
-    let e : c.loop-i.i ≡ map_size = omega arith in
-    c.loop-i.invariant.1 ∙ ap (λ n. replicate n 0 ++ drop n c.args.map.now) e ∙ clear_whole c.args.map.now
+    let m = c.args.map.now in
+    let n : length (take map_size m) ≡ map_size = length-take map_size m ∙ omega arith in
+    ap (λ (l : List ℕ). l ++ drop map_size m) (c.fill.ensures.after (λ y e. e) ∙ ap (λ (k : ℕ). replicate k 0) n) ∙ clear_whole m

@@ -1,38 +1,22 @@
--- `touched::count_wires` meets its contract. The loop's invariant: the total is the count of ones over the first `i` bytes. Assumes nothing.
-use mathlib.Core.Path.{◌≡◌, refl, ap, ◌∙◌}
-use native.Mathlib.Omega.{arith}
-use lib.Count.{ones-le}
-use lib.ListN.{get_or, take}
-use Rattle.wire_map.specs.WireMap.{map_size, ones_over}
-use Rattle.wire_map.proofs.Marking.{ones_more}
+-- `touched::count_wires` meets its contract: each byte has at most 8 ones, so that their sum fits. Assumes nothing.
+use Rattle.std.proofs.Common.{rules, tests, ◌≤◌, arith, length, take, length-take}
+use mathlib.Core.Path.{◌∙◌}
+use lib.Count.{ones}
+use Rattle.std.proofs.lemmas.Iterator.{YieldsList-from_slice, YieldsList-from_map}
+use Rattle.std.proofs.lemmas.Iterator.Consumers.{YieldsList-at, sum_by_from_yields_List}
+use Rattle.std.proofs.lemmas.Iterator.Adapters.{fits_from_length, at_most_from_yields_List}
+use Rattle.wire_map.specs.WireMap.{map_size}
+use Rattle.touched.proofs.Named.{ones_summed}
 use Rattle.touched.proofs.count_wires.Goals as goal
 
-pub loop-i-init : goal.loop-i-init
-unfolding ones_over
-loop-i-init c =
-    (omega arith, refl, omega arith)
-
-pub bounds-map-i : goal.bounds-map-i
-bounds-map-i c =
-    omega arith
-
-pub overflow_add-total : goal.overflow_add-total
-overflow_add-total c =
-    omega (arith, ones-le 8 (get_or c.args.map.now c.loop-i.i 0) (omega (arith, c.shared_slice_known-1.given c.loop-i.i)))
-
-pub overflow_add-i : goal.overflow_add-i
-overflow_add-i c =
-    omega arith
-
-pub loop-i-smaller : goal.loop-i-smaller
-loop-i-smaller c =
-    omega arith
-
-pub loop-i-preserved : goal.loop-i-preserved
-loop-i-preserved c =
-    (omega arith, omega (arith, ones_more c.args.map.now c.loop-i.i (omega arith)), omega (arith, ones-le 8 (get_or c.args.map.now c.loop-i.i 0) (omega (arith, c.shared_slice_known-1.given c.loop-i.i))))
+pub sum-requires-clause-fits : goal.sum-requires-clause-fits
+sum-requires-clause-fits c =
+    let m = take map_size c.args.map.now in
+    let n : length m ≤ map_size = omega (arith, length-take map_size c.args.map.now) in
+    fits_from_length _ _ map_size _ (at_most_from_yields_List (YieldsList-at c.map.ensures.source (YieldsList-from_slice m c.iter.ensures.rest)) n) c.map.ensures.closure (omega arith) (λ x r q k. search (rules, tests))
 
 pub returns : goal.returns
 returns c =
-    let e : c.loop-i.i ≡ map_size = omega arith in
-    c.loop-i.invariant.1 ∙ ap (λ n. ones_over (take n c.args.map.now)) e
+    let m = take map_size c.args.map.now in
+    sum_by_from_yields_List ones m c.map.result _ c.sum.ensures.ran
+    (YieldsList-from_map _ ones (YieldsList-at c.map.ensures.source (YieldsList-from_slice m c.iter.ensures.rest)) c.map.ensures.closure (λ x r q k. search (rules, tests))) ∙ ones_summed m

@@ -1,5 +1,4 @@
 -- `touched::mark_records` meets its contract. The loop's invariant: the wires of the first `i` records are marked, and the bit of `last` is set. Assumes nothing.
-use Prim.Native.Nat.{◌-◌, ◌≤◌}
 use Rattle.written_records.specs.AnyBytes.{records_from}
 use Rattle.wire_map.specs.WireMap.{wires_named}
 use Rattle.wire_map.specs.Marking.{Marks, BitSet}
@@ -7,8 +6,4 @@ use Rattle.touched.proofs.mark_records.Given as goal
 
 abbrev pub invariant-loop-i : goal.invariant-loop-i
 invariant-loop-i l =
-    (l.i ≤ l.records) × Marks l.initial.map (wires_named (records_from l.i l.output)) l.map × BitSet l.last l.map
-
-abbrev pub decreases-loop-i : goal.decreases-loop-i
-decreases-loop-i l =
-    l.records - l.i
+    Marks l.initial.map (wires_named (records_from l.i l.output)) l.map × BitSet l.last l.map
