@@ -1,13 +1,12 @@
 -- `phases::act` meets its contract. Assumes nothing.
-use mathlib.Core.Path.{refl, ap, ◌∙◌}
+use mathlib.Core.Path.{refl}
 use Rattle.std.proofs.Common.{rules}
 use Rattle.std.specs.Prelude.{Ok, Err}
 use lib.ListN.{length, take}
 use lib.Seq.{slice}
-use Rattle.refusals.proofs.Handed.{handed}
 use Rattle.gates.specs.Gates.{frame_in}
 use Rattle.gates.proofs.GateRuns.{does_as, fault_ends}
-use Rattle.gates.proofs.Stops.{stopped, unstopped}
+use Rattle.gates.proofs.Stops.{stopped, unstopped, said}
 use Rattle.phases.specs.Phases.{action_at, Parted, PartsOf}
 use Rattle.phases.proofs.PhaseRuns.{parts_do}
 use Rattle.phases.proofs.act.Goals as goal
@@ -22,7 +21,7 @@ returns-in_err-parts c =
     let f = frame_in a.mode v a.scope a.regs.now in
     let k = stopped _ a.place a.st c.parts_of.result c.map_err.result _ (λ f z h. search rules) c.map_err.ensures.cases c.in_err-parts.was in
     let h : PartsOf a.tag l a.from a.to v a.mode.reversed (Err k.fault) = rw (c.from-many.ensures, k.was) at c.parts_of.ensures in
-    rw (handed c.from_residual.result c.from_residual.ensures.1 ∙ ap Err k.stops)
+    rw (said k c.from_residual.result c.from_residual.ensures.1)
     (does_as _ _ _ _ _ (action_at a.mode (length o) a.tag a.place (slice a.from a.to l) f) (h a.mode (length o) a.place f refl refl) (fault_ends o a.st k.fault a.place))
 
 pub returns : goal.returns
