@@ -6,3 +6,4 @@ pub mod Operands
 pub mod Slices
 pub mod Passed
 pub mod Wires
+pub mod Pairs

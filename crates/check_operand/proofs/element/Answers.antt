@@ -129,31 +129,6 @@ returns-in_err-element_kind c =
       leaves = λ fs. tt;
     })
 
-pub within-v-requires : goal.within-v-requires
-within-v-requires c =
-    let a = c.args in
-    let program = a.program.now in
-    let from = a.at + 3 in
-    let ls = loops_of a.scope.now.visible.loops a.scope.now.lows.now a.scope.now.highs.now in
-    let ks : Known → List C.Kind = λ fs. kinds_at fs.formals a.scope.now.visible.count a.scope.now.visible.first a.scope.now.kinds.now a.scope.now.sizes.now in
-    let d : Known → List ℤ → Due = λ fs z. wanted_of fs a.wanted z in
-    let n = get_or program from 0 in
-    let e = one_byte from a.next program c.if-next-from.false c.requires.at_bound.1 in
-    let v : c.from-n.result ≡ n = c.from-n.ensures in
-    let row = a.scope.now.visible.first + n in
-    let k : Known → C.Kind = λ fs. kind_at fs.formals row a.scope.now.kinds.now a.scope.now.sizes.now in
-    let l = c.index.new.f in
-    let i = due (read_index 16) (bad_index 4 a.at) (fields_at program (a.at + 4) a.next) in
-    let end = c.in_ok-end.end in
-    let u = form_passes_upto program (a.at + 4) a.next c.index.result l end c.in_ok-end.was c.index.ensures.form_passes in
-    let f = c.args.scope.now.right.few in
-    let g = c.args.scope.now.right.nested in
-    let b = c.args.scope.now.right.kind_rows in
-    record {
-      kept = u.1;
-      short = c.args.scope.now.right.size_rows.each c.size_by-own.result (omega (arith, c.size_by-own.ensures, c.args.scope.now.right.named (a.scope.now.visible.first + c.from-n.result)));
-    }
-
 pub returns : goal.returns
 returns c =
     let a = c.args in

@@ -13,14 +13,6 @@ use Rattle.check_operand.specs.Operands.{wanted_of}
 use Rattle.check_index.proofs.Answers.{part_goes, part_stops, passes_upto, left_some, left_none}
 use Rattle.check_operand.proofs.one_wire.Goals as goal
 
-pub operand-requires : goal.operand-requires
-operand-requires c =
-    record {
-      to_in_bounds = c.requires.next_in_bounds;
-      size_right = tt;
-      answerable = tt;
-    }
-
 pub returns-in_err-end : goal.returns-in_err-end
 unfolding wanted_of check_one_wire
 returns-in_err-end c =

@@ -87,21 +87,6 @@ returns-then-end-next c =
       ends_at = tt;
     }
 
-pub slice_fits-requires : goal.slice_fits-requires
-slice_fits-requires c =
-    let a = c.args in
-    let f = c.args.scope.now.right.few in
-    let g = c.args.scope.now.right.nested in
-    let l = c.two_indexes.new.low in
-    let h = c.two_indexes.new.high in
-    let u = bounds_upto a.program.now (a.at + 4) a.next c.two_indexes.result l h c.in_ok-end.end c.in_ok-end.was c.two_indexes.ensures.bounds_pass in
-    record {
-      size_right = c.requires.size_right;
-      short = c.args.scope.now.right.size_rows.each c.size_by-own.result (omega (arith, c.size_by-own.ensures, c.args.scope.now.right.named (a.scope.now.visible.first + c.from-n.result)));
-      kept = u.1;
-      kept_2 = u.2;
-    }
-
 pub returns : goal.returns
 returns c =
     let a = c.args in

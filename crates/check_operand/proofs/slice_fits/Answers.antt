@@ -62,12 +62,9 @@ returns-then-is_err c =
       ends_at = c.answered.ensures.ends_at;
     }
 
-pub large_enough-w-requires : goal.large_enough-w-requires
-large_enough-w-requires c =
-    record {
-      kept = rw c.in-Register.is at c.requires.size_right;
-      kept_2 = c.slice_within-v.ensures.kept_3 (ok_shown c.slice_within-v.result (sym c.is_err.ensures.value ∙ c.if-is_err.false));
-    }
+pub large_enough-w-requires-clause-kept_2 : goal.large_enough-w-requires-clause-kept_2
+large_enough-w-requires-clause-kept_2 c =
+    c.slice_within-v.ensures.kept_3 (ok_shown c.slice_within-v.result (sym c.is_err.ensures.value ∙ c.if-is_err.false))
 
 pub returns : goal.returns
 unfolding must_show shown_form

@@ -68,15 +68,6 @@ returns-then-next-from-ne1 c =
       ends_at = tt;
     }
 
-pub whole_fits-requires : goal.whole_fits-requires
-whole_fits-requires c =
-    let f = c.args.scope.now.right.few in
-    let g = c.args.scope.now.right.nested in
-    record {
-      size_right = c.requires.size_right;
-      short = c.args.scope.now.right.size_rows.each c.size_by-own.result (omega (arith, c.size_by-own.ensures, c.args.scope.now.right.named (c.args.scope.now.visible.first + c.from-n.result)));
-    }
-
 pub returns : goal.returns
 returns c =
     let a = c.args in

@@ -13,13 +13,6 @@ use Rattle.check_operand.specs.Operands.{wanted_of}
 use Rattle.check_operand.proofs.OperandKinds.{wire_good, wire_bad, bit_bad, register_good, register_bad, family_bad}
 use Rattle.check_operand.proofs.whole_fits.Goals as goal
 
-pub large_enough-v-requires : goal.large_enough-v-requires
-large_enough-v-requires c =
-    record {
-      kept = rw c.in-Register.is at c.requires.size_right;
-      kept_2 = c.load.ensures.kept;
-    }
-
 pub returns-in-Qubit : goal.returns-in-Qubit
 unfolding checked_part
 returns-in-Qubit c =
