@@ -7,3 +7,4 @@ pub mod Slices
 pub mod Passed
 pub mod Wires
 pub mod Pairs
+pub mod Rows

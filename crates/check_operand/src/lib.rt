@@ -12,7 +12,7 @@ ghost use Rattle.fields.specs.Header.{fields_at};
 ghost use Rattle.forms.specs.Flat.{form_numbers, Kept, Short, widened, as_form, built_of, shown_of};
 ghost use Rattle.forms.specs.Ranges.{all_loops};
 ghost use Rattle.check_operand.specs.Tables.{Known, kind_in, kind_of_row, size_of_row, scope_with};
-ghost use Rattle.check_operand.specs.Scopes.{scope_at};
+ghost use Rattle.check_operand.specs.Scopes.{scope_at, Names};
 ghost use Rattle.check_operand.specs.Operands.{checked_size, shown_form, wanted_of, SizeRight, Answerable, one_wire, two_operands, Leaves, Comparable, same_by};
 ghost use Rattle.check_index.specs.Answers.{checked_part, EndsAt, Passes};
 
@@ -199,6 +199,22 @@ fn element_kind(wanted: Wanted, kind: kinds::Kind, at: usize, next: usize) -> Re
     }
 }
 
+// The row of the operand that the field at `at`, which ends at `next`, names.
+fn row_at(program: &[u8], at: usize, next: usize, scope: &Scope) -> Result<usize, Refusal>
+    requires at_bound { (at + 3 ≤ next) × (next ≤ length program.now) }
+    ensures { Names scope.now program.now at next result }
+{
+    let from = at + 3;
+    if next <= from {
+        return Err(Refusal(Reason::BadContent, at));
+    }
+    let n = usize::from(program[from]);
+    if scope.visible.count <= n {
+        return Err(Refusal(Reason::NotInScope, at));
+    }
+    Ok(scope.visible.first + n)
+}
+
 // The whole operand at `at`, whose field ends at `next`.
 fn whole(
     program: &[u8],
@@ -213,18 +229,10 @@ fn whole(
     ensures result_value { (k : Known) → checked_part result ≡ check_operand (scope_at k scope.now) (wanted_of k wanted size.now) (read_whole at (slice (at + 3) next program.now)) }
     ensures ends_at { EndsAt next result }
 {
-    let from = at + 3;
-    if next <= from {
+    let row = row_at(program, at, next, scope)?;
+    if at + 4 < next {
         return Err(Refusal(Reason::BadContent, at));
     }
-    let n = usize::from(program[from]);
-    if scope.visible.count <= n {
-        return Err(Refusal(Reason::NotInScope, at));
-    }
-    if next - from != 1 {
-        return Err(Refusal(Reason::BadContent, at));
-    }
-    let row = scope.visible.first + n;
     let number = scope.kinds[row];
     let kind = kind_by(number);
     let own = size_by(number);
@@ -253,18 +261,9 @@ fn element(
     ensures ends_at { EndsAt next result }
     ensures leaves { (k : Known) → Leaves (scope_at k scope.now) (read_element at (slice (at + 3) next program.now)) result form.new }
 {
-    let from = at + 3;
-    if next <= from {
-        return Err(Refusal(Reason::BadContent, at));
-    }
-    let n = usize::from(program[from]);
-    if scope.visible.count <= n {
-        return Err(Refusal(Reason::NotInScope, at));
-    }
-    let row = scope.visible.first + n;
-    let inner = at + 4;
+    let row = row_at(program, at, next, scope)?;
     let variables = scope.visible.variables + scope.visible.loops;
-    let end = check_index::index(program, inner, next, at, DEEPEST, variables, form)?;
+    let end = check_index::index(program, at + 4, next, at, DEEPEST, variables, form)?;
     if end < next {
         return Err(Refusal(Reason::BadContent, at));
     }
@@ -323,20 +322,19 @@ fn part(
     ensures result_value { (k : Known) → checked_part result ≡ check_operand (scope_at k scope.now) (wanted_of k wanted size.now) (read_slice at (slice (at + 3) next program.now)) }
     ensures ends_at { EndsAt next result }
 {
-    let from = at + 3;
-    if next <= from {
-        return Err(Refusal(Reason::BadContent, at));
-    }
-    let n = usize::from(program[from]);
-    if scope.visible.count <= n {
-        return Err(Refusal(Reason::NotInScope, at));
-    }
-    let row = scope.visible.first + n;
-    let inner = at + 4;
+    let row = row_at(program, at, next, scope)?;
     let variables = scope.visible.variables + scope.visible.loops;
     let mut first = [0i64; FORM_NUMBERS];
     let mut last = [0i64; FORM_NUMBERS];
-    let end = check_index::two_indexes(program, inner, next, at, variables, &mut first, &mut last)?;
+    let end = check_index::two_indexes(
+        program,
+        at + 4,
+        next,
+        at,
+        variables,
+        &mut first,
+        &mut last,
+    )?;
     if end < next {
         return Err(Refusal(Reason::BadContent, at));
     }

@@ -68,7 +68,7 @@ same_wire-requires c =
     let t = c.operand-2 in
     let k = nothing_known in
     let both = pair_compare (scope_at k a.scope.now) (wanted_of k a.second (replicate 13 (pos 0))) a.program.now a.at a.from a.next r.result (r.ensures.result_value k) c.in_ok-mid.mid c.in_ok-mid.was r.ensures.passes
-          t.result (t.ensures.result_value k) c.in_ok-end.end c.in_ok-end.was t.ensures.passes c.if-end-next.false c.requires.next_in_bounds _ _ (r.ensures.leaves k) (t.ensures.leaves k) (second_wire k a.second _ c.in-Wire.is) in
+    t.result (t.ensures.result_value k) c.in_ok-end.end c.in_ok-end.was t.ensures.passes c.if-end-next.false c.requires.next_in_bounds _ _ (r.ensures.leaves k) (t.ensures.leaves k) (second_wire k a.second _ c.in-Wire.is) in
     record {
       comparable = both.0;
       comparable_2 = both.1;
