@@ -160,22 +160,15 @@ fn whole_fits(
     ensures result_value { (fs : List Signature) (ks : List Kind) (k : Known) (g : Formal) → checked_part result ≡ whole_fits at (scope_with fs ks ranges.now.variables (all_loops ranges.now)) (wanted_of k wanted size.now) (kind_in kind (as_form (widened own.now)) g) }
     ensures ends_at { EndsAt next result }
 {
-    match wanted {
-        Wanted::Wire => match kind {
-            kinds::Kind::Qubit => Ok(next),
-            _ => Err(Refusal(Reason::WrongKind, at)),
-        },
-        Wanted::Bit => Err(Refusal(Reason::WrongKind, at)),
-        Wanted::Register(known) => match kind {
-            kinds::Kind::Quantum => {
-                let mut room = [0i64; FORM_NUMBERS];
-                forms::load(&mut room, own);
-                let v = large_enough(known, size, &mut room, ranges);
-                answered(v, at, next)
-            }
-            _ => Err(Refusal(Reason::WrongKind, at)),
-        },
-        Wanted::Family(_) => Err(Refusal(Reason::WrongKind, at)),
+    match (wanted, kind) {
+        (Wanted::Wire, kinds::Kind::Qubit) => Ok(next),
+        (Wanted::Register(known), kinds::Kind::Quantum) => {
+            let mut room = [0i64; FORM_NUMBERS];
+            forms::load(&mut room, own);
+            let v = large_enough(known, size, &mut room, ranges);
+            answered(v, at, next)
+        }
+        _ => Err(Refusal(Reason::WrongKind, at)),
     }
 }
 
@@ -184,18 +177,9 @@ fn element_kind(wanted: Wanted, kind: kinds::Kind, at: usize, next: usize) -> Re
     ensures f_value { (f : Form) (l : List ℤ) (k : Known) (g : Formal) → checked_size result f ≡ element_size at (wanted_of k wanted l) (kind_in kind f g) }
     ensures ends_at { EndsAt next result }
 {
-    let wrong = Refusal(Reason::WrongKind, at);
-    match wanted {
-        Wanted::Wire => match kind {
-            kinds::Kind::Quantum => Ok(next),
-            _ => Err(wrong),
-        },
-        Wanted::Bit => match kind {
-            kinds::Kind::Classical => Ok(next),
-            _ => Err(wrong),
-        },
-        Wanted::Register(_) => Err(wrong),
-        Wanted::Family(_) => Err(wrong),
+    match (wanted, kind) {
+        (Wanted::Wire, kinds::Kind::Quantum) | (Wanted::Bit, kinds::Kind::Classical) => Ok(next),
+        _ => Err(Refusal(Reason::WrongKind, at)),
     }
 }
 
