@@ -177,9 +177,10 @@ fn element_kind(wanted: Wanted, kind: kinds::Kind, at: usize, next: usize) -> Re
     ensures f_value { (f : Form) (l : List ℤ) (k : Known) (g : Formal) → checked_size result f ≡ element_size at (wanted_of k wanted l) (kind_in kind f g) }
     ensures ends_at { EndsAt next result }
 {
+    let wrong = Refusal(Reason::WrongKind, at);
     match (wanted, kind) {
         (Wanted::Wire, kinds::Kind::Quantum) | (Wanted::Bit, kinds::Kind::Classical) => Ok(next),
-        _ => Err(Refusal(Reason::WrongKind, at)),
+        _ => Err(wrong),
     }
 }
 
@@ -278,10 +279,7 @@ fn slice_fits(
     ensures result_value { (fs : List Signature) (ks : List Kind) (k : Known) (g : Formal) → checked_part result ≡ slice_fits at (scope_with fs ks ranges.now.variables (all_loops ranges.now)) (wanted_of k wanted size.now) (kind_in kind (as_form (widened own.now)) g) (as_form first.now) (as_form last.old) }
     ensures ends_at { EndsAt next result }
 {
-    let Wanted::Register(known) = wanted else {
-        return Err(Refusal(Reason::WrongKind, at));
-    };
-    let kinds::Kind::Quantum = kind else {
+    let (Wanted::Register(known), kinds::Kind::Quantum) = (wanted, kind) else {
         return Err(Refusal(Reason::WrongKind, at));
     };
     let v = slice_within(first, last, own, ranges);

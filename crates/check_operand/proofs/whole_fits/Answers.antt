@@ -26,9 +26,9 @@ returns-in-Register-Quantum-clause-result_value c =
     let f = as_form (widened a.own.now) in
     let l = a.size.now in
     λ fs ks k g. c.answered.ensures.result_value ∙ ap (by_showing a.at) c.large_enough-v.ensures
-        ∙ ap (λ (x : List ℤ). must_show a.at (scope_with fs ks r.variables (all_loops r)) (built_of m.known l then_build difference_of (as_form x))) c.load.ensures.f_after
-        ∙ register_good a.at (scope_with fs ks r.variables (all_loops r)) f l k g m.known
-        ∙ (λ i. whole_fits a.at (scope_with fs ks r.variables (all_loops r)) (wanted_of k (sym m.is-0 i) l) (kind_in (sym m.is-1 i) f g))
+    ∙ ap (λ (x : List ℤ). must_show a.at (scope_with fs ks r.variables (all_loops r)) (built_of m.known l then_build difference_of (as_form x))) c.load.ensures.f_after
+    ∙ register_good a.at (scope_with fs ks r.variables (all_loops r)) f l k g m.known
+    ∙ (λ i. whole_fits a.at (scope_with fs ks r.variables (all_loops r)) (wanted_of k (sym m.is-0 i) l) (kind_in (sym m.is-1 i) f g))
 
 pub returns-in_default-clause-result_value : goal.returns-in_default-clause-result_value
 unfolding checked_part
@@ -37,7 +37,7 @@ returns-in_default-clause-result_value c =
     let r = a.ranges.now in
     let f = as_form (widened a.own.now) in
     λ fs ks k g. wire_bad a.at (scope_with fs ks r.variables (all_loops r)) f a.size.now k g a.kind c.in_default.not-Qubit-1
-        ∙ ap (λ (w : Wanted). whole_fits a.at (scope_with fs ks r.variables (all_loops r)) (wanted_of k w a.size.now) (kind_in a.kind f g)) (sym c.in_default.is-0)
+    ∙ ap (λ (w : Wanted). whole_fits a.at (scope_with fs ks r.variables (all_loops r)) (wanted_of k w a.size.now) (kind_in a.kind f g)) (sym c.in_default.is-0)
 
 pub returns-in_default-2-clause-result_value : goal.returns-in_default-2-clause-result_value
 unfolding checked_part
@@ -46,7 +46,7 @@ returns-in_default-2-clause-result_value c =
     let r = a.ranges.now in
     let f = as_form (widened a.own.now) in
     λ fs ks k g. register_bad a.at (scope_with fs ks r.variables (all_loops r)) f a.size.now k g _ a.kind c.in_default.not-Quantum-1
-        ∙ ap (λ (w : Wanted). whole_fits a.at (scope_with fs ks r.variables (all_loops r)) (wanted_of k w a.size.now) (kind_in a.kind f g)) (sym c.in_default.is-0)
+    ∙ ap (λ (w : Wanted). whole_fits a.at (scope_with fs ks r.variables (all_loops r)) (wanted_of k w a.size.now) (kind_in a.kind f g)) (sym c.in_default.is-0)
 
 pub returns-in_default-3-clause-result_value : goal.returns-in_default-3-clause-result_value
 unfolding checked_part
