@@ -10,8 +10,6 @@ use lib.IntN.{ℤ}
 use lib.ListN.{length, drop, get_elem?, drop_of_length-le}
 use lib.Seq.{slice}
 use borrow.Author.Tests.{ne_eqb, le-leb, lt-leb, leb-true}
-use types.Run.{OneOf, miss}
-use denote.Enum.Declared.{tag_of}
 use Rattle.language.specs.Tree.{Operand, bad_operand, Argument, index, operand, bad_argument, Statement, call, call_parameter, bad_statement}
 use Rattle.language.specs.Read.{Field, field, choose, due, outer_index, is_index_tag, is_operand_tag, read_operand, read_argument, call_of}
 use Rattle.language.specs.Form.{Form}
@@ -21,15 +19,13 @@ use Rattle.fields.specs.Header.{fields_at}
 use Rattle.fields.specs.CallNumber.{call_reader}
 use Rattle.fields.proofs.Headers.{View, ends, cuts, goes, view, fields_end}
 use Rattle.forms.specs.Rows.{forms_of}
-use Rattle.kinds.specs.contracts.Kind.{the_type as kind-type}
 use Rattle.kinds.specs.declared.Kind.TheVariants.{Qubit, Quantum, Classical, Family}
-use Rattle.check_index.specs.contracts.Read.{the_type}
 use Rattle.check_operand.specs.Tables.{kind_in, tabulated}
 use Rattle.check_index.specs.Answers.{checked_part, Beyond}
 use Rattle.check_call.specs.Calls.{call_operand, checked_forms}
-use Rattle.check_index.specs.declared.Read.{Read}
-use Rattle.check_index.specs.declared.Read.TheVariants.{Upto, Refused}
-use Rattle.check_index.proofs.Answers.{not_first}
+use Rattle.std.specs.Prelude.{Result, Ok, Err}
+use Rattle.refusals.specs.Reasons.{number_of}
+use Rattle.refusals.specs.declared.Refusal.{Refusal}
 use Rattle.check_operand.proofs.Tables.{length_rows}
 use Rattle.kinds.specs.declared.Kind as K
 use Rattle.language.specs.Check as C
@@ -140,15 +136,15 @@ module _ (s : C.Scope) (at n : ℕ) (fs : List Field) where
   unfolding in_scope ◌>>=◌
   parameter_beyond q = sym (parameter_is ∙ ap (λ (o : Option Kind). in_scope at o >>= λ k. (formal_of at k >>= fitted)) q)
 
-  pub parameter_other : (k : K.Kind) (f : Form) (g : Formal) → get_elem? s.operands n ≡ some (kind_in k f g) → OneOf (0 ∷ 1 ∷ 2 ∷ []) (tag_of kind-type k) → refused 9 at ≡ passed_on
+  pub parameter_other : (k : K.Kind) (f : Form) (g : Formal) → get_elem? s.operands n ≡ some (kind_in k f g) → (k ≡ Family → ⊥) → refused 9 at ≡ passed_on
   unfolding in_scope ◌>>=◌ kind_in formal_of
   parameter_other k f g q h = by k h ∙ sym (parameter_is ∙ ap (λ (o : Option Kind). in_scope at o >>= λ k. (formal_of at k >>= fitted)) q)
     where
-      by : (k : K.Kind) → OneOf (0 ∷ 1 ∷ 2 ∷ []) (tag_of kind-type k) → refused 9 at ≡ (formal_of at (kind_in k f g) >>= fitted)
+      by : (k : K.Kind) → (k ≡ Family → ⊥) → refused 9 at ≡ (formal_of at (kind_in k f g) >>= fitted)
       by Qubit h = refl
       by Quantum h = refl
       by Classical h = refl
-      by Family h = absurd (miss (0 ∷ 1 ∷ 2 ∷ []) 3 tt h)
+      by Family h = absurd (h refl)
 
   pub parameter_found : (g : Formal) → get_elem? s.operands n ≡ some (C.formal g) → fitted g ≡ passed_on
   unfolding in_scope ◌>>=◌ formal_of
@@ -162,23 +158,19 @@ module _ (s : C.Scope) (at before from : ℕ) (program : List ℕ) (next : ℕ) 
   abbrev fits : Checked (Unit {0})
   fits = call_fits at s before f args
 
-  module _ (r : Read) (l : List (List ℤ)) (m : ℕ) (a : m ≡ f.variables) (t : checked_forms r m l ≡ call_forms s at m args) where
+  module _ (r : Result ℕ Refusal) (l : List (List ℤ)) (m : ℕ) (a : m ≡ f.variables) (t : checked_forms r m l ≡ call_forms s at m args) where
     fits_is : fits ≡ (checked_forms r m l >>= λ forms. call_operands s at before forms f.parameters (drop m args))
     unfolding call_fits
     fits_is =
         ap (λ (k : ℕ). call_forms s at k args >>= λ forms. call_operands s at before forms f.parameters (drop k args)) (sym a)
         ∙ ap (λ (c : Checked (List Form)). c >>= λ forms. call_operands s at before forms f.parameters (drop m args)) (sym t)
 
-    pub fits_stops : OneOf (1 ∷ []) (tag_of the_type r) → checked_part r ≡ fits
+    pub fits_stops : {e : Refusal} → r ≡ Err e → checked_part (Err e) ≡ fits
     unfolding checked_forms checked_part ◌>>=◌
-    fits_stops h = by r h ∙ sym fits_is
-      where
-        by : (r : Read) → OneOf (1 ∷ []) (tag_of the_type r) → checked_part r ≡ (checked_forms r m l >>= λ forms. call_operands s at before forms f.parameters (drop m args))
-        by (Upto j) h = not_first h
-        by (Refused j k) h = refl
+    fits_stops h = sym (fits_is ∙ ap (λ (x : Result ℕ Refusal). checked_forms x m l >>= λ forms. call_operands s at before forms f.parameters (drop m args)) h)
 
-    pub fits_good : (mid : ℕ) → r ≡ Upto mid → Beyond program from next m mid → call_operands s at before (forms_of m l) f.parameters (map read_argument (fields_at program mid next)) ≡ fits
+    pub fits_good : (mid : ℕ) → r ≡ Ok mid → Beyond program from next m mid → call_operands s at before (forms_of m l) f.parameters (map read_argument (fields_at program mid next)) ≡ fits
     unfolding checked_forms ◌>>=◌
     fits_good mid u b =
-        sym (fits_is ∙ ap (λ (x : Read). checked_forms x m l >>= λ forms. call_operands s at before forms f.parameters (drop m args)) u
+        sym (fits_is ∙ ap (λ (x : Result ℕ Refusal). checked_forms x m l >>= λ forms. call_operands s at before forms f.parameters (drop m args)) u
         ∙ ap (λ (x : List Argument). call_operands s at before (forms_of m l) f.parameters x) (drop_map read_argument m (fields_at program from next) ∙ ap (map read_argument) b.rest))

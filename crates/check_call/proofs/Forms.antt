@@ -9,8 +9,6 @@ use lib.IntN.{ℤ, pos}
 use lib.ListN.{length, take, drop, set, replicate, get_or-replicate}
 use lib.Seq.{slice, take-suc-set}
 use borrow.Author.Tests.{ne_eqb, le-leb}
-use types.Run.{OneOf}
-use denote.Enum.Declared.{tag_of}
 use Rattle.language.specs.Tree.{Index, bad_index, Argument, index, operand, bad_argument}
 use Rattle.language.specs.Read.{Field, field, choose, due, outer_index, is_index_tag, is_operand_tag, index_by, read_index, read_operand, read_argument}
 use Rattle.language.specs.Form.{Form, built}
@@ -21,12 +19,11 @@ use Rattle.fields.proofs.Headers.{View, ends, cuts, goes, view}
 use Rattle.forms.proofs.Laws.{zeros_kept}
 use Rattle.forms.specs.Flat.{as_form}
 use Rattle.forms.specs.Rows.{Rows, forms_of}
-use Rattle.check_index.specs.contracts.Read.{the_type}
 use Rattle.check_index.specs.Answers.{checked_form, PastField, checked_part}
 use Rattle.check_call.specs.Calls.{checked_forms}
-use Rattle.check_index.specs.declared.Read.{Read}
-use Rattle.check_index.specs.declared.Read.TheVariants.{Upto, Refused}
-use Rattle.check_index.proofs.Answers.{not_first}
+use Rattle.std.specs.Prelude.{Result, Ok, Err}
+use Rattle.refusals.specs.Reasons.{number_of}
+use Rattle.refusals.specs.declared.Refusal.{Refusal}
 use Rattle.language.specs.Check as C
 
 not_index : (part : Field → Index) (p tag : ℕ) (content : List ℕ) → is_index_tag tag ≡ false → index_by part (field p tag content) ≡ bad_index 3 p
@@ -62,12 +59,11 @@ module _ (s : C.Scope) (parent n : ℕ) where
       by (cuts e) = rw e
       by (goes tag next w) = rw w.first (tags tag (slice (at + 3) next program) (fields_at program next to) (is_index_tag tag) refl)
 
-pub list_stops : (r : Read) (m : ℕ) (l : List (List ℤ)) (next : List Form → Checked (List Form)) → OneOf (1 ∷ []) (tag_of the_type r) → checked_forms r m l ≡ (checked_forms r m l >>= next)
+pub list_stops : (e : Refusal) (m : ℕ) (l : List (List ℤ)) (next : List Form → Checked (List Form)) → checked_forms (Err e) m l ≡ (checked_forms (Err e) m l >>= next)
 unfolding checked_forms ◌>>=◌
-list_stops (Upto n) m l next h = not_first h
-list_stops (Refused n p) m l next h = refl
+list_stops e m l next = refl
 
-module _ (s : C.Scope) (parent n m : ℕ) (program : List ℕ) (at to : ℕ) (k : to ≤ length program) (r : Read) (l : List ℤ) (e : checked_form r l ≡ form_of s (due outer_index (bad_index 4 parent) (fields_at program at to))) where
+module _ (s : C.Scope) (parent n m : ℕ) (program : List ℕ) (at to : ℕ) (k : to ≤ length program) (r : Result ℕ Refusal) (l : List ℤ) (e : checked_form r l ≡ form_of s (due outer_index (bad_index 4 parent) (fields_at program at to))) where
   abbrev here : Checked (List Form)
   here = call_forms s parent (suc n) (map read_argument (fields_at program at to))
 
@@ -77,39 +73,27 @@ module _ (s : C.Scope) (parent n m : ℕ) (program : List ℕ) (at to : ℕ) (k 
   here_is : here ≡ (checked_form r l >>= show)
   here_is = call_first s parent n program at to k ∙ ap (λ (c : Checked Form). c >>= show) (sym e)
 
-  pub form_none : (fs : List (List ℤ)) → OneOf (1 ∷ []) (tag_of the_type r) → checked_forms r m fs ≡ here
+  pub form_none : (fs : List (List ℤ)) {q : Refusal} → r ≡ Err q → checked_forms (Err q) m fs ≡ here
   unfolding checked_forms checked_form ◌>>=◌
-  form_none fs h = by r h ∙ sym here_is
-    where
-      by : (r : Read) → OneOf (1 ∷ []) (tag_of the_type r) → checked_forms r m fs ≡ (checked_form r l >>= show)
-      by (Upto j) h = not_first h
-      by (Refused j q) h = refl
+  form_none fs h = sym (here_is ∙ ap (λ (x : Result ℕ Refusal). checked_form x l >>= show) h)
 
-  module _ (next : ℕ) (u : r ≡ Upto next) (v : PastField program at to next) (t : Read) (d : checked_part t ≡ must_show at s (built (as_form l))) where
+  module _ (next : ℕ) (u : r ≡ Ok next) (v : PastField program at to next) (t : Result ℕ Refusal) (d : checked_part t ≡ must_show at s (built (as_form l))) where
     abbrev there : Checked (List Form)
     there = call_forms s parent n (map read_argument (fields_at program next to)) >>= λ gs. good (as_form l ∷ gs)
 
     mid_is : here ≡ (checked_part t >> there)
     unfolding checked_form ◌>>=◌
     mid_is =
-        here_is ∙ ap (λ (x : Read). checked_form x l >>= show) u
+        here_is ∙ ap (λ (x : Result ℕ Refusal). checked_form x l >>= show) u
         ∙ (λ j. sym d j >> (call_forms s parent n (map read_argument (v.rest j)) >>= λ gs. good (as_form l ∷ gs)))
 
-    pub show_none : (fs : List (List ℤ)) → OneOf (1 ∷ []) (tag_of the_type t) → checked_forms t m fs ≡ here
+    pub show_none : (fs : List (List ℤ)) {q : Refusal} → t ≡ Err q → checked_forms (Err q) m fs ≡ here
     unfolding checked_forms checked_part ◌>>◌
-    show_none fs h = by t h ∙ sym mid_is
-      where
-        by : (t : Read) → OneOf (1 ∷ []) (tag_of the_type t) → checked_forms t m fs ≡ (checked_part t >> there)
-        by (Upto j) h = not_first h
-        by (Refused j q) h = refl
+    show_none fs h = sym (mid_is ∙ ap (λ (x : Result ℕ Refusal). checked_part x >> there) h)
 
-    pub show_good : OneOf (0 ∷ []) (tag_of the_type t) → here ≡ there
+    pub show_good : {j : ℕ} → t ≡ Ok j → here ≡ there
     unfolding checked_part ◌>>◌
-    show_good h = mid_is ∙ by t h
-      where
-        by : (t : Read) → OneOf (0 ∷ []) (tag_of the_type t) → (checked_part t >> there) ≡ there
-        by (Upto j) h = refl
-        by (Refused j q) h = absurd (let z : ◌≡◌ {A = ℕ} 1 0 = h in omega arith)
+    show_good h = mid_is ∙ ap (λ (x : Result ℕ Refusal). checked_part x >> there) h
 
 -- the forms so far, and one more
 pub more_forms : (c : Checked (List Form)) (i : ℕ) (fs : List (List ℤ)) (l : List ℤ) → i < length fs

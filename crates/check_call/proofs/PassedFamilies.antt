@@ -11,17 +11,14 @@ use lib.IntN.{ℤ}
 use lib.ListN.{length, get_or, get_elem?}
 use lib.Seq.{slice}
 use borrow.Author.Tests.{eq-eqb, ne_eqb, lt-ltb, le-ltb}
-use types.Run.{OneOf, miss}
-use denote.Enum.Declared.{tag_of}
 use Rattle.language.specs.Tree.{Operand, whole, element, slice as slice_operand, passed, bad_operand}
 use Rattle.language.specs.Read.{field, two_bytes, choose, due, read_whole, read_element, element_of, read_slice, slice_of, read_passed, read_operand}
 use Rattle.language.specs.Form.{Form, difference_of}
 use Rattle.language.specs.Check.{Checked, refused, fine, require, in_scope, ◌>>=◌, ◌>>◌, Formal, Kind, Signature, fitting, must_show, size_scope, taken, plain_of, signature_of, plain_size, same_kind, same_kinds, size_fits, sizes_fit, family_fits, declared_before, check_operand}
-use Rattle.kinds.specs.contracts.Kind.{the_type}
 use Rattle.kinds.specs.declared.Kind.TheVariants.{Qubit, Quantum, Classical, Family}
 use Rattle.fields.specs.Header.{fields_at, header_of, tagged_in}
 use Rattle.fields.proofs.Headers.{Wholly, View, ends, cuts, goes, view, when_not}
-use Rattle.fields.specs.declared.Tagged.TheVariants.{Not}
+use Rattle.std.specs.Prelude.{None}
 use Rattle.check_operand.specs.Tables.{Formals, kind_in, kind_of_row, size_of_row, kinds_at, tabulated}
 use Rattle.check_operand.specs.Operands.{NoFamily, Answerable}
 use Rattle.check_operand.specs.declared.Wanted.{Wanted}
@@ -80,12 +77,12 @@ module _ (s : C.Scope) (before : ℕ) (forms : List Form) (k : Kind) (at : ℕ) 
         late_good l = passed_good s (taken forms k) at content low high more e f q l ∙ early
 
 -- where no family is due, none fits
-pub not_due : (at : ℕ) (forms : List Form) (k : K.Kind) (i : Form) (g : Formal) (f : Signature) → OneOf (0 ∷ 1 ∷ 2 ∷ []) (tag_of the_type k) → refused 9 at ≡ family_fits at (taken forms (kind_in k i g)) f
+pub not_due : (at : ℕ) (forms : List Form) (k : K.Kind) (i : Form) (g : Formal) (f : Signature) → (k ≡ Family → ⊥) → refused 9 at ≡ family_fits at (taken forms (kind_in k i g)) f
 unfolding family_fits taken kind_in
 not_due at forms Qubit i g f h = refl
 not_due at forms Quantum i g f h = refl
 not_due at forms Classical i g f h = refl
-not_due at forms Family i g f h = absurd (miss (0 ∷ 1 ∷ 2 ∷ []) 3 tt h)
+not_due at forms Family i g f h = absurd (h refl)
 
 pub family_due : (at : ℕ) (forms : List Form) (i : Form) (g : Formal) (f : Signature) → family_fits at (fitting g) f ≡ family_fits at (taken forms (kind_in Family i g)) f
 unfolding taken kind_in
@@ -131,7 +128,7 @@ other_tag at tag l h = go (eqb tag 48) refl (eqb tag 49) refl (eqb tag 50) refl
     go false e false d false f = rw (e, d, f, ne_eqb tag 51 h) tt
 
 -- a field with another tag is no family
-pub no_family_lem : (program : List ℕ) (at to parent : ℕ) → to ≤ length program → tagged_in 51 (header_of at (fields_at program at to)) ≡ Not → NoFamily (due read_operand (bad_operand 4 parent) (fields_at program at to))
+pub no_family_lem : (program : List ℕ) (at to parent : ℕ) → to ≤ length program → tagged_in 51 (header_of at (fields_at program at to)) ≡ None → NoFamily (due read_operand (bad_operand 4 parent) (fields_at program at to))
 unfolding due read_operand
 no_family_lem program at to parent k e = go (view program at to k)
   where
@@ -186,60 +183,24 @@ module _ (i : Option Form) (is : List (Option Form)) (k : Kind) (ks : List Kind)
   unfolding same_kinds
   first_same e = ap (λ (b : Bool). b && same_kinds is ks) e
 
--- one kind and another
-module _ (i j : Form) (g : Formal) where
-  pub both_sized : true ≡ same_kind (plain_in Quantum i) (kind_in Quantum j g)
-  unfolding same_kind plain_in kind_in
-  both_sized = refl
-
-  pub sized_other : (k : K.Kind) → OneOf (0 ∷ 2 ∷ 3 ∷ []) (tag_of the_type k) → false ≡ same_kind (plain_in Quantum i) (kind_in k j g)
-  unfolding same_kind plain_in kind_in
-  sized_other Qubit h = refl
-  sized_other Quantum h = absurd (miss (0 ∷ 2 ∷ 3 ∷ []) 1 tt h)
-  sized_other Classical h = refl
-  sized_other Family h = refl
-
-  pub both_single : (k : K.Kind) → OneOf (0 ∷ 2 ∷ 3 ∷ []) (tag_of the_type k) → true ≡ same_kind (plain_in k i) (kind_in Qubit j g)
-  unfolding same_kind plain_in kind_in
-  both_single Qubit h = refl
-  both_single Quantum h = absurd (miss (0 ∷ 2 ∷ 3 ∷ []) 1 tt h)
-  both_single Classical h = refl
-  both_single Family h = refl
-
-  pub single_other : (k l : K.Kind) → OneOf (0 ∷ 2 ∷ 3 ∷ []) (tag_of the_type k) → OneOf (1 ∷ 2 ∷ 3 ∷ []) (tag_of the_type l) → false ≡ same_kind (plain_in k i) (kind_in l j g)
-  unfolding same_kind plain_in kind_in
-  single_other Quantum l h n = absurd (miss (0 ∷ 2 ∷ 3 ∷ []) 1 tt h)
-  single_other Qubit Qubit h n = absurd (miss (1 ∷ 2 ∷ 3 ∷ []) 0 tt n)
-  single_other Qubit Quantum h n = refl
-  single_other Qubit Classical h n = refl
-  single_other Qubit Family h n = refl
-  single_other Classical Qubit h n = absurd (miss (1 ∷ 2 ∷ 3 ∷ []) 0 tt n)
-  single_other Classical Quantum h n = refl
-  single_other Classical Classical h n = refl
-  single_other Classical Family h n = refl
-  single_other Family Qubit h n = absurd (miss (1 ∷ 2 ∷ 3 ∷ []) 0 tt n)
-  single_other Family Quantum h n = refl
-  single_other Family Classical h n = refl
-  single_other Family Family h n = refl
-
 -- ---- sizes
 
 module _ (at m : ℕ) (i : Form) (o : Option Form) where
-  pub no_formal : (k : K.Kind) → OneOf (0 ∷ 2 ∷ 3 ∷ []) (tag_of the_type k) → fine ≡ size_fits at m (plain_in k i) o
+  pub no_formal : (k : K.Kind) → (k ≡ Quantum → ⊥) → fine ≡ size_fits at m (plain_in k i) o
   unfolding size_fits plain_in
   no_formal Qubit h = refl
-  no_formal Quantum h = absurd (miss (0 ∷ 2 ∷ 3 ∷ []) 1 tt h)
+  no_formal Quantum h = absurd (h refl)
   no_formal Classical h = refl
   no_formal Family h = refl
 
-pub no_actual : (at m : ℕ) (o : Option Form) (j : Form) (g : Formal) (k : K.Kind) → OneOf (0 ∷ 2 ∷ 3 ∷ []) (tag_of the_type k) → fine ≡ size_fits at m o (plain_size (kind_in k j g))
+pub no_actual : (at m : ℕ) (o : Option Form) (j : Form) (g : Formal) (k : K.Kind) → (k ≡ Quantum → ⊥) → fine ≡ size_fits at m o (plain_size (kind_in k j g))
 unfolding size_fits plain_size kind_in
 no_actual at m none j g Qubit h = refl
 no_actual at m none j g Quantum h = refl
 no_actual at m none j g Classical h = refl
 no_actual at m none j g Family h = refl
 no_actual at m (some i) j g Qubit h = refl
-no_actual at m (some i) j g Quantum h = absurd (miss (0 ∷ 2 ∷ 3 ∷ []) 1 tt h)
+no_actual at m (some i) j g Quantum h = absurd (h refl)
 no_actual at m (some i) j g Classical h = refl
 no_actual at m (some i) j g Family h = refl
 

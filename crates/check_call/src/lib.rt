@@ -6,7 +6,7 @@ ghost use Rattle.std.proofs.Math.Seq.{slice};
 ghost use Rattle.language.specs.Tree.{bad_operand, call, call_parameter};
 ghost use Rattle.language.specs.Form.{Form};
 ghost use Rattle.language.specs.Read.{due, read_operand, read_passed, read_argument, call_of};
-ghost use Rattle.language.specs.Check.{Formal, Kind, Signature, fitting, taken, plain_size, same_kind, same_kinds, size_fits, sizes_fit, family_fits, call_forms, call_operands, call_fits, check_statement};
+ghost use Rattle.language.specs.Check.{Formal, Kind as SizedKind, Signature, fitting, taken, plain_size, same_kind, same_kinds, size_fits, sizes_fit, family_fits, call_forms, call_operands, call_fits, check_statement};
 ghost use Rattle.language.specs.Limits.{most_families, most_variables};
 ghost use Rattle.fields.specs.Header.{fields_at};
 ghost use Rattle.fields.specs.CallNumber.{call_reader};
@@ -41,7 +41,7 @@ fn call_forms(
     requires to_in_bounds { to ≤ length program.now }
     requires m_le_most_variables { m ≤ most_variables }
     requires rows { Rows forms.old most_variables }
-    ensures forms_after { (fs : List Signature) (ks : List Kind) → checked_forms result m forms.new ≡ call_forms (scope_with fs ks scope.now.visible.variables (loops_of scope.now.visible.loops scope.now.lows.now scope.now.highs.now)) parent m (map read_argument (fields_at program.now at to)) }
+    ensures forms_after { (fs : List Signature) (ks : List SizedKind) → checked_forms result m forms.new ≡ call_forms (scope_with fs ks scope.now.visible.variables (loops_of scope.now.visible.loops scope.now.lows.now scope.now.highs.now)) parent m (map read_argument (fields_at program.now at to)) }
     ensures passes_count { PassesCount program.now at to m result }
     ensures rows_2 { Rows forms.new most_variables }
 {

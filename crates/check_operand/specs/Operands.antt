@@ -1,11 +1,10 @@
 -- What an operand is due to be, and what the answers on operands stand for.
-use Rattle.std.specs.Prelude.{◌≡◌, List, Bool, true, ◌&&◌, ◌||◌, ℕ, ◌+◌, ◌<◌, ℤ, eqb, length, get_or, drop, OnOk, Result, Ok, Err}
+use Rattle.std.specs.Prelude.{◌≡◌, List, Bool, ◌&&◌, ◌||◌, ℕ, ◌+◌, ◌<◌, ℤ, eqb, length, get_or, drop, OnOk, Result, Ok, Err}
 use Rattle.language.specs.Form.{Form, same_form}
 use Rattle.language.specs.Tree.{Ending, Operand, whole, element, slice, passed, bad_operand}
 use Rattle.language.specs.Check.{Checked, good, refused, ◌>>◌, by_showing, form_of, check_one_wire, check_two, check_wires}
 use Rattle.language.specs.Read.{Field, ending, operand_due}
 use Rattle.forms.specs.Flat.{Kept, as_form, built_of, shown_of}
-use Rattle.forms.specs.declared.OutOfRange.{OutOfRange}
 use Rattle.forms.specs.declared.Unshown.{Unshown}
 use Rattle.refusals.specs.Reasons.{number_of}
 use Rattle.refusals.specs.declared.Refusal.{Refusal}

@@ -4,7 +4,7 @@ use Rattle.language.specs.Limits.{most_variables, most_loops}
 use Rattle.language.specs.Form.{Form, Loop}
 use Rattle.language.specs.Check.{Formal, Kind, qubit, quantum, classical, formal, Signature}
 use Rattle.forms.specs.Flat.{widened, as_form}
-use Rattle.forms.specs.Rows.{Rows, ShortRows, loops_of}
+use Rattle.forms.specs.Rows.{Rows, ShortRows}
 use Rattle.kinds.specs.Numbers.{kind_with}
 use Rattle.kinds.specs.declared.Kind.TheVariants.{Qubit, Quantum, Classical, Family}
 use Rattle.check_operand.specs.declared.scope.Visible.{Visible}

@@ -184,17 +184,18 @@ fn element_kind(wanted: Wanted, kind: kinds::Kind, at: usize, next: usize) -> Re
     ensures f_value { (f : Form) (l : List ℤ) (k : Known) (g : Formal) → checked_size result f ≡ element_size at (wanted_of k wanted l) (kind_in kind f g) }
     ensures ends_at { EndsAt next result }
 {
+    let wrong = Refusal(Reason::WrongKind, at);
     match wanted {
         Wanted::Wire => match kind {
             kinds::Kind::Quantum => Ok(next),
-            _ => Err(Refusal(Reason::WrongKind, at)),
+            _ => Err(wrong),
         },
         Wanted::Bit => match kind {
             kinds::Kind::Classical => Ok(next),
-            _ => Err(Refusal(Reason::WrongKind, at)),
+            _ => Err(wrong),
         },
-        Wanted::Register(_) => Err(Refusal(Reason::WrongKind, at)),
-        Wanted::Family(_) => Err(Refusal(Reason::WrongKind, at)),
+        Wanted::Register(_) => Err(wrong),
+        Wanted::Family(_) => Err(wrong),
     }
 }
 

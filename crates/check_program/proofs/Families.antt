@@ -10,70 +10,60 @@ use lib.IntN.{ℤ}
 use lib.ListN.{length, get_or, drop, set, length-set}
 use lib.Seq.{slice, get_or-set_same, get_or-set_other}
 use borrow.Author.Tests.{eqb-true, eqb-false, lt-ltb, le-ltb}
-use types.Run.{OneOf}
-use denote.Enum.Declared.{tag_of}
 use Rattle.language.specs.Read.{Field, fields, types_of, statements_by, outer_statement, family_of, read_family}
 use Rattle.language.specs.Limits.{most_families, most_registers, most_variables, most_parameters}
 use Rattle.language.specs.Tree.{Number, number, missing}
-use Rattle.language.specs.Check.{Checked, good, ◌>>=◌, ◌>>◌, require, check_number, Kind, Signature, all_rules, kinds_of, check_statements, Declared, family_scope, family_scope_by, with_family, check_counts, check_family_by, check_top, check_top_by}
+use Rattle.language.specs.Check.{Checked, good, refused, ◌>>=◌, ◌>>◌, require, check_number, Kind, Signature, all_rules, kinds_of, check_statements, Declared, family_scope, family_scope_by, with_family, check_counts, check_family_by, check_top, check_top_by}
 use Rattle.fields.specs.Header.{fields_at}
-use Rattle.forms.specs.Rows.{loops_of}
 use Rattle.check_operand.specs.Tables.{Formals, kinds_at, tabulated}
 use Rattle.check_index.specs.Answers.{checked_part, Beyond}
-use Rattle.check_call.specs.Calls.{formal_in, formal_at, signature_in, signature_at, scope_full, FamilyRight}
-use Rattle.check_operand.specs.declared.Visible.{Visible}
-use Rattle.check_index.specs.declared.Read.{Read}
-use Rattle.check_index.specs.declared.Read.TheVariants.{Upto, Refused}
-use Rattle.check_index.specs.contracts.Read.{the_type}
+use Rattle.check_call.specs.Calls.{formal_in, formal_at, signature_in, signature_at, FamilyRight}
+use Rattle.check_operand.specs.declared.scope.Visible.{Visible}
+use Rattle.std.specs.Prelude.{Result, Ok, Err}
+use Rattle.refusals.specs.Reasons.{number_of}
+use Rattle.refusals.specs.declared.Refusal.{Refusal}
 use Rattle.check_operand.proofs.Tables.{row_more, rows_same, length_rows}
-use Rattle.check_index.proofs.Answers.{not_first}
 use Rattle.check_declaration.specs.Types.{InUse, InUseBefore, checked_rows, FormalsIn, FormalsBefore, Stays}
 use Rattle.check_declaration.specs.Families.{first_in, second_in, counts_in, checked_counts}
-use Rattle.check_program.specs.Declarations.{family_in, declared_in, DeclaredRight, checked_step}
+use Rattle.check_program.specs.Declarations.{family_in, declared_in, DeclaredRight, checked_step, scope_in}
 use Rattle.check_program.specs.declared.SoFar.{SoFar}
 use Rattle.check_declaration.specs.declared.Counts.{Counts}
-use Rattle.check_declaration.specs.declared.Counts.TheVariants.{Both, Bad}
-use Rattle.check_program.specs.declared.Step.TheVariants.{Stopped}
 use Rattle.check_declaration.proofs.FamilyTypes.{two_on}
 use Rattle.check_program.proofs.Scopes.{families_below, registers_below}
 
-rows_then : (formals : Formals) (r : Read) (count first : ℕ) (kinds : List ℕ) (sizes : List (List ℤ)) → checked_rows formals r count first kinds sizes ≡ (checked_part r >> good (kinds_at formals count first kinds sizes))
+rows_then : (formals : Formals) (r : Result ℕ Refusal) (count first : ℕ) (kinds : List ℕ) (sizes : List (List ℤ)) → checked_rows formals r count first kinds sizes ≡ (checked_part r >> good (kinds_at formals count first kinds sizes))
 unfolding checked_rows checked_part ◌>>◌
-rows_then formals (Upto n) count first kinds sizes = refl
-rows_then formals (Refused n p) count first kinds sizes = refl
+rows_then formals (Ok n) count first kinds sizes = refl
+rows_then formals (Err e) count first kinds sizes = refl
 
 -- the scope of a family whose rows these are
 abbrev pub family_rows : SoFar → (m p : ℕ) → Visible
 family_rows t m p = record { families = t.families; first = t.rows; count = p; variables = m; loops = 0 }
 
 module _ (bytes : ℕ) (t : SoFar) (at m p : ℕ) (program : List ℕ) (from next : ℕ) {f₀ : List (List ℕ)} {k₀ : List ℕ} {s₀ : List (List ℤ)} {f₁ : List (List ℕ)} {k₁ : List ℕ} {s₁ : List (List ℤ)} (h : DeclaredRight bytes at t f₀ k₀ s₀) (q : at ≤ from) (a : Stays bytes t.rows from t.registers f₀ k₀ s₀ f₁ k₁ s₁)
-    (r : Read) (e : checked_rows (formal_at f₁ k₁ s₁) r p t.rows k₁ s₁ ≡ kinds_of (family_scope (declared_in t f₀ k₀ s₀) m []) (types_of at p (fields_at program from next))) where
+    (r : Result ℕ Refusal) (e : checked_rows (formal_at f₁ k₁ s₁) r p t.rows k₁ s₁ ≡ kinds_of (family_scope (declared_in t f₀ k₀ s₀) m []) (types_of at p (fields_at program from next))) where
   abbrev taking : Formals
   taking = formal_at f₁ k₁ s₁
 
   abbrev body_after : List Kind → Checked (List Kind)
   body_after ks = check_statements (statements_by outer_statement (drop p (fields_at program from next))) (family_scope (declared_in t f₀ k₀ s₀) m ks) >> good ks
 
-  pub body_stops : OneOf (1 ∷ []) (tag_of the_type r) → checked_rows taking r p t.rows k₁ s₁ ≡ family_in (declared_in t f₀ k₀ s₀) at m p (fields_at program from next)
+  pub body_stops : {f : Refusal} → r ≡ Err f → checked_rows taking (Err f) p t.rows k₁ s₁ ≡ family_in (declared_in t f₀ k₀ s₀) at m p (fields_at program from next)
   unfolding checked_rows check_family_by ◌>>=◌
-  body_stops o = by r o ∙ ap (λ (c : Checked (List Kind)). c >>= body_after) e
-    where
-      by : (r : Read) → OneOf (1 ∷ []) (tag_of the_type r) → checked_rows taking r p t.rows k₁ s₁ ≡ (checked_rows taking r p t.rows k₁ s₁ >>= body_after)
-      by (Upto n) o = not_first o
-      by (Refused n q) o = refl
+  body_stops o = ap (λ (c : Checked (List Kind)). c >>= body_after) (sym (ap (λ (x : Result ℕ Refusal). checked_rows taking x p t.rows k₁ s₁) o) ∙ e)
 
-  family_scope_lem : (lows highs : List (List ℤ)) → scope_full (family_rows t m p) f₁ k₁ s₁ lows highs ≡ family_scope (declared_in t f₀ k₀ s₀) m (kinds_at taking p t.rows k₁ s₁)
-  unfolding family_scope_by loops_of
-  family_scope_lem lows highs = ap (λ (fs : List Signature). record { families = fs; operands = kinds_at taking p t.rows k₁ s₁; variables = m; loops = []; rules = all_rules }) (families_below bytes at t h from q a)
+  family_scope_lem : scope_in (family_rows t m p) f₁ k₁ s₁ ≡ family_scope (declared_in t f₀ k₀ s₀) m (kinds_at taking p t.rows k₁ s₁)
+  unfolding family_scope_by
+  family_scope_lem = ap (λ (fs : List Signature). record { families = fs; operands = kinds_at taking p t.rows k₁ s₁; variables = m; loops = []; rules = all_rules }) (families_below bytes at t h from q a)
 
-  pub body_goes : (mid : ℕ) → r ≡ Upto mid → Beyond program from next p mid → (o : Read) (lows highs : List (List ℤ))
-      → checked_part o ≡ check_statements (statements_by outer_statement (fields_at program mid next)) (scope_full (family_rows t m p) f₁ k₁ s₁ lows highs)
+  pub body_goes : (mid : ℕ) → r ≡ Ok mid → Beyond program from next p mid → (o : Result ℕ Refusal)
+      → checked_part o ≡ check_statements (statements_by outer_statement (fields_at program mid next)) (scope_in (family_rows t m p) f₁ k₁ s₁)
       → checked_rows taking o p t.rows k₁ s₁ ≡ family_in (declared_in t f₀ k₀ s₀) at m p (fields_at program from next)
   unfolding checked_rows check_family_by ◌>>=◌
-  body_goes mid u b o lows highs d =
+  body_goes mid u b o d =
       rows_then taking o p t.rows k₁ s₁
-      ∙ ap (λ (c : Checked (Unit {0})). c >> good (kinds_at taking p t.rows k₁ s₁)) (d ∙ (λ i. check_statements (statements_by outer_statement (sym b.rest i)) (family_scope_lem lows highs i)))
-      ∙ ap (λ (c : Checked (List Kind)). c >>= body_after) (sym (ap (λ (x : Read). checked_rows taking x p t.rows k₁ s₁) u) ∙ e)
+      ∙ ap (λ (c : Checked (Unit {0})). c >> good (kinds_at taking p t.rows k₁ s₁)) (d ∙ (λ i. check_statements (statements_by outer_statement (sym b.rest i)) (family_scope_lem i)))
+      ∙ ap (λ (c : Checked (List Kind)). c >>= body_after) (sym (ap (λ (x : Result ℕ Refusal). checked_rows taking x p t.rows k₁ s₁) u) ∙ e)
 
 -- what follows the two numbers of a family is asked only where both are right
 module _ {B : Type 0} (q : ℕ) (f g : ℕ × ℕ → Checked B) where
@@ -116,13 +106,13 @@ family_is q [] d = ap (λ (c : Checked Declared). require 6 q (ltb (length d.fam
 family_is q (m ∷ []) d = ap (λ (c : Checked Declared). require 6 q (ltb (length d.families) most_families) >> c) (counts_same q _ (family_after d q (m ∷ [])) (number m) missing tt)
 family_is q (m ∷ p ∷ rest) d = ap (λ (c : Checked Declared). require 6 q (ltb (length d.families) most_families) >> c) (counts_same q _ (family_after d q (m ∷ p ∷ rest)) (number m) (number p) (λ k. refl))
 
-pub family_many : (t : SoFar) (families : List (List ℕ)) (kinds : List ℕ) (sizes : List (List ℤ)) (at : ℕ) (content : List ℕ) → most_families ≤ t.families → checked_step (Stopped 6 at) families kinds sizes ≡ check_top (read_family at content) (declared_in t families kinds sizes)
-unfolding checked_step require ◌>>◌
+pub family_many : (t : SoFar) (families : List (List ℕ)) (kinds : List ℕ) (sizes : List (List ℤ)) (at : ℕ) (content : List ℕ) → most_families ≤ t.families → refused 6 at ≡ check_top (read_family at content) (declared_in t families kinds sizes)
+unfolding require ◌>>◌
 family_many t families kinds sizes at content h =
     let d = declared_in t families kinds sizes in
     sym (family_is at content d ∙ ap (roomed d at content) (le-ltb (length d.families) most_families (omega (arith, length_rows (signature_at families kinds sizes) t.families 0))))
 
-module _ (t : SoFar) (families : List (List ℕ)) (kinds : List ℕ) (sizes : List (List ℤ)) (program : List ℕ) (at next : ℕ) (room : t.families < most_families) (c : Counts) (e : checked_counts c ≡ counts_in at (slice (at + 3) next program)) where
+module _ (t : SoFar) (families : List (List ℕ)) (kinds : List ℕ) (sizes : List (List ℤ)) (program : List ℕ) (at next : ℕ) (room : t.families < most_families) (c : Result Counts Refusal) (e : checked_counts c ≡ counts_in at (slice (at + 3) next program)) where
   abbrev before : Declared
   before = declared_in t families kinds sizes
 
@@ -133,32 +123,28 @@ module _ (t : SoFar) (families : List (List ℕ)) (kinds : List ℕ) (sizes : Li
       ∙ ap (roomed before at (slice (at + 3) next program)) (lt-ltb (length before.families) most_families (omega (arith, length_rows (signature_at families kinds sizes) t.families 0)))
       ∙ ap (λ (x : Checked (ℕ × ℕ)). x >>= family_after before at (slice (at + 3) next program)) (sym e)
 
-  pub family_bad : (n q : ℕ) (f₁ : List (List ℕ)) (k₁ : List ℕ) (s₁ : List (List ℤ)) → c ≡ Bad n q → checked_step (Stopped n q) f₁ k₁ s₁ ≡ check_top (read_family at (slice (at + 3) next program)) before
+  pub family_bad : (f : Refusal) (f₁ : List (List ℕ)) (k₁ : List ℕ) (s₁ : List (List ℤ)) → c ≡ Err f → checked_step (Err f) f₁ k₁ s₁ ≡ check_top (read_family at (slice (at + 3) next program)) before
   unfolding checked_step checked_counts ◌>>=◌
-  family_bad n q f₁ k₁ s₁ u = sym (family_meant ∙ ap (λ (x : Counts). checked_counts x >>= family_after before at (slice (at + 3) next program)) u)
+  family_bad f f₁ k₁ s₁ u = sym (family_meant ∙ ap (λ (x : Result Counts Refusal). checked_counts x >>= family_after before at (slice (at + 3) next program)) u)
 
-  module _ (m p : ℕ) (u : c ≡ Both m p) (g : Formals) (r : Read) (k₁ : List ℕ) (s₁ : List (List ℤ)) (b : checked_rows g r p t.rows k₁ s₁ ≡ family_in before at m p (fields_at program (at + 5) next)) where
+  module _ (m p : ℕ) (u : c ≡ Ok (record { variables = m; parameters = p })) (g : Formals) (r : Result ℕ Refusal) (k₁ : List ℕ) (s₁ : List (List ℤ)) (b : checked_rows g r p t.rows k₁ s₁ ≡ family_in before at m p (fields_at program (at + 5) next)) where
     abbrev entered : List Kind → Checked Declared
     entered ks = good (with_family before (record { variables = m; parameters = ks }))
 
     family_both : check_top (read_family at (slice (at + 3) next program)) before ≡ (checked_rows g r p t.rows k₁ s₁ >>= entered)
     unfolding checked_counts ◌>>=◌
     family_both =
-        family_meant ∙ ap (λ (x : Counts). checked_counts x >>= family_after before at (slice (at + 3) next program)) u
+        family_meant ∙ ap (λ (x : Result Counts Refusal). checked_counts x >>= family_after before at (slice (at + 3) next program)) u
         ∙ ap (λ (fs : List Field). family_in before at m p fs >>= entered) (two_on program at next)
         ∙ ap (λ (x : Checked (List Kind)). x >>= entered) (sym b)
 
-    pub family_stops : (n q : ℕ) (f₂ : List (List ℕ)) (k₂ : List ℕ) (s₂ : List (List ℤ)) → r ≡ Refused n q → checked_step (Stopped n q) f₂ k₂ s₂ ≡ check_top (read_family at (slice (at + 3) next program)) before
+    pub family_stops : (f : Refusal) (f₂ : List (List ℕ)) (k₂ : List ℕ) (s₂ : List (List ℤ)) → r ≡ Err f → checked_step (Err f) f₂ k₂ s₂ ≡ check_top (read_family at (slice (at + 3) next program)) before
     unfolding checked_step checked_rows ◌>>=◌
-    family_stops n q f₂ k₂ s₂ v = sym (family_both ∙ ap (λ (x : Read). checked_rows g x p t.rows k₁ s₁ >>= entered) v)
+    family_stops f f₂ k₂ s₂ v = sym (family_both ∙ ap (λ (x : Result ℕ Refusal). checked_rows g x p t.rows k₁ s₁ >>= entered) v)
 
-    pub family_goes : OneOf (0 ∷ []) (tag_of the_type r) → good (with_family before (record { variables = m; parameters = kinds_at g p t.rows k₁ s₁ })) ≡ check_top (read_family at (slice (at + 3) next program)) before
+    pub family_goes : (n : ℕ) → r ≡ Ok n → good (with_family before (record { variables = m; parameters = kinds_at g p t.rows k₁ s₁ })) ≡ check_top (read_family at (slice (at + 3) next program)) before
     unfolding checked_rows ◌>>=◌
-    family_goes o = by r o ∙ sym family_both
-      where
-        by : (r : Read) → OneOf (0 ∷ []) (tag_of the_type r) → good (with_family before (record { variables = m; parameters = kinds_at g p t.rows k₁ s₁ })) ≡ (checked_rows g r p t.rows k₁ s₁ >>= entered)
-        by (Upto n) o = refl
-        by (Refused n q) o = absurd (let z : ◌≡◌ {A = ℕ} 1 0 = o in omega arith)
+    family_goes n o = sym (family_both ∙ ap (λ (x : Result ℕ Refusal). checked_rows g x p t.rows k₁ s₁ >>= entered) o)
 
 -- one family more
 module _ (bytes at from next : ℕ) (t : SoFar) (m p : ℕ) {f₀ : List (List ℕ)} {k₀ : List ℕ} {s₀ : List (List ℤ)} {f₁ : List (List ℕ)} {k₁ : List ℕ} {s₁ : List (List ℤ)} (h : DeclaredRight bytes at t f₀ k₀ s₀) (q : at ≤ from) (a : Stays bytes t.rows from t.registers f₀ k₀ s₀ f₁ k₁ s₁) (room : t.families < most_families) (few : m ≤ most_variables) where
@@ -249,24 +235,16 @@ module _ (bytes at from next : ℕ) (t : SoFar) (m p : ℕ) {f₀ : List (List �
           by true e = rw (eqb-true k t.families e, own) (record { few = few; inside = omega (arith, u.few, a.table.kinds_long) })
           by false e = rw (earlier k (eqb-false k t.families e) q, a.kinds_same) (h.rows_right k q)
 
-pub formals_goes : (to : ℕ) (r : Read) (families : List (List ℕ)) (kinds : List ℕ) → OneOf (0 ∷ []) (tag_of the_type r) → FormalsBefore to r families kinds → FormalsIn to families kinds
-formals_goes to (Upto n) families kinds o u = u
-formals_goes to (Refused n p) families kinds o u = absurd (let z : ◌≡◌ {A = ℕ} 1 0 = o in omega arith)
-
-pub formals_upto : (to n : ℕ) (r : Read) (families : List (List ℕ)) (kinds : List ℕ) → r ≡ Upto n → FormalsBefore to r families kinds → FormalsIn to families kinds
+pub formals_upto : (to n : ℕ) (r : Result ℕ Refusal) (families : List (List ℕ)) (kinds : List ℕ) → r ≡ Ok n → FormalsBefore to r families kinds → FormalsIn to families kinds
 formals_upto to n r families kinds e u = rw e at u
 
-pub formals_kept : (to : ℕ) (r : Read) (families : List (List ℕ)) (kinds : List ℕ) → FormalsIn to families kinds → FormalsBefore to r families kinds
-formals_kept to (Upto n) families kinds u = u
-formals_kept to (Refused n p) families kinds u = tt
+pub formals_kept : (to : ℕ) (r : Result ℕ Refusal) (families : List (List ℕ)) (kinds : List ℕ) → FormalsIn to families kinds → FormalsBefore to r families kinds
+formals_kept to (Ok n) families kinds u = u
+formals_kept to (Err e) families kinds u = tt
 
-pub in_use_goes : (rows registers to : ℕ) (r : Read) (kinds : List ℕ) → OneOf (0 ∷ []) (tag_of the_type r) → InUseBefore rows registers to r kinds → InUse rows registers to kinds
-in_use_goes rows registers to (Upto n) kinds o u = u
-in_use_goes rows registers to (Refused n p) kinds o u = absurd (let z : ◌≡◌ {A = ℕ} 1 0 = o in omega arith)
-
-pub before_upto : (rows registers to n : ℕ) (r : Read) (kinds : List ℕ) → r ≡ Upto n → InUseBefore rows registers to r kinds → InUse rows registers to kinds
+pub before_upto : (rows registers to n : ℕ) (r : Result ℕ Refusal) (kinds : List ℕ) → r ≡ Ok n → InUseBefore rows registers to r kinds → InUse rows registers to kinds
 before_upto rows registers to n r kinds e u = rw e at u
 
-pub before_kept : (rows registers to : ℕ) (r : Read) (kinds : List ℕ) → InUse rows registers to kinds → InUseBefore rows registers to r kinds
-before_kept rows registers to (Upto n) kinds u = u
-before_kept rows registers to (Refused n p) kinds u = tt
+pub before_kept : (rows registers to : ℕ) (r : Result ℕ Refusal) (kinds : List ℕ) → InUse rows registers to kinds → InUseBefore rows registers to r kinds
+before_kept rows registers to (Ok n) kinds u = u
+before_kept rows registers to (Err e) kinds u = tt

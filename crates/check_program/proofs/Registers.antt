@@ -16,21 +16,21 @@ use Rattle.kinds.specs.declared.Kind.TheVariants.{Quantum, Classical}
 use Rattle.check_operand.specs.Tables.{Formals, kind_in, size_of_row, kind_at, kinds_at, tabulated}
 use Rattle.check_call.specs.Calls.{formal_at, signature_at}
 use Rattle.check_declaration.specs.Registers.{checked_register, register_in, RegisterRow, RegisterSet}
-use Rattle.check_index.specs.declared.Read.{Read}
-use Rattle.check_index.specs.declared.Read.TheVariants.{Upto, Refused}
+use Rattle.std.specs.Prelude.{Result, Ok, Err}
+use Rattle.refusals.specs.Reasons.{number_of}
+use Rattle.refusals.specs.declared.Refusal.{Refusal}
 use Rattle.check_operand.proofs.Tables.{row_more, length_rows}
 use Rattle.check_program.specs.Declarations.{declared_in, DeclaredRight, checked_step}
 use Rattle.check_program.specs.declared.SoFar.{SoFar}
-use Rattle.check_program.specs.declared.Step.TheVariants.{Going, Stopped}
 use Rattle.check_declaration.proofs.Tables.{rows_below}
 use Rattle.check_declaration.proofs.Formals.{formals_lower}
 use Rattle.check_program.proofs.Scopes.{taken_same, families_above}
 
-pub number_stops : (r : Read) (n q : ℕ) (x : Checked ℕ) (w : ℕ → Declared) → r ≡ Refused n q → checked_register r ≡ x → refused n q ≡ (x >>= λ m. good (w m))
+pub number_stops : (r : Result ℕ Refusal) (f : Refusal) (x : Checked ℕ) (w : ℕ → Declared) → r ≡ Err f → checked_register r ≡ x → refused (number_of f.0) f.1 ≡ (x >>= λ m. good (w m))
 unfolding checked_register ◌>>=◌
-number_stops r n q x w u e = ap (λ (c : Checked ℕ). c >>= λ m. good (w m)) (sym (ap checked_register u) ∙ e)
+number_stops r f x w u e = ap (λ (c : Checked ℕ). c >>= λ m. good (w m)) (sym (ap checked_register u) ∙ e)
 
-pub number_goes : (r : Read) (n : ℕ) (x : Checked ℕ) (w : ℕ → Declared) → r ≡ Upto n → checked_register r ≡ x → good (w n) ≡ (x >>= λ m. good (w m))
+pub number_goes : (r : Result ℕ Refusal) (n : ℕ) (x : Checked ℕ) (w : ℕ → Declared) → r ≡ Ok n → checked_register r ≡ x → good (w n) ≡ (x >>= λ m. good (w m))
 unfolding checked_register ◌>>=◌
 number_goes r n x w u e = ap (λ (c : Checked ℕ). c >>= λ m. good (w m)) (sym (ap checked_register u) ∙ e)
 
@@ -49,14 +49,14 @@ module _ (t : SoFar) (families : List (List ℕ)) (kinds : List ℕ) (sizes : Li
   unfolding read_register check_top_by
   creg_meant = ap (λ (k : ℕ). register_in at k t.bits most_bits content >>= λ n. good (with_bits now n)) registers_now
 
-  module _ (r : Read) where
-    pub qreg_stops : (n q : ℕ) (k₁ : List ℕ) (s₁ : List (List ℤ)) → r ≡ Refused n q → checked_register r ≡ register_in at t.registers t.qubits most_wires content → checked_step (Stopped n q) families k₁ s₁ ≡ check_top (read_register qreg at content) now
+  module _ (r : Result ℕ Refusal) where
+    pub qreg_stops : (f : Refusal) (k₁ : List ℕ) (s₁ : List (List ℤ)) → r ≡ Err f → checked_register r ≡ register_in at t.registers t.qubits most_wires content → checked_step (Err f) families k₁ s₁ ≡ check_top (read_register qreg at content) now
     unfolding checked_step
-    qreg_stops n q k₁ s₁ u e = number_stops r n q _ (with_qubits now) u e ∙ sym qreg_meant
+    qreg_stops f k₁ s₁ u e = number_stops r f _ (with_qubits now) u e ∙ sym qreg_meant
 
-    pub creg_stops : (n q : ℕ) (k₁ : List ℕ) (s₁ : List (List ℤ)) → r ≡ Refused n q → checked_register r ≡ register_in at t.registers t.bits most_bits content → checked_step (Stopped n q) families k₁ s₁ ≡ check_top (read_register creg at content) now
+    pub creg_stops : (f : Refusal) (k₁ : List ℕ) (s₁ : List (List ℤ)) → r ≡ Err f → checked_register r ≡ register_in at t.registers t.bits most_bits content → checked_step (Err f) families k₁ s₁ ≡ check_top (read_register creg at content) now
     unfolding checked_step
-    creg_stops n q k₁ s₁ u e = number_stops r n q _ (with_bits now) u e ∙ sym creg_meant
+    creg_stops f k₁ s₁ u e = number_stops r f _ (with_bits now) u e ∙ sym creg_meant
 
 -- one register more
 module _ (bytes at next : ℕ) (t : SoFar) (families : List (List ℕ)) (n : ℕ) (kind : Kind) (total most : ℕ) {k₀ : List ℕ} {s₀ : List (List ℤ)} {k₁ : List ℕ} {s₁ : List (List ℤ)} (h : DeclaredRight bytes at t families k₀ s₀) (r : RegisterRow bytes next n kind t.registers total most k₀ s₀ k₁ s₁) where
@@ -111,16 +111,16 @@ module _ (bytes at next : ℕ) (t : SoFar) (families : List (List ℕ)) (n : ℕ
         taken = formals_lower bytes t.registers 1 at families h.taken r.apart (omega (arith, h.table.kinds_long)) next j;
       }
 
-module _ (t : SoFar) (families : List (List ℕ)) (k₀ : List ℕ) (s₀ : List (List ℤ)) (bytes next at : ℕ) (content : List ℕ) (r : Read) (n : ℕ) (u : r ≡ Upto n) (h : DeclaredRight bytes at t families k₀ s₀) where
+module _ (t : SoFar) (families : List (List ℕ)) (k₀ : List ℕ) (s₀ : List (List ℤ)) (bytes next at : ℕ) (content : List ℕ) (r : Result ℕ Refusal) (n : ℕ) (u : r ≡ Ok n) (h : DeclaredRight bytes at t families k₀ s₀) where
   pub register_row : (kind : Kind) (count total most : ℕ) (k₁ : List ℕ) (s₁ : List (List ℤ)) → RegisterSet bytes next r kind count total most k₀ s₀ k₁ s₁ → RegisterRow bytes next n kind count total most k₀ s₀ k₁ s₁
   register_row kind count total most k₁ s₁ s = rw u at s
 
   pub qreg_goes : {k₁ : List ℕ} {s₁ : List (List ℤ)} → RegisterRow bytes next n Quantum t.registers t.qubits most_wires k₀ s₀ k₁ s₁ → checked_register r ≡ register_in at t.registers t.qubits most_wires content
-      → checked_step (Going (record { families = t.families; rows = t.rows; registers = t.registers + 1; qubits = t.qubits + n; bits = t.bits })) families k₁ s₁ ≡ check_top (read_register qreg at content) (declared_in t families k₀ s₀)
+      → checked_step (Ok (record { families = t.families; rows = t.rows; registers = t.registers + 1; qubits = t.qubits + n; bits = t.bits })) families k₁ s₁ ≡ check_top (read_register qreg at content) (declared_in t families k₀ s₀)
   unfolding checked_step
   qreg_goes s e = ap good (with_qubits_lem bytes at next t families n Quantum t.qubits most_wires h s refl) ∙ number_goes r n _ (with_qubits (declared_in t families k₀ s₀)) u e ∙ sym (qreg_meant t families k₀ s₀ at content)
 
   pub creg_goes : {k₁ : List ℕ} {s₁ : List (List ℤ)} → RegisterRow bytes next n Classical t.registers t.bits most_bits k₀ s₀ k₁ s₁ → checked_register r ≡ register_in at t.registers t.bits most_bits content
-      → checked_step (Going (record { families = t.families; rows = t.rows; registers = t.registers + 1; qubits = t.qubits; bits = t.bits + n })) families k₁ s₁ ≡ check_top (read_register creg at content) (declared_in t families k₀ s₀)
+      → checked_step (Ok (record { families = t.families; rows = t.rows; registers = t.registers + 1; qubits = t.qubits; bits = t.bits + n })) families k₁ s₁ ≡ check_top (read_register creg at content) (declared_in t families k₀ s₀)
   unfolding checked_step
   creg_goes s e = ap good (with_bits_lem bytes at next t families n Classical t.bits most_bits h s refl) ∙ number_goes r n _ (with_bits (declared_in t families k₀ s₀)) u e ∙ sym (creg_meant t families k₀ s₀ at content)

@@ -9,15 +9,15 @@ use lib.Dec.{ltb}
 use mathlib.Core.Bool.{Bool, true, false}
 use borrow.Author.Tests.{ltb-true, ltb-false}
 use Rattle.language.specs.Check.{Kind, Signature}
-use Rattle.forms.specs.Rows.{Rows, loops_of}
+use Rattle.forms.specs.Rows.{Rows}
 use Rattle.forms.proofs.Laws.{zeros_kept}
 use Rattle.check_operand.specs.Tables.{Formals, kinds_at, tabulated, TablesRight}
-use Rattle.check_call.specs.Calls.{scope_full, FamilyRight, FamiliesRight, formal_at, signature_in, signature_at}
-use Rattle.check_operand.specs.declared.Visible.{Visible}
+use Rattle.check_call.specs.Calls.{FamilyRight, FamiliesRight, formal_at, signature_in, signature_at}
+use Rattle.check_operand.specs.declared.scope.Visible.{Visible}
 use Rattle.check_operand.proofs.Tables.{rows_same}
 use Rattle.language.specs.Limits.{most_families, most_registers, most_variables, most_loops}
 use Rattle.check_declaration.specs.Types.{OperandTable, InUse, Apart, FormalsIn, FamilyTable, Stays}
-use Rattle.check_program.specs.Declarations.{declared_in, DeclaredRight}
+use Rattle.check_program.specs.Declarations.{declared_in, DeclaredRight, scope_in}
 use Rattle.check_program.specs.declared.SoFar.{SoFar}
 use Rattle.check_declaration.proofs.Tables.{in_use_later, rows_above}
 use Rattle.check_declaration.proofs.Formals.{taken_lower, kinds_stay}
@@ -63,9 +63,9 @@ scope_declares bytes rows at registers s families kinds sizes t u b l m r f = re
 abbrev pub top_rows : SoFar → Visible
 top_rows t = record { families = t.families; first = 0; count = t.registers; variables = 0; loops = 0 }
 
-pub top_scope_lem : (t : SoFar) (families : List (List ℕ)) (kinds : List ℕ) (sizes lows highs : List (List ℤ)) → C.top_scope (declared_in t families kinds sizes) ≡ scope_full (top_rows t) families kinds sizes lows highs
-unfolding C.top_scope_by loops_of
-top_scope_lem t families kinds sizes lows highs = refl
+pub top_scope_lem : (t : SoFar) (families : List (List ℕ)) (kinds : List ℕ) (sizes : List (List ℤ)) → C.top_scope (declared_in t families kinds sizes) ≡ scope_in (top_rows t) families kinds sizes
+unfolding C.top_scope_by
+top_scope_lem t families kinds sizes = refl
 
 -- the families so far, in tables where none of their rows changes
 signatures_same : (f : ℕ) (f₀ : List (List ℕ)) (k₀ : List ℕ) (s₀ : List (List ℤ)) (f₁ : List (List ℕ)) (k₁ : List ℕ) (s₁ : List (List ℤ))

@@ -7,8 +7,6 @@ use lib.IntN.{ℤ, pos}
 use lib.ListN.{length, get_or, replicate, length-replicate, get_or-replicate}
 use lib.Seq.{slice, take-length}
 use borrow.Author.Tests.{le-leb, lt-leb}
-use types.Run.{OneOf}
-use denote.Enum.Declared.{tag_of}
 use Rattle.language.specs.Limits.{most_families, most_registers, longest_program}
 use Rattle.check_call.specs.Calls.{FamilyRight}
 use Rattle.check_declaration.specs.Types.{size_row, most_rows, FormalsIn}
@@ -17,30 +15,26 @@ use Rattle.check_declaration.proofs.Formals.{formals_later}
 use Rattle.language.specs.Read.{Field, field, bad_header, fields, choose, read_family, read_register, read_top, read}
 use Rattle.language.specs.Check.{Checked, ◌>>=◌, ◌>>◌, require, Declared, check_top, check_top_by, check_tops, check_tops_by, check}
 use Rattle.language.specs.Tree.{qreg, creg}
-use Rattle.language.specs.Result.{verdict, check_program, check_result}
+use Rattle.language.specs.Result.{turned_down, verdict, check_program, check_result}
 use Rattle.language.specs.Form.{in_range, all_in_range}
 use Rattle.fields.specs.Header.{fields_at}
 use Rattle.fields.proofs.Headers.{Wholly}
 use Rattle.check_operand.specs.Tables.{size_of_row, tabulated}
 use Rattle.check_statement.specs.Statements.{checked_declared}
-use Rattle.check_index.specs.declared.Read.{Read}
-use Rattle.check_index.specs.declared.Read.TheVariants.{Upto, Refused}
-use Rattle.check_index.specs.contracts.Read.{the_type}
+use Rattle.std.specs.Prelude.{Result, Ok, Err}
+use Rattle.refusals.specs.Reasons.{number_of}
+use Rattle.refusals.specs.declared.Refusal.{Refusal}
 use Rattle.check_program.specs.Declarations.{declared_in, DeclaredRight, checked_step, none_so_far, StepRight}
 use Rattle.check_program.specs.declared.SoFar.{SoFar}
-use Rattle.check_program.specs.declared.Step.TheVariants.{Going, Stopped}
 use Rattle.check_program.specs.Answers.{result_told}
-use Rattle.check_program.specs.declared.Step.{Step}
-use Rattle.check_program.specs.declared.Outcome.TheVariants.{Accepted, Turned}
 
-pub kept_refused : (r : Read) (n q : ℕ) (d : Declared) (families : List (List ℕ)) (kinds : List ℕ) (sizes : List (List ℤ)) → r ≡ Refused n q → checked_step (Stopped n q) families kinds sizes ≡ checked_declared r d
+pub kept_refused : (r : Result ℕ Refusal) (f : Refusal) (d : Declared) (families : List (List ℕ)) (kinds : List ℕ) (sizes : List (List ℤ)) → r ≡ Err f → checked_step (Err f) families kinds sizes ≡ checked_declared r d
 unfolding checked_declared checked_step
-kept_refused r n q d families kinds sizes e = sym (ap (λ (x : Read). checked_declared x d) e)
+kept_refused r f d families kinds sizes e = sym (ap (λ (x : Result ℕ Refusal). checked_declared x d) e)
 
-pub kept_going : (r : Read) (t : SoFar) (families : List (List ℕ)) (kinds : List ℕ) (sizes : List (List ℤ)) → OneOf (0 ∷ []) (tag_of the_type r) → checked_step (Going t) families kinds sizes ≡ checked_declared r (declared_in t families kinds sizes)
+pub kept_going : (r : Result ℕ Refusal) (n : ℕ) (t : SoFar) (families : List (List ℕ)) (kinds : List ℕ) (sizes : List (List ℤ)) → r ≡ Ok n → checked_step (Ok t) families kinds sizes ≡ checked_declared r (declared_in t families kinds sizes)
 unfolding checked_declared checked_step
-kept_going (Upto n) t families kinds sizes h = refl
-kept_going (Refused n p) t families kinds sizes h = absurd (let z : ◌≡◌ {A = ℕ} 1 0 = h in omega arith)
+kept_going r n t families kinds sizes h = sym (ap (λ (x : Result ℕ Refusal). checked_declared x (declared_in t families kinds sizes)) h)
 
 module _ (d : Declared) (at next tag : ℕ) (program : List ℕ) where
   abbrev topped : Checked Declared
@@ -62,29 +56,29 @@ abbrev pub tops_at : List ℕ → (at to : ℕ) → Declared → Checked Declare
 tops_at p at to d = check_tops (map read_top (fields_at p at to)) d
 
 module _ (program : List ℕ) (at to : ℕ) (d : Declared) where
-  pub tops_end : fields_at program at to ≡ [] → result_told Accepted ≡ verdict (tops_at program at to d)
-  unfolding check_tops_by result_told verdict
+  pub tops_end : fields_at program at to ≡ [] → turned_down 0 0 ≡ verdict (tops_at program at to d)
+  unfolding check_tops_by verdict
   tops_end e = sym (ap (λ (fs : List Field). verdict (check_tops (map read_top fs) d)) e)
 
-  pub tops_cut : fields_at program at to ≡ (bad_header at ∷ []) → result_told (Turned 2 at) ≡ verdict (tops_at program at to d)
-  unfolding check_tops_by check_top_by read_top result_told verdict ◌>>=◌
+  pub tops_cut : fields_at program at to ≡ (bad_header at ∷ []) → turned_down 2 at ≡ verdict (tops_at program at to d)
+  unfolding check_tops_by check_top_by read_top verdict ◌>>=◌
   tops_cut e = sym (ap (λ (fs : List Field). verdict (check_tops (map read_top fs) d)) e)
 
-  module _ (tag next : ℕ) (w : Wholly program at to tag next) (s : Step) (families : List (List ℕ)) (kinds : List ℕ) (sizes : List (List ℤ))
+  module _ (tag next : ℕ) (w : Wholly program at to tag next) (s : Result SoFar Refusal) (families : List (List ℕ)) (kinds : List ℕ) (sizes : List (List ℤ))
       (e : checked_step s families kinds sizes ≡ check_top (read_top (field at tag (slice (at + 3) next program))) d) where
     tops_next : tops_at program at to d ≡ (checked_step s families kinds sizes >>= tops_at program next to)
     unfolding check_tops_by
     tops_next = ap (λ (fs : List Field). check_tops (map read_top fs) d) w.first ∙ ap (λ (c : Checked Declared). c >>= tops_at program next to) (sym e)
 
-    pub tops_stop : (n q : ℕ) → s ≡ Stopped n q → result_told (Turned n q) ≡ verdict (tops_at program at to d)
+    pub tops_stop : (f : Refusal) → s ≡ Err f → result_told (Err f) ≡ verdict (tops_at program at to d)
     unfolding result_told verdict checked_step ◌>>=◌
-    tops_stop n q u = sym (ap verdict (tops_next ∙ ap (λ (x : Step). checked_step x families kinds sizes >>= tops_at program next to) u))
+    tops_stop f u = sym (ap verdict (tops_next ∙ ap (λ (x : Result SoFar Refusal). checked_step x families kinds sizes >>= tops_at program next to) u))
 
-    pub tops_go : (t : SoFar) → s ≡ Going t → tops_at program at to d ≡ tops_at program next to (declared_in t families kinds sizes)
+    pub tops_go : (t : SoFar) → s ≡ Ok t → tops_at program at to d ≡ tops_at program next to (declared_in t families kinds sizes)
     unfolding checked_step ◌>>=◌
-    tops_go t u = tops_next ∙ ap (λ (x : Step). checked_step x families kinds sizes >>= tops_at program next to) u
+    tops_go t u = tops_next ∙ ap (λ (x : Result SoFar Refusal). checked_step x families kinds sizes >>= tops_at program next to) u
 
-pub step_holds : (bytes next : ℕ) (s : Step) (t : SoFar) (families : List (List ℕ)) (kinds : List ℕ) (sizes : List (List ℤ)) → s ≡ Going t → StepRight bytes next s families kinds sizes → DeclaredRight bytes next t families kinds sizes
+pub step_holds : (bytes next : ℕ) (s : Result SoFar Refusal) (t : SoFar) (families : List (List ℕ)) (kinds : List ℕ) (sizes : List (List ℤ)) → s ≡ Ok t → StepRight bytes next s families kinds sizes → DeclaredRight bytes next t families kinds sizes
 step_holds bytes next s t families kinds sizes e h = rw e at h
 
 pub tops_all : (program : List ℕ) (families : List (List ℕ)) (kinds : List ℕ) (sizes : List (List ℤ)) → check (read program) ≡ tops_at program 0 (length program) (declared_in none_so_far families kinds sizes)
@@ -159,8 +153,8 @@ zeros_hold bytes rows named s k w n = record {
   taken = zero_taken (most_families + named) 0 (replicate rows 0);
 }
 
-pub program_long : (program : List ℕ) → longest_program < length program → result_told (Turned 1 0) ≡ check_result program
-unfolding check_result check_program verdict result_told require ◌>>◌
+pub program_long : (program : List ℕ) → longest_program < length program → turned_down 1 0 ≡ check_result program
+unfolding check_result check_program verdict require ◌>>◌
 program_long program h = sym (rw (lt-leb (length program) longest_program h))
 
 pub program_short : (program : List ℕ) → length program ≤ longest_program → verdict (check (read program)) ≡ check_result program

@@ -4,12 +4,14 @@ use Rattle.language.specs.Limits.{longest_program, most_families, most_registers
 use Rattle.language.specs.Tree.{Place}
 use Rattle.language.specs.Read.{Field, types_of, statements_by, outer_statement}
 use Rattle.language.specs.Check.{Checked, good, refused, Kind, Declared, check_family}
-use Rattle.check_operand.specs.Tables.{kinds_at, tabulated}
+use Rattle.check_operand.specs.Tables.{scope_with, kinds_at, tabulated}
+use Rattle.check_operand.specs.declared.scope.Visible.{Visible}
 use Rattle.check_call.specs.Calls.{formal_at, signature_at, FamilyRight}
 use Rattle.check_program.specs.declared.SoFar.{SoFar}
 use Rattle.refusals.specs.Reasons.{number_of}
 use Rattle.refusals.specs.declared.Refusal.{Refusal}
 use Rattle.check_declaration.specs.Types.{most_rows, OperandTable, InUse, FormalsIn, FamilyTable}
+use Rattle.language.specs.Check as C
 
 -- bytes of a program that is short
 abbrev pub short_program : ℕ
@@ -38,6 +40,10 @@ pub record DeclaredRight (bytes at : ℕ) (t : SoFar) (families : List (List ℕ
 
 abbrev pub none_so_far : SoFar
 none_so_far = record { families = 0; rows = most_registers; registers = 0; qubits = 0; bits = 0 }
+
+-- the scope of rows of the tables, outside loops
+abbrev pub scope_in : Visible → List (List ℕ) → List ℕ → List (List ℤ) → C.Scope
+scope_in s families kinds sizes = scope_with (tabulated (signature_at families kinds sizes) s.families 0) (kinds_at (formal_at families kinds sizes) s.count s.first kinds sizes) s.variables []
 
 -- what the answer on a top field, with the tables, stands for
 unfoldable pub checked_step : Result SoFar Refusal → List (List ℕ) → List ℕ → List (List ℤ) → Checked Declared

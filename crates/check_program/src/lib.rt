@@ -9,15 +9,17 @@ ghost use Rattle.language.specs.Tree.{qreg, creg};
 ghost use Rattle.language.specs.Result.{verdict, check_result};
 ghost use Rattle.language.specs.Limits.{longest_program, most_families, most_variables, most_parameters};
 ghost use Rattle.fields.specs.Header.{fields_at};
-ghost use Rattle.check_call.specs.Calls.{formal_at};
+ghost use Rattle.check_operand.specs.Tables.{TablesRight};
+ghost use Rattle.check_call.specs.Calls.{formal_at, FamiliesRight};
+ghost use Rattle.check_call.specs.Scopes.{scope_full};
 ghost use Rattle.check_declaration.specs.Types.{InUseBefore, checked_rows, FormalsBefore, Stays};
-ghost use Rattle.check_program.specs.Declarations.{short_program, family_in, declared_in, DeclaredRight, checked_step, StepRight, none_so_far};
+ghost use Rattle.check_program.specs.Declarations.{short_program, family_in, declared_in, DeclaredRight, checked_step, StepRight, none_so_far, scope_in};
 ghost use Rattle.check_program.specs.Answers.{result_told};
 
 use check_call::{FamilyRow, FullScope};
 use check_operand::{Scope, Visible};
-use fields::{Header, NoHeader};
-use forms::{FORM_NUMBERS, SIZE_NUMBERS, Size};
+use fields::NoHeader;
+use forms::{FORM_NUMBERS, Form, SIZE_NUMBERS, Size};
 use kinds::Kind;
 use limits::{
     DEEPEST, LONGEST_PROGRAM, MOST_BITS, MOST_FAMILIES, MOST_LOOPS, MOST_REGISTERS, MOST_WIRES,
@@ -51,6 +53,29 @@ pub struct SoFar {
     pub registers: usize,
     pub qubits: usize,
     pub bits: usize,
+}
+
+// The scope of rows of the tables, outside loops.
+fn full_scope<'a>(
+    visible: Visible,
+    families: &'a [FamilyRow],
+    kinds: &'a [u16],
+    sizes: &'a [Size],
+    none: &'a [Form; MOST_LOOPS],
+) -> FullScope<'a>
+    requires no_loops { visible.loops ≡ 0 }
+    requires tables_right { TablesRight visible kinds.now sizes.now none.now none.now }
+    requires families_right { FamiliesRight visible families.now kinds.now }
+    ensures { scope_full result ≡ scope_in visible families.now kinds.now sizes.now }
+{
+    let scope = Scope {
+        visible,
+        kinds,
+        sizes,
+        lows: none,
+        highs: none,
+    };
+    FullScope { scope, families }
 }
 
 // The types and the body of the family at `at`, of m index variables, whose field ends at `next`; the types go to its rows.
@@ -91,20 +116,14 @@ fn family_body(
         sizes,
     )?;
     let none = [[0i64; FORM_NUMBERS]; MOST_LOOPS];
-    let scope = Scope {
-        visible: Visible {
-            families: t.families,
-            first,
-            count: parameters,
-            variables: m,
-            loops: 0,
-        },
-        kinds,
-        sizes,
-        lows: &none,
-        highs: &none,
+    let visible = Visible {
+        families: t.families,
+        first,
+        count: parameters,
+        variables: m,
+        loops: 0,
     };
-    let full = FullScope { scope, families };
+    let full = full_scope(visible, families, kinds, sizes, &none);
     check_statement::list(program, mid, next, DEEPEST, &full)
 }
 
@@ -211,15 +230,15 @@ fn classical_register(
 }
 
 // The top field of a tag at `at`, whose field ends at `next`, which declares nothing.
-fn top_action<'a>(
+fn top_action(
     program: &[u8],
     at: usize,
     next: usize,
     tag: u8,
     t: SoFar,
-    families: &'a [FamilyRow],
-    kinds: &'a [u16],
-    sizes: &'a [Size],
+    families: &[FamilyRow],
+    kinds: &[u16],
+    sizes: &[Size],
 ) -> Result<SoFar, Refusal>
     requires at_bound { (at + 3 ≤ next) × (next ≤ length program.now) }
     requires declared_right { DeclaredRight (length program.now) at t families.now kinds.now sizes.now }
@@ -228,20 +247,14 @@ fn top_action<'a>(
     ensures step_right { StepRight (length program.now) next result families.now kinds.now sizes.now }
 {
     let none = [[0i64; FORM_NUMBERS]; MOST_LOOPS];
-    let scope = Scope {
-        visible: Visible {
-            families: t.families,
-            first: 0,
-            count: t.registers,
-            variables: 0,
-            loops: 0,
-        },
-        kinds,
-        sizes,
-        lows: &none,
-        highs: &none,
+    let visible = Visible {
+        families: t.families,
+        first: 0,
+        count: t.registers,
+        variables: 0,
+        loops: 0,
     };
-    let full = FullScope { scope, families };
+    let full = full_scope(visible, families, kinds, sizes, &none);
     check_statement::action(program, at, next, tag, &full)?;
     Ok(t)
 }
@@ -293,8 +306,9 @@ fn top_fields(
         match fields::header_at(program, at, to) {
             Err(NoHeader::End) => return Ok(()),
             Err(NoHeader::Cut) => return Err(Refusal(Reason::BadHeader, at)),
-            Ok(Header { tag, next }) => {
-                t = top_field(program, at, next, tag, t, families, kinds, sizes)?;
+            Ok(header) => {
+                let next = header.next;
+                t = top_field(program, at, next, header.tag, t, families, kinds, sizes)?;
                 at = next;
             }
         }

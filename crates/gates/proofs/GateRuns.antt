@@ -88,7 +88,7 @@ module _ (mode : Mode) (room : ℕ) (p : Place) (l : List ℕ) (from to : ℕ) (
     pub two_told : on_two_wires mode room p (fields t (slice from to l)) (frame_of d c values ms) k act ≡ (wire_told p r >>= rest)
     two_told = ap (λ (x : Run machine.Wire). x >>= rest) (sym (u p p t d c))
 
-    pub two_none : {k : NoHeader} → look_in l from to ≡ Err k → on_two_wires mode room p (fields t (slice from to l)) (frame_of d c values ms) k act ≡ no_meaning
+    pub two_none : {e : NoHeader} → look_in l from to ≡ Err e → on_two_wires mode room p (fields t (slice from to l)) (frame_of d c values ms) k act ≡ no_meaning
     unfolding wire_told fault_told ◌>>=◌ after
     two_none h = sym (ap (λ (x : Run machine.Wire). x >>= rest) (wire_none l from to values ms h p p t d c))
 

@@ -77,16 +77,18 @@ pub fn on_wires(
     ensures { OnWires single out.old st out.new result mode place (slice from to bytes.now) (frame_in mode (take mode.variables vars.now) scope regs.now) (op_number op) k }
 {
     let many = usize::from(mode.variables);
-    let x = operands::wire_at(bytes, from, to, vars, many, scope, regs)
-        .map_err(|fault| stop(fault, place, st))?;
+    let x = operands::wire_at(bytes, from, to, vars, many, scope, regs).map_err(|fault| stop(
+        fault, place, st,
+    ))?;
     if single {
         return records::write_record(out, st, place, op, x.0, 0, k, mode.condition);
     }
     let Ok(header) = fields::header_at(bytes, from, to) else {
         return Err(Stop::Stuck);
     };
-    let y = operands::wire_at(bytes, header.next, to, vars, many, scope, regs)
-        .map_err(|fault| stop(fault, place, st))?;
+    let y = operands::wire_at(bytes, header.next, to, vars, many, scope, regs).map_err(|fault| stop(
+        fault, place, st,
+    ))?;
     if x.0 == y.0 {
         return Err(Stop::Ended(Reason::OneWireTwice, place as u16, st));
     }
@@ -109,10 +111,7 @@ fn tally(x: i64, y: i64) -> usize
 fn first_value(reversed: bool, x: i64, y: i64) -> i64
     ensures { result ≡ start_of (direction_of reversed) x y }
 {
-    if reversed {
-        return y;
-    }
-    x
+    if reversed { y } else { x }
 }
 
 // How a body runs: from which value on, how often, and where it begins.

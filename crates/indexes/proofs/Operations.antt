@@ -14,6 +14,7 @@ use Rattle.language.specs.Form.{in_range}
 use Rattle.language.specs.Read.{Field, field, bad_header, fields, read_index, index_by, deep_index, choose, due, read_literal, read_variable, operation_of, is_index_tag}
 use Rattle.language.specs.Machine.{Run, evaluate, inside, operate, after, ◌>>=◌, no_meaning}
 use Rattle.std.specs.Prelude.{Result, Ok, Err}
+use Rattle.fields.specs.declared.Header.{Header}
 use Rattle.fields.specs.declared.NoHeader.{NoHeader}
 use Rattle.fields.specs.declared.NoHeader.TheVariants.{End, Cut}
 use Rattle.indexes.specs.declared.Fault.{Fault}
@@ -221,6 +222,41 @@ module _ (l : List ℕ) (from to levels : ℕ) (values : List ℤ) where
     pub right_some : (second end : ℕ) (v : Result ℤ Fault) → look_in l mid to ≡ Ok (record { tag = second; next = end }) → IndexIs second (slice (mid + 3) end l) levels values v
         → (p q : Place) → evaluate p values (right_of levels q (slice from to l)) ≡ value_told p v
     right_some second end v f w p q = rw (right_at q) (part_some levels l mid to values p q (q + 3 + (mid - from)) second end v f w)
+
+-- an operation's field, by what its parts come to
+module _ (tag : ℕ) (l : List ℕ) (from to levels : ℕ) (values : List ℤ) (h : levels ≡ 0 → ⊥) (low : 66 ≤ tag) (high : tag ≤ 68) where
+  abbrev ValueIs : Result ℤ Fault → Type 0
+  ValueIs r = IndexIs tag (slice from to l) levels values r
+
+  -- a part that ends at the header's end
+  abbrev pub PartIs : ℕ → Header → Result ℤ Fault → Type 0
+  PartIs at k r = IndexIs k.tag (slice (at + 3) k.next l) (levels - 1) values r
+
+  pub combined_none : {e : NoHeader} → look_in l from to ≡ Err e → ValueIs (Err Stuck)
+  combined_none e = at_left tag (slice from to l) levels values h low high Stuck (left_none l from to (levels - 1) values e)
+
+  module _ (first : Header) (e : look_in l from to ≡ Ok first) where
+    left_is : (v : Result ℤ Fault) → PartIs from first v → (p q : Place) → evaluate p values (left_of (levels - 1) q (slice from to l)) ≡ value_told p v
+    left_is v w = left_some l from to (levels - 1) values first.tag first.next e v w
+
+    pub combined_left : (f : Fault) → PartIs from first (Err f) → ValueIs (Err f)
+    unfolding value_told
+    combined_left f w = at_left tag (slice from to l) levels values h low high f (left_is (Err f) w)
+
+    module _ (x : ℤ) (w : PartIs from first (Ok x)) where
+      pub combined_cut : {k : NoHeader} → look_in l first.next to ≡ Err k → ValueIs (Err Stuck)
+      combined_cut k = at_right tag (slice from to l) levels values h low high x Stuck (left_is (Ok x) w) (right_none l from to (levels - 1) values first.tag first.next e k)
+
+      module _ (second : Header) (k : look_in l first.next to ≡ Ok second) where
+        right_is : (v : Result ℤ Fault) → PartIs first.next second v → (p q : Place) → evaluate p values (right_of (levels - 1) q (slice from to l)) ≡ value_told p v
+        right_is v u = right_some l from to (levels - 1) values first.tag first.next e second.tag second.next v k u
+
+        pub combined_right : (f : Fault) → PartIs first.next second (Err f) → ValueIs (Err f)
+        unfolding value_told
+        combined_right f u = at_right tag (slice from to l) levels values h low high x f (left_is (Ok x) w) (right_is (Err f) u)
+
+        pub combined_both : (y : ℤ) → PartIs first.next second (Ok y) → (r : Result ℤ Fault) → OperateIs tag x y r → ValueIs r
+        combined_both y u r o = at_both tag (slice from to l) levels values h low high x y (left_is (Ok x) w) (right_is (Ok y) u) r o
 
 pub is_ranged : (tag : ℕ) (l : List ℕ) (levels : ℕ) (values : List ℤ) (x : ℤ) → IndexIs tag l levels values (Ok x) → in_range x ≡ true
 unfolding Ranged

@@ -13,68 +13,62 @@ use Rattle.kinds.specs.declared.Kind as K
 use Rattle.check_index.specs.Answers.{checked_part}
 use Rattle.check_operand.specs.Tables.{kind_in, size_of_row}
 use Rattle.check_operand.proofs.Tables.{kinds_get, kinds_none, length_rows}
-use Rattle.check_call.specs.Calls.{formal_at, signature_in, signature_at, scope_full}
+use Rattle.check_call.specs.Calls.{signature_in}
+use Rattle.check_call.specs.Scopes.{formals_of, signatures_of, scope_full}
 use Rattle.check_call.proofs.Calls.{parameter_beyond, parameter_other, parameter_found}
 use Rattle.check_call.proofs.PassedFamilies.{formal_kind, formal_signature}
-use borrow.Enum.Refused.{opened}
 use Rattle.check_call.proofs.parameter_call.Goals as goal
 
-pub returns-then-s-n : goal.returns-then-s-n
+pub returns-then-full-n : goal.returns-then-full-n
 unfolding checked_part
-returns-then-s-n c =
+returns-then-full-n c =
     let a = c.args in
-    parameter_beyond (scope_full a.s a.families.now a.kinds.now a.sizes.now a.lows.now a.highs.now) a.at a.n (fields_at a.program.now a.from a.next) (kinds_none (formal_at a.families.now a.kinds.now a.sizes.now) a.s.count a.s.first a.n a.kinds.now a.sizes.now c.if-s-n.true)
-
-pub overflow_add-place : goal.overflow_add-place
-overflow_add-place c =
-    let t = c.requires.tables_right.kind_rows in
-    let h = c.if-s-n.false in
-    omega (arith, c.well_formed)
-
-pub offset_bounds-kinds-place : goal.offset_bounds-kinds-place
-offset_bounds-kinds-place c =
-    let t = c.requires.tables_right.kind_rows in
-    let h = c.if-s-n.false in
-    omega (arith, c.well_formed)
-
-pub bounds-kinds-place : goal.bounds-kinds-place
-bounds-kinds-place c =
-    let t = c.requires.tables_right.kind_rows in
-    let h = c.if-s-n.false in
-    omega (arith, c.well_formed)
+    let full = a.full.now in
+    let v = full.scope.visible in
+    let kinds = full.scope.kinds.now in
+    let sizes = full.scope.sizes.now in
+    let formals = formals_of full in
+    let s = scope_full full in
+    parameter_beyond s a.at a.n (fields_at a.program.now a.from a.next) (kinds_none formals v.count v.first a.n kinds sizes c.if-full-n.true)
 
 pub returns-in_default : goal.returns-in_default
 unfolding checked_part
 returns-in_default c =
     let a = c.args in
-    let number = get_or a.kinds.now (a.s.first + a.n) 0 in
-    let size = as_form (widened (get_or a.sizes.now (size_of_row number) [])) in
-    let g = formal_at a.families.now a.kinds.now a.sizes.now (size_of_row number) in
-    parameter_other (scope_full a.s a.families.now a.kinds.now a.sizes.now a.lows.now a.highs.now) a.at a.n (fields_at a.program.now a.from a.next) c.kind_by.result size g (kinds_get (formal_at a.families.now a.kinds.now a.sizes.now) a.s.count a.s.first a.n a.kinds.now a.sizes.now c.if-s-n.false ∙ ap (λ (k : K.Kind). some (kind_in k size g)) (sym c.kind_by.ensures)) (opened c.in_default.in_default-own.keys2)
-
-pub overflow_add-row : goal.overflow_add-row
-overflow_add-row c =
-    let f = c.requires.families_right.rows.formals (c.args.s.first + c.args.n) in
-    omega (arith, c.well_formed, c.size_by-row.ensures)
+    let full = a.full.now in
+    let v = full.scope.visible in
+    let kinds = full.scope.kinds.now in
+    let sizes = full.scope.sizes.now in
+    let formals = formals_of full in
+    let s = scope_full full in
+    let number = get_or kinds (v.first + a.n) 0 in
+    let size = as_form (widened (get_or sizes (size_of_row number) [])) in
+    let g = formals (size_of_row number) in
+    parameter_other s a.at a.n (fields_at a.program.now a.from a.next) c.kind_by.result size g (kinds_get formals v.count v.first a.n kinds sizes c.if-full-n.false ∙ ap (λ (k : K.Kind). some (kind_in k size g)) (sym c.kind_by.ensures)) c.in_default.not-Family
 
 pub call_fits-requires : goal.call_fits-requires
 call_fits-requires c =
     record {
       next_in_bounds = c.requires.next_in_bounds;
-      row_in_bounds = omega (arith, c.size_by-row.ensures, c.requires.families_right.rows.formals (c.args.s.first + c.args.n));
-      tables_right = c.requires.tables_right;
-      families_right = c.requires.families_right;
+      row_in_bounds = omega (arith, c.size_by-row.ensures, c.args.full.now.families_right.rows.formals (c.args.full.now.scope.visible.first + c.args.n));
     }
 
 pub returns : goal.returns
 returns c =
     let a = c.args in
-    let number = get_or a.kinds.now (a.s.first + a.n) 0 in
-    let size = as_form (widened (get_or a.sizes.now (size_of_row number) [])) in
-    let g = formal_at a.families.now a.kinds.now a.sizes.now (size_of_row number) in
+    let full = a.full.now in
+    let v = full.scope.visible in
+    let kinds = full.scope.kinds.now in
+    let sizes = full.scope.sizes.now in
+    let formals = formals_of full in
+    let declared = signatures_of full in
+    let s = scope_full full in
+    let number = get_or kinds (v.first + a.n) 0 in
+    let size = as_form (widened (get_or sizes (size_of_row number) [])) in
+    let g = formals (size_of_row number) in
     let args = map read_argument (fields_at a.program.now a.from a.next) in
-    let f = c.requires.families_right.rows in
+    let f = c.args.full.now.families_right.rows in
     c.call_fits.ensures
-    ∙ ap (λ (x : ℕ). call_fits a.at (scope_full a.s a.families.now a.kinds.now a.sizes.now a.lows.now a.highs.now) a.s.families (signature_in (formal_at a.families.now a.kinds.now a.sizes.now) (get_or a.families.now (4096 + x) []) a.kinds.now a.sizes.now) args) c.size_by-row.ensures
-    ∙ (λ z. call_fits a.at (scope_full a.s a.families.now a.kinds.now a.sizes.now a.lows.now a.highs.now) (sym (length_rows (signature_at a.families.now a.kinds.now a.sizes.now) a.s.families 0) z) (sym (formal_signature (formal_at a.families.now a.kinds.now a.sizes.now) a.kinds.now a.sizes.now (get_or a.families.now (4096 + size_of_row number) []) (f.plain (size_of_row number))) z) args)
-    ∙ parameter_found (scope_full a.s a.families.now a.kinds.now a.sizes.now a.lows.now a.highs.now) a.at a.n (fields_at a.program.now a.from a.next) g (kinds_get (formal_at a.families.now a.kinds.now a.sizes.now) a.s.count a.s.first a.n a.kinds.now a.sizes.now c.if-s-n.false ∙ ap (λ (k : K.Kind). some (kind_in k size g)) (sym c.kind_by.ensures ∙ c.in-Family.is) ∙ ap some (formal_kind size g))
+    ∙ ap (λ (x : ℕ). call_fits a.at s v.families (signature_in formals (get_or full.families.now (4096 + x) []) kinds sizes) args) c.size_by-row.ensures
+    ∙ (λ z. call_fits a.at s (sym (length_rows declared v.families 0) z) (sym (formal_signature formals kinds sizes (get_or full.families.now (4096 + size_of_row number) []) (f.plain (size_of_row number))) z) args)
+    ∙ parameter_found s a.at a.n (fields_at a.program.now a.from a.next) g (kinds_get formals v.count v.first a.n kinds sizes c.if-full-n.false ∙ ap (λ (k : K.Kind). some (kind_in k size g)) (sym c.kind_by.ensures ∙ c.in-Family.is) ∙ ap some (formal_kind size g))

@@ -15,37 +15,46 @@ use Rattle.check_index.specs.Answers.{checked_part}
 use Rattle.check_operand.specs.Tables.{kind_in, size_of_row, kind_by}
 use Rattle.check_operand.proofs.Tables.{row_get, row_none}
 use Rattle.check_operand.proofs.Passed.{two_first}
-use Rattle.check_call.specs.Calls.{formal_at, signature_at, scope_full}
+use Rattle.check_call.specs.Scopes.{formals_of, signatures_of, scope_full}
 use Rattle.check_call.proofs.PassedFamilies.{late_cut, late_beyond, late, late_long, late_good, not_due, family_due}
-use borrow.Enum.Refused.{opened}
 use Rattle.check_call.proofs.passed.Goals as goal
 
 pub returns-then-next-from-lt2 : goal.returns-then-next-from-lt2
 unfolding checked_part
 returns-then-next-from-lt2 c =
     let a = c.args in
+    let full = a.full.now in
+    let sizes = full.scope.sizes.now in
+    let formals = formals_of full in
+    let s = scope_full full in
     let program = a.program.now in
     let from = a.at + 3 in
     let h = length-slice from a.next program c.requires.at_bound.1 in
     let q = c.if-next-from-lt2.true in
     record {
-      result_value = λ forms lows highs. late_cut (scope_full a.s a.families.now a.kinds.now a.sizes.now lows highs) a.before forms (kind_by (formal_at a.families.now a.kinds.now a.sizes.now) a.number a.sizes.now) a.at (slice from a.next program) (omega arith);
+      result_value = λ forms. late_cut s a.before forms (kind_by formals a.number sizes) a.at (slice from a.next program) (omega arith);
       ends_at = tt;
     }
 
-pub returns-then-s-named : goal.returns-then-s-named
+pub returns-then-full-named : goal.returns-then-full-named
 unfolding checked_part
-returns-then-s-named c =
+returns-then-full-named c =
     let a = c.args in
+    let full = a.full.now in
+    let v = full.scope.visible in
+    let sizes = full.scope.sizes.now in
+    let formals = formals_of full in
+    let declared = signatures_of full in
+    let s = scope_full full in
     let program = a.program.now in
     let from = a.at + 3 in
     let q = c.if-next-from-lt2.false in
     let e = two_first from a.next program (omega arith) c.requires.at_bound.1 in
-    let v = c.two_bytes-named.ensures.0 in
+    let w = c.two_bytes-named.ensures.0 in
     let n = two_bytes (get_or program from 0) (get_or program (from + 1) 0) in
-    let b = c.if-s-named.true in
+    let b = c.if-full-named.true in
     record {
-      result_value = λ forms lows highs. late_beyond (scope_full a.s a.families.now a.kinds.now a.sizes.now lows highs) a.before forms (kind_by (formal_at a.families.now a.kinds.now a.sizes.now) a.number a.sizes.now) a.at (slice from a.next program) (get_or program from 0) (get_or program (from + 1) 0) (slice (from + 2) a.next program) e (row_none (signature_at a.families.now a.kinds.now a.sizes.now) a.s.families 0 n (omega arith));
+      result_value = λ forms. late_beyond s a.before forms (kind_by formals a.number sizes) a.at (slice from a.next program) (get_or program from 0) (get_or program (from + 1) 0) (slice (from + 2) a.next program) e (row_none declared v.families 0 n (omega arith));
       ends_at = tt;
     }
 
@@ -53,16 +62,22 @@ pub returns-then-before-named : goal.returns-then-before-named
 unfolding checked_part
 returns-then-before-named c =
     let a = c.args in
+    let full = a.full.now in
+    let v = full.scope.visible in
+    let sizes = full.scope.sizes.now in
+    let formals = formals_of full in
+    let declared = signatures_of full in
+    let s = scope_full full in
     let program = a.program.now in
     let from = a.at + 3 in
     let q = c.if-next-from-lt2.false in
     let e = two_first from a.next program (omega arith) c.requires.at_bound.1 in
-    let v = c.two_bytes-named.ensures.0 in
+    let w = c.two_bytes-named.ensures.0 in
     let n = two_bytes (get_or program from 0) (get_or program (from + 1) 0) in
-    let b = c.if-s-named.false in
+    let b = c.if-full-named.false in
     let l = c.if-before-named.true in
     record {
-      result_value = λ forms lows highs. late (scope_full a.s a.families.now a.kinds.now a.sizes.now lows highs) a.before forms (kind_by (formal_at a.families.now a.kinds.now a.sizes.now) a.number a.sizes.now) a.at (slice from a.next program) (get_or program from 0) (get_or program (from + 1) 0) (slice (from + 2) a.next program) e (signature_at a.families.now a.kinds.now a.sizes.now (0 + n)) (row_get (signature_at a.families.now a.kinds.now a.sizes.now) a.s.families 0 n (omega arith)) (omega arith);
+      result_value = λ forms. late s a.before forms (kind_by formals a.number sizes) a.at (slice from a.next program) (get_or program from 0) (get_or program (from + 1) 0) (slice (from + 2) a.next program) e (declared (0 + n)) (row_get declared v.families 0 n (omega arith)) (omega arith);
       ends_at = tt;
     }
 
@@ -70,18 +85,24 @@ pub returns-then-next-from-ne2 : goal.returns-then-next-from-ne2
 unfolding checked_part
 returns-then-next-from-ne2 c =
     let a = c.args in
+    let full = a.full.now in
+    let v = full.scope.visible in
+    let sizes = full.scope.sizes.now in
+    let formals = formals_of full in
+    let declared = signatures_of full in
+    let s = scope_full full in
     let program = a.program.now in
     let from = a.at + 3 in
     let q = c.if-next-from-lt2.false in
     let e = two_first from a.next program (omega arith) c.requires.at_bound.1 in
-    let v = c.two_bytes-named.ensures.0 in
+    let w = c.two_bytes-named.ensures.0 in
     let n = two_bytes (get_or program from 0) (get_or program (from + 1) 0) in
-    let b = c.if-s-named.false in
+    let b = c.if-full-named.false in
     let l = c.if-before-named.false in
     let h = length-slice (from + 2) a.next program c.requires.at_bound.1 in
     let t = c.if-next-from-ne2.true in
     record {
-      result_value = λ forms lows highs. late_long (scope_full a.s a.families.now a.kinds.now a.sizes.now lows highs) a.before forms (kind_by (formal_at a.families.now a.kinds.now a.sizes.now) a.number a.sizes.now) a.at (slice from a.next program) (get_or program from 0) (get_or program (from + 1) 0) (slice (from + 2) a.next program) e (signature_at a.families.now a.kinds.now a.sizes.now (0 + n)) (row_get (signature_at a.families.now a.kinds.now a.sizes.now) a.s.families 0 n (omega arith)) (omega arith) (λ z. t (omega arith));
+      result_value = λ forms. late_long s a.before forms (kind_by formals a.number sizes) a.at (slice from a.next program) (get_or program from 0) (get_or program (from + 1) 0) (slice (from + 2) a.next program) e (declared (0 + n)) (row_get declared v.families 0 n (omega arith)) (omega arith) (λ z. t (omega arith));
       ends_at = tt;
     }
 
@@ -89,52 +110,62 @@ pub returns-in_default : goal.returns-in_default
 unfolding checked_part
 returns-in_default c =
     let a = c.args in
+    let full = a.full.now in
+    let v = full.scope.visible in
+    let sizes = full.scope.sizes.now in
+    let formals = formals_of full in
+    let declared = signatures_of full in
+    let s = scope_full full in
     let program = a.program.now in
     let from = a.at + 3 in
     let q = c.if-next-from-lt2.false in
     let e = two_first from a.next program (omega arith) c.requires.at_bound.1 in
-    let v = c.two_bytes-named.ensures.0 in
+    let w = c.two_bytes-named.ensures.0 in
     let n = two_bytes (get_or program from 0) (get_or program (from + 1) 0) in
-    let b = c.if-s-named.false in
+    let b = c.if-full-named.false in
     let l = c.if-before-named.false in
     let y = c.if-next-from-ne2.false in
-    let size = as_form (widened (get_or a.sizes.now (size_of_row a.number) [])) in
-    let g = formal_at a.families.now a.kinds.now a.sizes.now (size_of_row a.number) in record {
-      result_value = λ forms lows highs. not_due a.at forms c.kind_by.result size g (signature_at a.families.now a.kinds.now a.sizes.now (0 + n)) (opened c.in_default.in_default-own.keys2)
-          ∙ ap (λ (k : Kind). family_fits a.at (taken forms (kind_in k size g)) (signature_at a.families.now a.kinds.now a.sizes.now (0 + n))) c.kind_by.ensures
-          ∙ late_good (scope_full a.s a.families.now a.kinds.now a.sizes.now lows highs) a.before forms (kind_by (formal_at a.families.now a.kinds.now a.sizes.now) a.number a.sizes.now) a.at (slice from a.next program) (get_or program from 0) (get_or program (from + 1) 0) (slice (from + 2) a.next program) e (signature_at a.families.now a.kinds.now a.sizes.now (0 + n)) (row_get (signature_at a.families.now a.kinds.now a.sizes.now) a.s.families 0 n (omega arith)) (omega arith) (slice_none (from + 2) a.next program (omega arith));
+    let size = as_form (widened (get_or sizes (size_of_row a.number) [])) in
+    let g = formals (size_of_row a.number) in record {
+      result_value = λ forms. not_due a.at forms c.kind_by.result size g (declared (0 + n)) c.in_default.not-Family
+          ∙ ap (λ (k : Kind). family_fits a.at (taken forms (kind_in k size g)) (declared (0 + n))) c.kind_by.ensures
+          ∙ late_good s a.before forms (kind_by formals a.number sizes) a.at (slice from a.next program) (get_or program from 0) (get_or program (from + 1) 0) (slice (from + 2) a.next program) e (declared (0 + n)) (row_get declared v.families 0 n (omega arith)) (omega arith) (slice_none (from + 2) a.next program (omega arith));
       ends_at = tt;
     }
 
 pub family_fits-requires : goal.family_fits-requires
 family_fits-requires c =
-    let f = c.requires.families_le_most_families in
-    let b = c.if-s-named.false in
+    let f = c.args.full.now.families_right.few in
+    let b = c.if-full-named.false in
     record {
       n_lt_most_families = omega arith;
       formal_in_bounds = omega (arith, c.requires.number_in_bounds, c.size_by-formal.ensures);
-      family_rows = c.requires.family_rows;
-      sizes_right = c.requires.sizes_right;
     }
 
 pub returns : goal.returns
 returns c =
     let a = c.args in
+    let full = a.full.now in
+    let v = full.scope.visible in
+    let sizes = full.scope.sizes.now in
+    let formals = formals_of full in
+    let declared = signatures_of full in
+    let s = scope_full full in
     let program = a.program.now in
     let from = a.at + 3 in
     let q = c.if-next-from-lt2.false in
     let e = two_first from a.next program (omega arith) c.requires.at_bound.1 in
-    let v = c.two_bytes-named.ensures.0 in
+    let w = c.two_bytes-named.ensures.0 in
     let n = two_bytes (get_or program from 0) (get_or program (from + 1) 0) in
-    let b = c.if-s-named.false in
+    let b = c.if-full-named.false in
     let l = c.if-before-named.false in
     let y = c.if-next-from-ne2.false in
-    let size = as_form (widened (get_or a.sizes.now (size_of_row a.number) [])) in
-    let g = formal_at a.families.now a.kinds.now a.sizes.now (size_of_row a.number) in record {
-      result_value = λ forms lows highs. c.family_fits.ensures.result_value
-          ∙ (λ z. family_fits a.at (fitting (formal_at a.families.now a.kinds.now a.sizes.now (c.size_by-formal.ensures z))) (signature_at a.families.now a.kinds.now a.sizes.now ((v ∙ sym (zero-add n)) z)))
-          ∙ family_due a.at forms size g (signature_at a.families.now a.kinds.now a.sizes.now (0 + n))
-          ∙ ap (λ (k : Kind). family_fits a.at (taken forms (kind_in k size g)) (signature_at a.families.now a.kinds.now a.sizes.now (0 + n))) (sym c.in-Family.is ∙ c.kind_by.ensures)
-          ∙ late_good (scope_full a.s a.families.now a.kinds.now a.sizes.now lows highs) a.before forms (kind_by (formal_at a.families.now a.kinds.now a.sizes.now) a.number a.sizes.now) a.at (slice from a.next program) (get_or program from 0) (get_or program (from + 1) 0) (slice (from + 2) a.next program) e (signature_at a.families.now a.kinds.now a.sizes.now (0 + n)) (row_get (signature_at a.families.now a.kinds.now a.sizes.now) a.s.families 0 n (omega arith)) (omega arith) (slice_none (from + 2) a.next program (omega arith));
+    let size = as_form (widened (get_or sizes (size_of_row a.number) [])) in
+    let g = formals (size_of_row a.number) in record {
+      result_value = λ forms. c.family_fits.ensures.result_value
+          ∙ (λ z. family_fits a.at (fitting (formals (c.size_by-formal.ensures z))) (declared ((w ∙ sym (zero-add n)) z)))
+          ∙ family_due a.at forms size g (declared (0 + n))
+          ∙ ap (λ (k : Kind). family_fits a.at (taken forms (kind_in k size g)) (declared (0 + n))) (sym c.in-Family.is ∙ c.kind_by.ensures)
+          ∙ late_good s a.before forms (kind_by formals a.number sizes) a.at (slice from a.next program) (get_or program from 0) (get_or program (from + 1) 0) (slice (from + 2) a.next program) e (declared (0 + n)) (row_get declared v.families 0 n (omega arith)) (omega arith) (slice_none (from + 2) a.next program (omega arith));
       ends_at = c.family_fits.ensures.ends_at;
     }

@@ -13,48 +13,11 @@ use Rattle.check_operand.proofs.Tables.{row_drop}
 use Rattle.check_call.specs.Calls.{plain_in, plain_by, plains_at}
 use Rattle.check_call.proofs.Calls.{drop_end}
 use Rattle.check_call.proofs.PassedFamilies.{first_differs, first_same}
-use borrow.Author.Tests.{not-true, not-false}
 use Rattle.check_call.proofs.same_kinds.Goals as goal
 
 pub loop-i-init : goal.loop-i-init
 loop-i-init c =
     (omega arith, λ formals sizes. refl)
-
-pub overflow_add-f : goal.overflow_add-f
-overflow_add-f c =
-    let h = c.loop-i-test.true in
-    let f = c.requires.count_in_bounds in
-    omega (arith, c.well_formed)
-
-pub overflow_add-a : goal.overflow_add-a
-overflow_add-a c =
-    let h = c.loop-i-test.true in
-    let f = c.requires.count_in_bounds in
-    omega (arith, c.well_formed)
-
-pub offset_bounds-kinds-f : goal.offset_bounds-kinds-f
-offset_bounds-kinds-f c =
-    let h = c.loop-i-test.true in
-    let f = c.requires.count_in_bounds in
-    omega (arith, c.well_formed)
-
-pub bounds-kinds-f : goal.bounds-kinds-f
-bounds-kinds-f c =
-    let h = c.loop-i-test.true in
-    let f = c.requires.count_in_bounds in
-    omega (arith, c.well_formed)
-
-pub offset_bounds-kinds-a : goal.offset_bounds-kinds-a
-offset_bounds-kinds-a c =
-    let h = c.loop-i-test.true in
-    let f = c.requires.count_in_bounds in
-    omega (arith, c.well_formed)
-
-pub bounds-kinds-a : goal.bounds-kinds-a
-bounds-kinds-a c =
-    let h = c.loop-i-test.true in
-    let f = c.requires.count_in_bounds in
-    omega (arith, c.well_formed)
 
 pub returns-then-not-same_kind : goal.returns-then-not-same_kind
 returns-then-not-same_kind c =
@@ -64,7 +27,7 @@ returns-then-not-same_kind c =
     let x : (formals : Formals) (sizes : List (List ℤ)) → c.same_kind.result ≡ same_kind (plain_by (get_or ks (a.formal + i.i) 0) sizes) (kind_at formals (a.actual + i.i) ks sizes) = λ formals sizes. c.same_kind.ensures (as_form (widened (get_or sizes (size_of_row (get_or ks (a.formal + i.i) 0)) []))) (as_form (widened (get_or sizes (size_of_row (get_or ks (a.actual + i.i) 0)) []))) (formals (size_of_row (get_or ks (a.actual + i.i) 0))) ∙ (λ z. same_kind (plain_in (c.kind_by-wanted.ensures z) (as_form (widened (get_or sizes (size_of_row (get_or ks (a.formal + i.i) 0)) [])))) (kind_in (c.kind_by-given.ensures z) (as_form (widened (get_or sizes (size_of_row (get_or ks (a.actual + i.i) 0)) []))) (formals (size_of_row (get_or ks (a.actual + i.i) 0))))) in
     (λ formals sizes. sym (i.invariant.1 formals sizes
     ∙ (λ z. same_kinds (row_drop (λ (j : ℕ). plain_by (get_or ks j 0) sizes) a.count a.formal i.i c.loop-i-test.true z) (row_drop (λ (j : ℕ). kind_at formals j ks sizes) a.count a.actual i.i c.loop-i-test.true z))
-    ∙ first_differs (plain_by (get_or ks (a.formal + i.i) 0) sizes) (drop (suc i.i) (plains_at a.count a.formal ks sizes)) (kind_at formals (a.actual + i.i) ks sizes) (drop (suc i.i) (kinds_at formals a.count a.actual ks sizes)) (sym (x formals sizes) ∙ not-true c.same_kind.result c.if-not-same_kind.true-raw)))
+    ∙ first_differs (plain_by (get_or ks (a.formal + i.i) 0) sizes) (drop (suc i.i) (plains_at a.count a.formal ks sizes)) (kind_at formals (a.actual + i.i) ks sizes) (drop (suc i.i) (kinds_at formals a.count a.actual ks sizes)) (sym (x formals sizes) ∙ c.if-not-same_kind.true)))
 
 pub loop-i-preserved : goal.loop-i-preserved
 loop-i-preserved c =
@@ -76,7 +39,7 @@ loop-i-preserved c =
       omega arith,
       λ formals sizes. i.invariant.1 formals sizes
           ∙ (λ z. same_kinds (row_drop (λ (j : ℕ). plain_by (get_or ks j 0) sizes) a.count a.formal i.i c.loop-i-test.true z) (row_drop (λ (j : ℕ). kind_at formals j ks sizes) a.count a.actual i.i c.loop-i-test.true z))
-          ∙ first_same (plain_by (get_or ks (a.formal + i.i) 0) sizes) (drop (suc i.i) (plains_at a.count a.formal ks sizes)) (kind_at formals (a.actual + i.i) ks sizes) (drop (suc i.i) (kinds_at formals a.count a.actual ks sizes)) (sym (x formals sizes) ∙ not-false c.same_kind.result c.if-not-same_kind.false-raw)
+          ∙ first_same (plain_by (get_or ks (a.formal + i.i) 0) sizes) (drop (suc i.i) (plains_at a.count a.formal ks sizes)) (kind_at formals (a.actual + i.i) ks sizes) (drop (suc i.i) (kinds_at formals a.count a.actual ks sizes)) (sym (x formals sizes) ∙ c.if-not-same_kind.false)
           ∙ rw add-one refl,
     )
 

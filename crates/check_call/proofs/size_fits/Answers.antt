@@ -11,7 +11,6 @@ use Rattle.check_index.specs.Answers.{checked_part}
 use Rattle.check_operand.specs.Tables.{kind_in, size_of_row, kind_by}
 use Rattle.check_call.specs.Calls.{plain_in, plain_by}
 use Rattle.check_call.proofs.PassedFamilies.{no_formal, no_actual, both_sizes}
-use borrow.Enum.Refused.{opened}
 use Rattle.check_call.proofs.size_fits.Goals as goal
 
 pub returns-in_default : goal.returns-in_default
@@ -21,7 +20,7 @@ returns-in_default c =
     let sizes = a.sizes.now in
     let f = as_form (widened (get_or sizes (size_of_row a.formal) [])) in
     record {
-      result_value = λ formals. no_formal a.at a.m f (plain_size (kind_by formals a.actual sizes)) c.kind_by.result (opened c.in_default.in_default-own.keys2) ∙ ap (λ (k : Kind). size_fits a.at a.m (plain_in k f) (plain_size (kind_by formals a.actual sizes))) c.kind_by.ensures;
+      result_value = λ formals. no_formal a.at a.m f (plain_size (kind_by formals a.actual sizes)) c.kind_by.result c.in_default.not-Quantum ∙ ap (λ (k : Kind). size_fits a.at a.m (plain_in k f) (plain_size (kind_by formals a.actual sizes))) c.kind_by.ensures;
       ends_at = refl;
     }
 
@@ -32,25 +31,9 @@ returns-in_default-kind_by c =
     let sizes = a.sizes.now in
     let g = as_form (widened (get_or sizes (size_of_row a.actual) [])) in
     record {
-      result_value = λ formals. no_actual a.at a.m (plain_by a.formal sizes) g (formals (size_of_row a.actual)) c.kind_by-2.result (opened c.in_default-kind_by.in_default-kind_by-own.keys2) ∙ ap (λ (k : Kind). size_fits a.at a.m (plain_by a.formal sizes) (plain_size (kind_in k g (formals (size_of_row a.actual))))) c.kind_by-2.ensures;
+      result_value = λ formals. no_actual a.at a.m (plain_by a.formal sizes) g (formals (size_of_row a.actual)) c.kind_by-2.result c.in_default-kind_by.not-Quantum ∙ ap (λ (k : Kind). size_fits a.at a.m (plain_by a.formal sizes) (plain_size (kind_in k g (formals (size_of_row a.actual))))) c.kind_by-2.ensures;
       ends_at = refl;
     }
-
-pub offset_bounds-sizes-wanted : goal.offset_bounds-sizes-wanted
-offset_bounds-sizes-wanted c =
-    omega (arith, c.well_formed, c.size_by-wanted.ensures, c.requires.formal_in_bounds.0)
-
-pub bounds-sizes-wanted : goal.bounds-sizes-wanted
-bounds-sizes-wanted c =
-    omega (arith, c.well_formed, c.size_by-wanted.ensures, c.requires.formal_in_bounds.0)
-
-pub offset_bounds-sizes-given : goal.offset_bounds-sizes-given
-offset_bounds-sizes-given c =
-    omega (arith, c.well_formed, c.size_by-given.ensures, c.requires.formal_in_bounds.1)
-
-pub bounds-sizes-given : goal.bounds-sizes-given
-bounds-sizes-given c =
-    omega (arith, c.well_formed, c.size_by-given.ensures, c.requires.formal_in_bounds.1)
 
 pub at_least-requires : goal.at_least-requires
 at_least-requires c =

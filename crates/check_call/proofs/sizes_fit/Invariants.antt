@@ -9,7 +9,7 @@ use Rattle.check_call.proofs.sizes_fit.Given as goal
 
 abbrev pub invariant-loop-i : goal.invariant-loop-i
 invariant-loop-i l =
-    (l.i ≤ l.count) × ((formals : Formals) → sizes_fit l.at l.m (plains_at l.count l.formal l.kinds l.sizes) (kinds_at formals l.count l.actual l.kinds l.sizes) ≡ sizes_fit l.at l.m (drop l.i (plains_at l.count l.formal l.kinds l.sizes)) (drop l.i (kinds_at formals l.count l.actual l.kinds l.sizes)))
+    (l.i ≤ l.count) × ((formals : Formals) → sizes_fit l.at l.m (plains_at l.count l.formal l.scope.kinds.now l.scope.sizes.now) (kinds_at formals l.count l.actual l.scope.kinds.now l.scope.sizes.now) ≡ sizes_fit l.at l.m (drop l.i (plains_at l.count l.formal l.scope.kinds.now l.scope.sizes.now)) (drop l.i (kinds_at formals l.count l.actual l.scope.kinds.now l.scope.sizes.now)))
 
 abbrev pub decreases-loop-i : goal.decreases-loop-i
 decreases-loop-i l =

@@ -1,11 +1,9 @@
 -- `check_operand::at_least` meets its contract. Assumes nothing.
 use mathlib.Core.Path.{ap, ◌∙◌}
-use native.Mathlib.Omega.{arith}
 use Rattle.language.specs.Form.{difference_of, ◌then_build◌}
 use Rattle.language.specs.Check.{by_showing, must_show, size_scope}
 use Rattle.forms.specs.Flat.{as_form, built_of}
 use Rattle.forms.specs.Rows.{loops_of}
-use Rattle.check_operand.proofs.Tables.{no_rows}
 use Rattle.check_operand.proofs.at_least.Goals as goal
 
 pub large_enough-requires : goal.large_enough-requires

@@ -15,7 +15,6 @@ use Rattle.fields.specs.Header.{fields_at}
 use Rattle.fields.proofs.Headers.{one_byte, slice_none}
 use Rattle.forms.specs.Flat.{widened, as_form}
 use Rattle.forms.specs.Rows.{loops_of}
-use Rattle.forms.proofs.Laws.{fewer}
 use Rattle.check_index.specs.Answers.{checked_part}
 use Rattle.check_operand.specs.Tables.{Known, kind_in, tabulated, kind_of_row, size_of_row, kind_at, kinds_at}
 use Rattle.check_operand.specs.Scopes.{scope_at}

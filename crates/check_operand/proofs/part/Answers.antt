@@ -10,7 +10,6 @@ use Rattle.language.specs.Check.{slice_fits, Due, Kind, Scope}
 use Rattle.fields.specs.Header.{fields_at}
 use Rattle.fields.proofs.Headers.{one_byte, slice_none}
 use Rattle.forms.specs.Flat.{widened, as_form}
-use Rattle.forms.proofs.Laws.{fewer}
 use Rattle.check_index.specs.Answers.{checked_part}
 use Rattle.check_operand.specs.Tables.{Known, kind_in, tabulated, kind_at, kinds_at}
 use Rattle.check_operand.specs.Scopes.{scope_at}

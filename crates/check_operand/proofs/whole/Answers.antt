@@ -13,7 +13,6 @@ use Rattle.check_index.specs.Answers.{checked_part}
 use Rattle.check_operand.specs.Tables.{Known, kind_in, tabulated, kind_at, kinds_at}
 use Rattle.check_operand.specs.Scopes.{scope_at}
 use Rattle.check_operand.specs.Operands.{wanted_of}
-use Rattle.forms.proofs.Laws.{fewer}
 use Rattle.check_operand.proofs.Operands.{whole_none, whole_beyond, whole_long, whole_good}
 use Rattle.check_operand.proofs.Tables.{same_scope, kinds_get, kinds_none}
 use Rattle.check_operand.proofs.whole.Goals as goal

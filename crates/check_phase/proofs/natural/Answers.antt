@@ -25,7 +25,7 @@ pub index-requires : goal.index-requires
 index-requires c =
     let s = c.args.scope.now.right in
     let q = s.few in let t = s.nested in record {
-      to_in_bounds = c.requires;
+      to_in_bounds = c.requires.next_in_bounds;
       variables_le_all_variables = omega arith;
     }
 
@@ -43,14 +43,14 @@ returns-in_err-mid c =
 pub must_show-requires : goal.must_show-requires
 must_show-requires c =
     let a = c.args in
-    (form_passes_upto a.program.now a.from a.next c.index.result c.index.new.f c.in_ok-mid.mid c.in_ok-mid.was c.index.ensures.form_passes).1
+    record { kept = (form_passes_upto a.program.now a.from a.next c.index.result c.index.new.f c.in_ok-mid.mid c.in_ok-mid.was c.index.ensures.form_passes).1 }
 
 pub returns : goal.returns
 returns c =
     let a = c.args in
     let program = a.program.now in
     let s = a.scope.now in
-    let r = c.ranges.ensures in
+    let r = c.ranges-2.ensures in
     let l = c.index.new.f in
     let i = due outer_index (bad_index 4 a.at) (fields_at program a.from a.next) in
     let mid = c.in_ok-mid.mid in
@@ -59,6 +59,6 @@ returns c =
     let ks : Known → List Kind = λ k. kinds_at k.formals s.visible.count s.visible.first s.kinds.now s.sizes.now in
     record {
       result_value = (λ k. c.must_show.ensures.result_value (fs k) (ks k) ∙ ap (λ (x : Scope). must_show a.from x (built (as_form l))) (same_scope (fs k) (ks k) r.variables r.loops r.lows r.highs)
-          ∙ natural_shows (scope_at k s) program a.from a.next a.at c.index.result l mid (c.index.ensures.f_after ∙ scope_forms (fs k) (ks k) s.visible.variables s.visible.loops s.lows.now s.highs.now i) c.in_ok-mid.was v.0 c.requires);
+          ∙ natural_shows (scope_at k s) program a.from a.next a.at c.index.result l mid (c.index.ensures.f_after ∙ scope_forms (fs k) (ks k) s.visible.variables s.visible.loops s.lows.now s.highs.now i) c.in_ok-mid.was v.0 c.requires.next_in_bounds);
       passes = passes_ends program a.from a.next mid c.must_show.result v.0 c.must_show.ensures.ends_at;
     }

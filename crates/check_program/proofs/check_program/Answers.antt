@@ -1,9 +1,11 @@
 -- `check_program::check_program` meets its contract. Assumes nothing.
 use mathlib.Core.Path.{◌∙◌}
+use Rattle.check_program.specs.Answers.{result_told}
 use Rattle.check_program.proofs.TopFields.{program_long, program_short}
 use Rattle.check_program.proofs.check_program.Goals as goal
 
 pub returns-then-program-gt-LONGEST_PROGRAM : goal.returns-then-program-gt-LONGEST_PROGRAM
+unfolding result_told
 returns-then-program-gt-LONGEST_PROGRAM c =
     program_long c.args.program.now c.if-program-gt-LONGEST_PROGRAM.true
 

@@ -9,10 +9,12 @@ use Rattle.language.specs.Check.{good}
 use Rattle.check_call.specs.Calls.{formal_at}
 use Rattle.check_declaration.proofs.FamilyTypes.{both_right}
 use Rattle.check_program.specs.Declarations.{checked_step}
-use Rattle.check_program.proofs.Families.{family_many, family_bad, family_stops, family_goes, with_family_lem, holds_family, in_use_goes, formals_goes}
+use Rattle.check_program.proofs.Families.{family_many, family_bad, family_stops, family_goes, with_family_lem, holds_family, before_upto, formals_upto}
+use Rattle.refusals.proofs.Handed.{handed}
 use Rattle.check_program.proofs.family.Goals as goal
 
 pub returns-then-n-ge-MOST_FAMILIES : goal.returns-then-n-ge-MOST_FAMILIES
+unfolding checked_step
 returns-then-n-ge-MOST_FAMILIES c =
     let a = c.args in
     record {
@@ -20,292 +22,45 @@ returns-then-n-ge-MOST_FAMILIES c =
       step_right = tt;
     }
 
-pub family_body-requires : goal.family_body-requires
-family_body-requires c =
-    let a = c.args in
-    let program = a.program.now in
-    let bytes = length program in
-    let x = a.families.now in
-    let room = c.if-n-ge-MOST_FAMILIES.false in
-    let e = c.two_counts.ensures.result_value in
-    let m = c.in-Both.m in
-    let p = c.in-Both.parameters in
-    let u = c.in-Both.is in
-    let w = both_right a.at a.next c.two_counts.result m p u c.two_counts.ensures.both_right in
-    record {
-      at_bound = (w.3, c.requires.at_bound.1);
-      m_le_most_variables = w.0;
-      parameters_le_most_parameters = w.2;
-      families_lt_most_families = room;
-      declared_right = c.requires.declared_right;
-    }
-
-pub overflow_cast-entry : goal.overflow_cast-entry
-overflow_cast-entry c =
-    let a = c.args in
-    let program = a.program.now in
-    let bytes = length program in
-    let x = a.families.now in
-    let room = c.if-n-ge-MOST_FAMILIES.false in
-    let e = c.two_counts.ensures.result_value in
-    let m = c.in-Both.m in
-    let p = c.in-Both.parameters in
-    let u = c.in-Both.is in
-    let w = both_right a.at a.next c.two_counts.result m p u c.two_counts.ensures.both_right in
-    let few = w.0 in
-    let most = w.2 in
-    omega (arith, c.requires.at_bound.0, c.requires.at_bound.1, c.requires.declared_right.short, c.requires.declared_right.used.few, c.well_formed)
-
-pub overflow_cast-entry-in-Upto : goal.overflow_cast-entry-in-Upto
-overflow_cast-entry-in-Upto c =
-    let a = c.args in
-    let program = a.program.now in
-    let bytes = length program in
-    let x = a.families.now in
-    let room = c.if-n-ge-MOST_FAMILIES.false in
-    let e = c.two_counts.ensures.result_value in
-    let m = c.in-Both.m in
-    let p = c.in-Both.parameters in
-    let u = c.in-Both.is in
-    let w = both_right a.at a.next c.two_counts.result m p u c.two_counts.ensures.both_right in
-    let few = w.0 in
-    let most = w.2 in
-    omega (arith, c.requires.at_bound.0, c.requires.at_bound.1, c.requires.declared_right.short, c.requires.declared_right.used.few, c.well_formed)
-
-pub overflow_cast-entry-in-Upto-2 : goal.overflow_cast-entry-in-Upto-2
-overflow_cast-entry-in-Upto-2 c =
-    let a = c.args in
-    let program = a.program.now in
-    let bytes = length program in
-    let x = a.families.now in
-    let room = c.if-n-ge-MOST_FAMILIES.false in
-    let e = c.two_counts.ensures.result_value in
-    let m = c.in-Both.m in
-    let p = c.in-Both.parameters in
-    let u = c.in-Both.is in
-    let w = both_right a.at a.next c.two_counts.result m p u c.two_counts.ensures.both_right in
-    let few = w.0 in
-    let most = w.2 in
-    omega (arith, c.requires.at_bound.0, c.requires.at_bound.1, c.requires.declared_right.short, c.requires.declared_right.used.few, c.well_formed)
-
-pub offset_bounds-families-n : goal.offset_bounds-families-n
-offset_bounds-families-n c =
-    let a = c.args in
-    let program = a.program.now in
-    let bytes = length program in
-    let x = a.families.now in
-    let room = c.if-n-ge-MOST_FAMILIES.false in
-    let e = c.two_counts.ensures.result_value in
-    let m = c.in-Both.m in
-    let p = c.in-Both.parameters in
-    let u = c.in-Both.is in
-    let w = both_right a.at a.next c.two_counts.result m p u c.two_counts.ensures.both_right in
-    let families = c.family_body.new.families in
-    let kinds = c.family_body.new.kinds in
-    let sizes = c.family_body.new.sizes in
-    let g = formal_at families kinds sizes in
-    let b = c.family_body.ensures.sizes_after in
-    omega (arith, c.requires.declared_right.long, c.family_body.ensures.stays.families_same, c.well_formed)
-
-pub bounds-families-n : goal.bounds-families-n
-bounds-families-n c =
-    let a = c.args in
-    let program = a.program.now in
-    let bytes = length program in
-    let x = a.families.now in
-    let room = c.if-n-ge-MOST_FAMILIES.false in
-    let e = c.two_counts.ensures.result_value in
-    let m = c.in-Both.m in
-    let p = c.in-Both.parameters in
-    let u = c.in-Both.is in
-    let w = both_right a.at a.next c.two_counts.result m p u c.two_counts.ensures.both_right in
-    let families = c.family_body.new.families in
-    let kinds = c.family_body.new.kinds in
-    let sizes = c.family_body.new.sizes in
-    let g = formal_at families kinds sizes in
-    let b = c.family_body.ensures.sizes_after in
-    omega (arith, c.requires.declared_right.long, c.family_body.ensures.stays.families_same, c.well_formed)
-
-pub overflow_add-rows : goal.overflow_add-rows
-overflow_add-rows c =
-    let a = c.args in
-    let program = a.program.now in
-    let bytes = length program in
-    let x = a.families.now in
-    let room = c.if-n-ge-MOST_FAMILIES.false in
-    let e = c.two_counts.ensures.result_value in
-    let m = c.in-Both.m in
-    let p = c.in-Both.parameters in
-    let u = c.in-Both.is in
-    let w = both_right a.at a.next c.two_counts.result m p u c.two_counts.ensures.both_right in
-    let most = w.2 in
-    omega (arith, c.requires.at_bound.0, c.requires.at_bound.1, c.requires.declared_right.short, c.requires.declared_right.used.few, c.well_formed)
-
-pub returns-in-Bad : goal.returns-in-Bad
-returns-in-Bad c =
+pub returns-in_err-counts : goal.returns-in_err-counts
+returns-in_err-counts c =
     let a = c.args in
     let program = a.program.now in
     let x = a.families.now in
-    record {
-      sizes_after = family_bad a.t x a.kinds.now a.sizes.now program a.at a.next c.if-n-ge-MOST_FAMILIES.false c.two_counts.result c.two_counts.ensures.result_value c.in-Bad.k c.in-Bad.q x a.kinds.now a.sizes.now c.in-Bad.is;
+    rw (handed c.from_residual.result c.from_residual.ensures.1) (record {
+      sizes_after = family_bad a.t x a.kinds.now a.sizes.now program a.at a.next c.if-n-ge-MOST_FAMILIES.false c.two_counts.result c.two_counts.ensures.result_value _ x a.kinds.now a.sizes.now c.in_err-counts.was;
       step_right = tt;
-    }
+    })
 
-pub shape_of-families-in-Refused : goal.shape_of-families-in-Refused
-shape_of-families-in-Refused c =
+pub returns-in_err-family_body : goal.returns-in_err-family_body
+returns-in_err-family_body c =
     let a = c.args in
-    let program = a.program.now in
-    let bytes = length program in
-    let x = a.families.now in
-    let room = c.if-n-ge-MOST_FAMILIES.false in
-    let e = c.two_counts.ensures.result_value in
-    let m = c.in-Both.m in
-    let p = c.in-Both.parameters in
-    let u = c.in-Both.is in
-    let w = both_right a.at a.next c.two_counts.result m p u c.two_counts.ensures.both_right in
+    let counts = c.in_ok-counts.counts in
     let families = c.family_body.new.families in
     let kinds = c.family_body.new.kinds in
     let sizes = c.family_body.new.sizes in
-    let g = formal_at families kinds sizes in
-    let b = c.family_body.ensures.sizes_after in
-    c.family_body.ensures.stays.families_same
-
-pub shape_of-kinds-in-Refused : goal.shape_of-kinds-in-Refused
-shape_of-kinds-in-Refused c =
-    let a = c.args in
-    let program = a.program.now in
-    let bytes = length program in
-    let x = a.families.now in
-    let room = c.if-n-ge-MOST_FAMILIES.false in
-    let e = c.two_counts.ensures.result_value in
-    let m = c.in-Both.m in
-    let p = c.in-Both.parameters in
-    let u = c.in-Both.is in
-    let w = both_right a.at a.next c.two_counts.result m p u c.two_counts.ensures.both_right in
-    let families = c.family_body.new.families in
-    let kinds = c.family_body.new.kinds in
-    let sizes = c.family_body.new.sizes in
-    let g = formal_at families kinds sizes in
-    let b = c.family_body.ensures.sizes_after in
-    c.family_body.ensures.stays.kinds_same
-
-pub shape_of-sizes-in-Refused : goal.shape_of-sizes-in-Refused
-shape_of-sizes-in-Refused c =
-    let a = c.args in
-    let program = a.program.now in
-    let bytes = length program in
-    let x = a.families.now in
-    let room = c.if-n-ge-MOST_FAMILIES.false in
-    let e = c.two_counts.ensures.result_value in
-    let m = c.in-Both.m in
-    let p = c.in-Both.parameters in
-    let u = c.in-Both.is in
-    let w = both_right a.at a.next c.two_counts.result m p u c.two_counts.ensures.both_right in
-    let families = c.family_body.new.families in
-    let kinds = c.family_body.new.kinds in
-    let sizes = c.family_body.new.sizes in
-    let g = formal_at families kinds sizes in
-    let b = c.family_body.ensures.sizes_after in
-    c.family_body.ensures.stays.sizes_same
-
-pub returns-in-Refused : goal.returns-in-Refused
-returns-in-Refused c =
-    let a = c.args in
-    let program = a.program.now in
-    let bytes = length program in
-    let x = a.families.now in
-    let room = c.if-n-ge-MOST_FAMILIES.false in
-    let e = c.two_counts.ensures.result_value in
-    let m = c.in-Both.m in
-    let p = c.in-Both.parameters in
-    let u = c.in-Both.is in
-    let w = both_right a.at a.next c.two_counts.result m p u c.two_counts.ensures.both_right in
-    let families = c.family_body.new.families in
-    let kinds = c.family_body.new.kinds in
-    let sizes = c.family_body.new.sizes in
-    let g = formal_at families kinds sizes in
-    let b = c.family_body.ensures.sizes_after in
-    record {
-      sizes_after = family_stops a.t x a.kinds.now a.sizes.now program a.at a.next room c.two_counts.result e m p u g c.family_body.result kinds sizes b c.in-Refused.k c.in-Refused.q families kinds sizes c.in-Refused.is;
+    rw (handed c.from_residual-in_err-family_body.result c.from_residual-in_err-family_body.ensures.1) (record {
+      sizes_after = family_stops a.t a.families.now a.kinds.now a.sizes.now a.program.now a.at a.next c.if-n-ge-MOST_FAMILIES.false c.two_counts.result c.two_counts.ensures.result_value counts.variables counts.parameters c.in_ok-counts.was (formal_at families kinds sizes) c.family_body.result kinds sizes c.family_body.ensures.sizes_after _ families kinds sizes c.in_err-family_body.was;
       step_right = tt;
-    }
+    })
 
-pub shape_of-families-in-Upto : goal.shape_of-families-in-Upto
-shape_of-families-in-Upto c =
-    let a = c.args in
-    let program = a.program.now in
-    let bytes = length program in
-    let x = a.families.now in
-    let room = c.if-n-ge-MOST_FAMILIES.false in
-    let e = c.two_counts.ensures.result_value in
-    let m = c.in-Both.m in
-    let p = c.in-Both.parameters in
-    let u = c.in-Both.is in
-    let w = both_right a.at a.next c.two_counts.result m p u c.two_counts.ensures.both_right in
-    let families = c.family_body.new.families in
-    let kinds = c.family_body.new.kinds in
-    let sizes = c.family_body.new.sizes in
-    let g = formal_at families kinds sizes in
-    let b = c.family_body.ensures.sizes_after in
-    length-set families a.t.families (m ∷ p ∷ a.t.rows ∷ []) ∙ c.family_body.ensures.stays.families_same
-
-pub shape_of-kinds-in-Upto : goal.shape_of-kinds-in-Upto
-shape_of-kinds-in-Upto c =
-    let a = c.args in
-    let program = a.program.now in
-    let bytes = length program in
-    let x = a.families.now in
-    let room = c.if-n-ge-MOST_FAMILIES.false in
-    let e = c.two_counts.ensures.result_value in
-    let m = c.in-Both.m in
-    let p = c.in-Both.parameters in
-    let u = c.in-Both.is in
-    let w = both_right a.at a.next c.two_counts.result m p u c.two_counts.ensures.both_right in
-    let families = c.family_body.new.families in
-    let kinds = c.family_body.new.kinds in
-    let sizes = c.family_body.new.sizes in
-    let g = formal_at families kinds sizes in
-    let b = c.family_body.ensures.sizes_after in
-    c.family_body.ensures.stays.kinds_same
-
-pub shape_of-sizes-in-Upto : goal.shape_of-sizes-in-Upto
-shape_of-sizes-in-Upto c =
-    let a = c.args in
-    let program = a.program.now in
-    let bytes = length program in
-    let x = a.families.now in
-    let room = c.if-n-ge-MOST_FAMILIES.false in
-    let e = c.two_counts.ensures.result_value in
-    let m = c.in-Both.m in
-    let p = c.in-Both.parameters in
-    let u = c.in-Both.is in
-    let w = both_right a.at a.next c.two_counts.result m p u c.two_counts.ensures.both_right in
-    let families = c.family_body.new.families in
-    let kinds = c.family_body.new.kinds in
-    let sizes = c.family_body.new.sizes in
-    let g = formal_at families kinds sizes in
-    let b = c.family_body.ensures.sizes_after in
-    c.family_body.ensures.stays.sizes_same
-
-pub returns-in-Upto : goal.returns-in-Upto
+pub returns : goal.returns
 unfolding checked_step
-returns-in-Upto c =
+returns c =
     let a = c.args in
-    let program = a.program.now in
-    let bytes = length program in
-    let x = a.families.now in
     let room = c.if-n-ge-MOST_FAMILIES.false in
-    let e = c.two_counts.ensures.result_value in
-    let m = c.in-Both.m in
-    let p = c.in-Both.parameters in
-    let u = c.in-Both.is in
-    let w = both_right a.at a.next c.two_counts.result m p u c.two_counts.ensures.both_right in
+    let counts = c.in_ok-counts.counts in
+    let m = counts.variables in
+    let p = counts.parameters in
+    let w = both_right a.at a.next c.two_counts.result counts c.in_ok-counts.was c.two_counts.ensures.both_right in
     let families = c.family_body.new.families in
     let kinds = c.family_body.new.kinds in
     let sizes = c.family_body.new.sizes in
-    let g = formal_at families kinds sizes in
-    let b = c.family_body.ensures.sizes_after in
+    let r = c.family_body.result in
+    let u = c.in_ok-family_body.was in
+    let stays = c.family_body.ensures.stays in
     record {
-      sizes_after = ap good (with_family_lem bytes a.at (a.at + 5) a.next a.t m p c.requires.declared_right (omega arith) c.family_body.ensures.stays room w.0) ∙ family_goes a.t x a.kinds.now a.sizes.now program a.at a.next room c.two_counts.result e m p u g c.family_body.result kinds sizes b c.in-Upto.in-Upto-own.keys2;
-      step_right = holds_family bytes a.at (a.at + 5) a.next a.t m p c.requires.declared_right (omega arith) c.family_body.ensures.stays room w.0 (in_use_goes (a.t.rows + p) a.t.registers a.next c.family_body.result kinds c.in-Upto.in-Upto-own.keys2 c.family_body.ensures.in_use_before) (formals_goes a.next c.family_body.result families kinds c.in-Upto.in-Upto-own.keys2 c.family_body.ensures.formals_before) c.requires.at_bound.1;
+      sizes_after = ap good (with_family_lem (length a.program.now) a.at (a.at + 5) a.next a.t m p c.requires.declared_right (omega arith) stays room w.0)
+          ∙ family_goes a.t a.families.now a.kinds.now a.sizes.now a.program.now a.at a.next room c.two_counts.result c.two_counts.ensures.result_value m p c.in_ok-counts.was (formal_at families kinds sizes) r kinds sizes c.family_body.ensures.sizes_after _ u;
+      step_right = holds_family (length a.program.now) a.at (a.at + 5) a.next a.t m p c.requires.declared_right (omega arith) stays room w.0 (before_upto (a.t.rows + p) a.t.registers a.next _ r kinds u c.family_body.ensures.in_use_before) (formals_upto a.next _ r families kinds u c.family_body.ensures.formals_before) c.requires.at_bound.1;
     }

@@ -1,74 +1,60 @@
 -- `check_program::family_body` meets its contract. Assumes nothing.
+use mathlib.Core.Path.{refl, ap, ◌∙◌}
 use mathlib.Core.List.{[]}
 use Prim.Native.Nat.{◌+◌}
 use native.Mathlib.Omega.{arith}
 use lib.IntN.{pos}
 use lib.ListN.{length, replicate}
-use Rattle.language.specs.Check.{family_scope_by}
+use Rattle.language.specs.Check.{check_statements, family_scope_by}
+use Rattle.language.specs.Read.{statements_by, outer_statement}
+use Rattle.fields.specs.Header.{fields_at}
 use Rattle.check_index.proofs.Answers.{count_upto}
 use Rattle.check_program.specs.Declarations.{declared_in}
 use Rattle.check_program.proofs.Scopes.{eight_rows, scope_right, scope_declares}
 use Rattle.check_program.proofs.Families.{family_rows, body_stops, body_goes, before_upto, before_kept, formals_upto, formals_kept}
-use Rattle.check_declaration.proofs.Tables.{in_use_later, in_use_stops}
-use Rattle.check_declaration.proofs.Formals.{formals_later, formals_stop}
+use Rattle.check_declaration.proofs.Tables.{in_use_later}
+use Rattle.check_declaration.proofs.Formals.{formals_later}
+use Rattle.refusals.proofs.Handed.{handed}
 use Rattle.check_program.proofs.family_body.Goals as goal
 
-pub parameter_types-r-requires : goal.parameter_types-r-requires
-parameter_types-r-requires c =
-    let a = c.args in
-    let program = a.program.now in
-    let few = c.requires.m_le_most_variables in
-    let bytes = length program in
-    let long = c.requires.at_bound.1 in
-    let none = replicate 8 (replicate 13 (pos 0)) in
-    record {
-      to_in_bounds = long;
-      m_le_most_variables = few;
-      at_le_to = (c.requires.at_bound.0, c.requires.declared_right.short, c.requires.declared_right.wide);
-      in_use = in_use_later a.t.rows a.t.rows a.t.registers a.at (a.at + 5) a.kinds.now c.requires.declared_right.used (omega arith) (omega (arith, c.requires.declared_right.used.few));
-      operand_table = c.requires.declared_right.table;
-      family_table = c.requires.declared_right.long;
-      formals_in = formals_later a.at (a.at + 5) a.families.now a.kinds.now (omega arith) c.requires.declared_right.taken;
-    }
-
-pub returns-in_default : goal.returns-in_default
+pub returns-in_err-mid : goal.returns-in_err-mid
 unfolding family_scope_by
-returns-in_default c =
+returns-in_err-mid c =
     let a = c.args in
     let program = a.program.now in
     let few = c.requires.m_le_most_variables in
     let bytes = length program in
     let long = c.requires.at_bound.1 in
     let none = replicate 8 (replicate 13 (pos 0)) in
-    let families = c.parameter_types-r.new.families in
-    let kinds = c.parameter_types-r.new.kinds in
-    let sizes = c.parameter_types-r.new.sizes in
+    let families = c.parameter_types.new.families in
+    let kinds = c.parameter_types.new.kinds in
+    let sizes = c.parameter_types.new.sizes in
     let d = declared_in a.t a.families.now a.kinds.now a.sizes.now in
-    record {
-      sizes_after = body_stops bytes a.t a.at a.m a.parameters program (a.at + 5) a.next c.requires.declared_right (omega arith) c.parameter_types-r.ensures.stays c.parameter_types-r.result (c.parameter_types-r.ensures.sizes_after d.families []) c.in_default.in_default-own.keys2;
-      in_use_before = in_use_stops (a.t.rows + a.parameters) a.t.registers a.next c.parameter_types-r.result kinds c.in_default.in_default-own.keys2;
-      formals_before = formals_stop a.next c.parameter_types-r.result families kinds c.in_default.in_default-own.keys2;
-      stays = c.parameter_types-r.ensures.stays;
-    }
+    rw (handed c.from_residual.result c.from_residual.ensures.1) (record {
+      sizes_after = body_stops bytes a.t a.at a.m a.parameters program (a.at + 5) a.next c.requires.declared_right (omega arith) c.parameter_types.ensures.stays c.parameter_types.result (c.parameter_types.ensures.sizes_after d.families []) c.in_err-mid.was;
+      in_use_before = tt;
+      formals_before = tt;
+      stays = c.parameter_types.ensures.stays;
+    })
 
-pub list-requires : goal.list-requires
-list-requires c =
+pub full_scope-full-requires : goal.full_scope-full-requires
+full_scope-full-requires c =
     let a = c.args in
     let program = a.program.now in
     let few = c.requires.m_le_most_variables in
     let bytes = length program in
     let long = c.requires.at_bound.1 in
     let none = replicate 8 (replicate 13 (pos 0)) in
-    let families = c.parameter_types-r.new.families in
-    let kinds = c.parameter_types-r.new.kinds in
-    let sizes = c.parameter_types-r.new.sizes in
-    let mid = c.in-Upto.mid in
-    let used = before_upto (a.t.rows + a.parameters) a.t.registers a.next mid c.parameter_types-r.result kinds c.in-Upto.is c.parameter_types-r.ensures.in_use_before in
-    let taken = formals_upto a.next mid c.parameter_types-r.result families kinds c.in-Upto.is c.parameter_types-r.ensures.formals_before in
+    let families = c.parameter_types.new.families in
+    let kinds = c.parameter_types.new.kinds in
+    let sizes = c.parameter_types.new.sizes in
+    let mid = c.in_ok-mid.mid in
+    let used = before_upto (a.t.rows + a.parameters) a.t.registers a.next mid c.parameter_types.result kinds c.in_ok-mid.was c.parameter_types.ensures.in_use_before in
+    let taken = formals_upto a.next mid c.parameter_types.result families kinds c.in_ok-mid.was c.parameter_types.ensures.formals_before in
     record {
-      to_in_bounds = long;
-      tables_right = scope_right bytes (a.t.rows + a.parameters) a.t.registers a.next (family_rows a.t a.m a.parameters) kinds sizes none none c.parameter_types-r.ensures.stays.table used long eight_rows eight_rows few (omega arith) (omega arith);
-      families_right = scope_declares bytes (a.t.rows + a.parameters) a.next a.t.registers (family_rows a.t a.m a.parameters) families kinds sizes c.parameter_types-r.ensures.stays.table used long (omega (arith, c.requires.declared_right.long, c.parameter_types-r.ensures.stays.families_same, c.parameter_types-r.ensures.stays.sizes_same)) c.requires.declared_right.families_fit (λ k p. rw (c.parameter_types-r.ensures.stays.declared k p, c.parameter_types-r.ensures.stays.kinds_same) (c.requires.declared_right.rows_right k p)) taken;
+      no_loops = refl;
+      tables_right = scope_right bytes (a.t.rows + a.parameters) a.t.registers a.next (family_rows a.t a.m a.parameters) kinds sizes none none c.parameter_types.ensures.stays.table used long eight_rows eight_rows few (omega arith) (omega arith);
+      families_right = scope_declares bytes (a.t.rows + a.parameters) a.next a.t.registers (family_rows a.t a.m a.parameters) families kinds sizes c.parameter_types.ensures.stays.table used long (omega (arith, c.requires.declared_right.long, c.parameter_types.ensures.stays.families_same, c.parameter_types.ensures.stays.sizes_same)) c.requires.declared_right.families_fit (λ k p. rw (c.parameter_types.ensures.stays.declared k p, c.parameter_types.ensures.stays.kinds_same) (c.requires.declared_right.rows_right k p)) taken;
     }
 
 pub returns : goal.returns
@@ -80,17 +66,17 @@ returns c =
     let bytes = length program in
     let long = c.requires.at_bound.1 in
     let none = replicate 8 (replicate 13 (pos 0)) in
-    let families = c.parameter_types-r.new.families in
-    let kinds = c.parameter_types-r.new.kinds in
-    let sizes = c.parameter_types-r.new.sizes in
+    let families = c.parameter_types.new.families in
+    let kinds = c.parameter_types.new.kinds in
+    let sizes = c.parameter_types.new.sizes in
     let d = declared_in a.t a.families.now a.kinds.now a.sizes.now in
-    let mid = c.in-Upto.mid in
-    let used = before_upto (a.t.rows + a.parameters) a.t.registers a.next mid c.parameter_types-r.result kinds c.in-Upto.is c.parameter_types-r.ensures.in_use_before in
-    let taken = formals_upto a.next mid c.parameter_types-r.result families kinds c.in-Upto.is c.parameter_types-r.ensures.formals_before in
-    let b = count_upto program (a.at + 5) a.next a.parameters c.parameter_types-r.result mid c.in-Upto.is c.parameter_types-r.ensures.passes_count in
+    let mid = c.in_ok-mid.mid in
+    let used = before_upto (a.t.rows + a.parameters) a.t.registers a.next mid c.parameter_types.result kinds c.in_ok-mid.was c.parameter_types.ensures.in_use_before in
+    let taken = formals_upto a.next mid c.parameter_types.result families kinds c.in_ok-mid.was c.parameter_types.ensures.formals_before in
+    let b = count_upto program (a.at + 5) a.next a.parameters c.parameter_types.result mid c.in_ok-mid.was c.parameter_types.ensures.passes_count in
     record {
-      sizes_after = body_goes bytes a.t a.at a.m a.parameters program (a.at + 5) a.next c.requires.declared_right (omega arith) c.parameter_types-r.ensures.stays c.parameter_types-r.result (c.parameter_types-r.ensures.sizes_after d.families []) mid c.in-Upto.is b c.list.result none none c.list.ensures;
+      sizes_after = body_goes bytes a.t a.at a.m a.parameters program (a.at + 5) a.next c.requires.declared_right (omega arith) c.parameter_types.ensures.stays c.parameter_types.result (c.parameter_types.ensures.sizes_after d.families []) mid c.in_ok-mid.was b c.list.result (c.list.ensures ∙ ap (check_statements (statements_by outer_statement (fields_at program mid a.next))) c.full_scope-full.ensures);
       in_use_before = before_kept (a.t.rows + a.parameters) a.t.registers a.next c.list.result kinds used;
       formals_before = formals_kept a.next c.list.result families kinds taken;
-      stays = c.parameter_types-r.ensures.stays;
+      stays = c.parameter_types.ensures.stays;
     }

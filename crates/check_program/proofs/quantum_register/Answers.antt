@@ -7,96 +7,30 @@ use Rattle.check_declaration.proofs.Tables.{in_use_later}
 use Rattle.language.specs.Limits.{most_wires}
 use Rattle.kinds.specs.declared.Kind.TheVariants.{Quantum}
 use Rattle.check_program.proofs.Registers.{qreg_stops, qreg_goes, register_row, holds_register}
+use Rattle.refusals.proofs.Handed.{handed}
 use Rattle.check_program.proofs.quantum_register.Goals as goal
 
-pub register-requires : goal.register-requires
-register-requires c =
-    record {
-      at_bound = c.requires.at_bound;
-      total_le_most = c.requires.declared_right.qubits_fit;
-      most_le_furthest = omega arith;
-      program_len_bound = c.requires.declared_right.short;
-      in_use = in_use_later c.args.t.rows 0 c.args.t.registers c.args.at c.args.at c.args.kinds.now c.requires.declared_right.used (omega arith) (omega arith);
-      operand_table = c.requires.declared_right.table;
-    }
-
-pub overflow_add-registers : goal.overflow_add-registers
-overflow_add-registers c =
+pub returns-in_err-size : goal.returns-in_err-size
+returns-in_err-size c =
     let a = c.args in
     let bytes = length a.program.now in
     let content = slice (a.at + 3) a.next a.program.now in
     let kinds = c.register.new.kinds in
     let sizes = c.register.new.sizes in
-    let n = c.in-Upto.size in
-    let u = c.in-Upto.is in
-    let w = register_row a.t a.families.now a.kinds.now a.sizes.now bytes a.next a.at content c.register.result n u c.requires.declared_right Quantum a.t.registers a.t.qubits most_wires kinds sizes c.register.ensures.register_set in
-    let room = w.room in
-    let fits = w.fits in
-    omega arith
-
-pub overflow_add-qubits : goal.overflow_add-qubits
-overflow_add-qubits c =
-    let a = c.args in
-    let bytes = length a.program.now in
-    let content = slice (a.at + 3) a.next a.program.now in
-    let kinds = c.register.new.kinds in
-    let sizes = c.register.new.sizes in
-    let n = c.in-Upto.size in
-    let u = c.in-Upto.is in
-    let w = register_row a.t a.families.now a.kinds.now a.sizes.now bytes a.next a.at content c.register.result n u c.requires.declared_right Quantum a.t.registers a.t.qubits most_wires kinds sizes c.register.ensures.register_set in
-    let room = w.room in
-    let fits = w.fits in
-    omega arith
-
-pub returns-in-Refused : goal.returns-in-Refused
-returns-in-Refused c =
-    let a = c.args in
-    let bytes = length a.program.now in
-    let content = slice (a.at + 3) a.next a.program.now in
-    let kinds = c.register.new.kinds in
-    let sizes = c.register.new.sizes in
-    record {
-      sizes_after = qreg_stops a.t a.families.now a.kinds.now a.sizes.now a.at content c.register.result c.in-Refused.k c.in-Refused.q kinds sizes c.in-Refused.is c.register.ensures.result_value;
+    rw (handed c.from_residual.result c.from_residual.ensures.1) (record {
+      sizes_after = qreg_stops a.t a.families.now a.kinds.now a.sizes.now a.at content c.register.result _ kinds sizes c.in_err-size.was c.register.ensures.result_value;
       step_right = tt;
-    }
+    })
 
-pub shape_of-kinds-in-Upto : goal.shape_of-kinds-in-Upto
-shape_of-kinds-in-Upto c =
+pub returns : goal.returns
+returns c =
     let a = c.args in
     let bytes = length a.program.now in
     let content = slice (a.at + 3) a.next a.program.now in
     let kinds = c.register.new.kinds in
     let sizes = c.register.new.sizes in
-    let n = c.in-Upto.size in
-    let u = c.in-Upto.is in
-    let w = register_row a.t a.families.now a.kinds.now a.sizes.now bytes a.next a.at content c.register.result n u c.requires.declared_right Quantum a.t.registers a.t.qubits most_wires kinds sizes c.register.ensures.register_set in
-    let room = w.room in
-    let fits = w.fits in
-    w.apart.kinds_same
-
-pub shape_of-sizes-in-Upto : goal.shape_of-sizes-in-Upto
-shape_of-sizes-in-Upto c =
-    let a = c.args in
-    let bytes = length a.program.now in
-    let content = slice (a.at + 3) a.next a.program.now in
-    let kinds = c.register.new.kinds in
-    let sizes = c.register.new.sizes in
-    let n = c.in-Upto.size in
-    let u = c.in-Upto.is in
-    let w = register_row a.t a.families.now a.kinds.now a.sizes.now bytes a.next a.at content c.register.result n u c.requires.declared_right Quantum a.t.registers a.t.qubits most_wires kinds sizes c.register.ensures.register_set in
-    let room = w.room in
-    let fits = w.fits in
-    w.apart.sizes_same
-
-pub returns-in-Upto : goal.returns-in-Upto
-returns-in-Upto c =
-    let a = c.args in
-    let bytes = length a.program.now in
-    let content = slice (a.at + 3) a.next a.program.now in
-    let kinds = c.register.new.kinds in
-    let sizes = c.register.new.sizes in
-    let n = c.in-Upto.size in
-    let u = c.in-Upto.is in
+    let n = c.in_ok-size.size in
+    let u = c.in_ok-size.was in
     let w = register_row a.t a.families.now a.kinds.now a.sizes.now bytes a.next a.at content c.register.result n u c.requires.declared_right Quantum a.t.registers a.t.qubits most_wires kinds sizes c.register.ensures.register_set in
     let room = w.room in
     let fits = w.fits in

@@ -25,9 +25,10 @@ entered mode tag l place st (Err Stuck) e h = absurd h
 pub returns-then-mode-eq0 : goal.returns-then-mode-eq0
 unfolding Entered
 returns-then-mode-eq0 c = λ e. elim c.then-mode-eq0.branch [
-      then-mode-eq0-via-then-mode-eq0 w ↦ e.deep w.if-mode-eq0.true
-    | then-mode-eq0-via-else-mode-eq0+then-tag-lt-H w ↦ let h = e.low in omega arith
-    | then-mode-eq0-via-else-mode-eq0+else-tag-lt-H+then-tag-gt-PARAMETER_CALL w ↦ let h = e.high in omega arith ]
+  | then-mode-eq0-via-then-mode-eq0 w ↦ e.deep w.if-mode-eq0.true
+  | then-mode-eq0-via-else-mode-eq0+then-tag-lt-H w ↦ let h = e.low in omega arith
+  | then-mode-eq0-via-else-mode-eq0+else-tag-lt-H+then-tag-gt-PARAMETER_CALL w ↦ let h = e.high in omega arith
+]
 
 pub returns-then-nameless : goal.returns-then-nameless
 unfolding Entered

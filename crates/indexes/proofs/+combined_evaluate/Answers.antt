@@ -1,227 +1,100 @@
 -- The cycle of calls meets its contracts. Assumes nothing.
-use Prim.Native.Nat.{◌+◌, ◌-◌}
-use mathlib.Core.Path.{◌≡◌, refl, sym, ◌∙◌}
-use mathlib.Core.Logic.{inr}
+use Prim.Native.Nat.{◌+◌, ◌-◌, ◌≤◌, ◌<◌}
+use mathlib.Core.Path.{◌≡◌, sym, ◌∙◌}
 use native.Mathlib.Omega.{arith}
 use lib.ListN.{take}
 use lib.Seq.{slice}
-use Rattle.fields.specs.declared.Header.TheVariants.{Whole}
-use Rattle.indexes.specs.declared.Value.TheVariants.{Stuck, Is}
+use Rattle.std.proofs.lemmas.Result.{err_from_is_err_and}
+use Rattle.std.specs.Prelude.{Ok, Err}
 use Rattle.indexes.specs.Values.{IndexIs, OperateIs}
-use Rattle.fields.proofs.Between.{look_in, in_whole}
-use Rattle.indexes.proofs.Operations.{at_other, at_left, at_right, at_both, left_none, left_some, right_none, right_some, is_ranged, at_deepest, at_literal, at_variable}
+use Rattle.fields.proofs.Between.{in_whole}
+use Rattle.indexes.proofs.Operations.{at_other, combined_none, combined_left, combined_cut, combined_right, combined_both, is_ranged, at_deepest, at_literal, at_variable}
 use Rattle.language.proofs.Integers.{range_back}
-use borrow.Enum.Refused.{opened}
 use Rattle.indexes.proofs.+combined_evaluate.Goals as goal
 
-pub combined-returns-then-tag-lt66 : goal.combined-returns-then-tag-lt66
-combined-returns-then-tag-lt66 t c =
+pub combined-returns-then-tag-lt-SUM : goal.combined-returns-then-tag-lt-SUM
+combined-returns-then-tag-lt-SUM t c =
     let a = c.args in
-    let l = a.bytes.now in
-    let v = take a.many a.vars.now in
-    let s = slice a.from a.to l in
-    let h : a.levels ≡ 0 → ⊥ = λ z. omega (arith, c.requires.levels_nonzero.0) in
-    at_other a.tag s a.levels v h (λ z. omega arith) (λ z. omega arith) (λ z. omega arith) (λ z. omega arith) (λ z. omega arith)
+    at_other a.tag (slice a.from a.to a.bytes.now) a.levels (take a.many a.vars.now) (λ z. omega (arith, c.requires.levels_nonzero.0))
+    c.requires.levels_nonzero.1 c.requires.levels_nonzero.2 (λ z. omega arith) (λ z. omega arith) (λ z. omega arith)
 
-pub combined-returns-then-tag-gt68 : goal.combined-returns-then-tag-gt68
-combined-returns-then-tag-gt68 t c =
+pub combined-returns-in_err-left : goal.combined-returns-in_err-left
+combined-returns-in_err-left t c =
     let a = c.args in
-    let l = a.bytes.now in
-    let v = take a.many a.vars.now in
-    let s = slice a.from a.to l in
-    let h : a.levels ≡ 0 → ⊥ = λ z. omega (arith, c.requires.levels_nonzero.0) in
-    at_other a.tag s a.levels v h (λ z. omega arith) (λ z. omega arith) (λ z. omega arith) (λ z. omega arith) (λ z. omega arith)
+    let p = err_from_is_err_and c.from_residual.result c.from_residual.ensures.1 in
+    rw (p.1, p.2) (combined_none a.tag a.bytes.now a.from a.to a.levels (take a.many a.vars.now) (λ z. omega (arith, c.requires.levels_nonzero.0)) (omega arith) (omega arith) (sym c.header_at.ensures ∙ c.in_err-left.was))
 
-pub combined-returns-in_default : goal.combined-returns-in_default
-combined-returns-in_default t c =
+pub combined-evaluate-requires : goal.combined-evaluate-requires
+combined-evaluate-requires t c =
     let a = c.args in
-    let l = a.bytes.now in
-    let v = take a.many a.vars.now in
-    let s = slice a.from a.to l in
-    let h : a.levels ≡ 0 → ⊥ = λ z. omega (arith, c.requires.levels_nonzero.0) in
-    at_left a.tag s a.levels v h (omega arith) (omega arith) Stuck
-    (left_none l a.from a.to (a.levels - 1) v (rw c.header_at.ensures at (opened c.in_default.in_default-own.keys2))) (inr refl)
-
-pub combined-overflow_add-start : goal.combined-overflow_add-start
-combined-overflow_add-start t c =
-    let a = c.args in
-    let l = a.bytes.now in
-    let v = take a.many a.vars.now in
-    let s = slice a.from a.to l in
-    let u = c.in-Whole.first in
-    let mid = c.in-Whole.mid in
-    let e : look_in l a.from a.to ≡ Whole u mid = sym c.header_at.ensures ∙ c.in-Whole.is in
-    let f = in_whole l a.from a.to u mid e in
-    omega (arith, f.low, f.high)
-
-pub combined-evaluate-left-requires : goal.combined-evaluate-left-requires
-combined-evaluate-left-requires t c =
-    let a = c.args in
-    let l = a.bytes.now in
-    let v = take a.many a.vars.now in
-    let s = slice a.from a.to l in
-    let u = c.in-Whole.first in
-    let mid = c.in-Whole.mid in
-    let e : look_in l a.from a.to ≡ Whole u mid = sym c.header_at.ensures ∙ c.in-Whole.is in
-    let f = in_whole l a.from a.to u mid e in
+    let f = in_whole a.bytes.now a.from a.to _ _ (sym c.header_at.ensures ∙ c.in_ok-left.was) in
     (omega (arith, c.decreases, c.requires.levels_nonzero.0), ((f.low, omega (arith, f.high, c.requires.from_le_to.1)), c.requires.many_le_most_values))
 
-pub combined-returns-in_default-left : goal.combined-returns-in_default-left
-combined-returns-in_default-left t c =
+pub combined-returns-in_err-x : goal.combined-returns-in_err-x
+combined-returns-in_err-x t c =
     let a = c.args in
-    let l = a.bytes.now in
-    let v = take a.many a.vars.now in
-    let s = slice a.from a.to l in
-    let h : a.levels ≡ 0 → ⊥ = λ z. omega (arith, c.requires.levels_nonzero.0) in
-    let u = c.in-Whole.first in
-    let mid = c.in-Whole.mid in
-    let e : look_in l a.from a.to ≡ Whole u mid = sym c.header_at.ensures ∙ c.in-Whole.is in
-    at_left a.tag s a.levels v h (omega arith) (omega arith) c.evaluate-left.result
-    (left_some l a.from a.to (a.levels - 1) v u mid e c.evaluate-left.result c.evaluate-left.ensures) (opened c.in_default-left.in_default-left-own.keys2)
+    let p = err_from_is_err_and c.from_residual-in_err-x.result c.from_residual-in_err-x.ensures.1 in
+    rw (p.1, p.2) (combined_left a.tag a.bytes.now a.from a.to a.levels (take a.many a.vars.now) (λ z. omega (arith, c.requires.levels_nonzero.0)) (omega arith) (omega arith) _ (sym c.header_at.ensures ∙ c.in_ok-left.was)
+    _ (rw c.in_err-x.was at c.evaluate.ensures))
 
-pub combined-returns-in_default-header_at : goal.combined-returns-in_default-header_at
-combined-returns-in_default-header_at t c =
+pub combined-returns-in_err-right : goal.combined-returns-in_err-right
+combined-returns-in_err-right t c =
     let a = c.args in
-    let l = a.bytes.now in
-    let v = take a.many a.vars.now in
-    let s = slice a.from a.to l in
-    let h : a.levels ≡ 0 → ⊥ = λ z. omega (arith, c.requires.levels_nonzero.0) in
-    let u = c.in-Whole.first in
-    let mid = c.in-Whole.mid in
-    let e : look_in l a.from a.to ≡ Whole u mid = sym c.header_at.ensures ∙ c.in-Whole.is in
-    let w : IndexIs u (slice (a.from + 3) mid l) (a.levels - 1) v c.evaluate-left.result = c.evaluate-left.ensures in
-    let x = c.in-Is.x in
-    let wx : IndexIs u (slice (a.from + 3) mid l) (a.levels - 1) v (Is x) = rw c.in-Is.is at w in
-    at_right a.tag s a.levels v h (omega arith) (omega arith) x Stuck (left_some l a.from a.to (a.levels - 1) v u mid e (Is x) wx)
-    (right_none l a.from a.to (a.levels - 1) v u mid e (rw c.header_at-2.ensures at (opened c.in_default-header_at.in_default-header_at-own.keys2))) (inr refl)
+    let p = err_from_is_err_and c.from_residual-in_err-right.result c.from_residual-in_err-right.ensures.1 in
+    rw (p.1, p.2) (combined_cut a.tag a.bytes.now a.from a.to a.levels (take a.many a.vars.now) (λ z. omega (arith, c.requires.levels_nonzero.0)) (omega arith) (omega arith) _ (sym c.header_at.ensures ∙ c.in_ok-left.was)
+    _ (rw c.in_ok-x.was at c.evaluate.ensures) (sym c.header_at-2.ensures ∙ c.in_err-right.was))
 
-pub combined-overflow_add-next : goal.combined-overflow_add-next
-combined-overflow_add-next t c =
+pub combined-overflow_add-left : goal.combined-overflow_add-left
+combined-overflow_add-left t c =
     let a = c.args in
-    let l = a.bytes.now in
-    let v = take a.many a.vars.now in
-    let s = slice a.from a.to l in
-    let u = c.in-Whole.first in
-    let mid = c.in-Whole.mid in
-    let e : look_in l a.from a.to ≡ Whole u mid = sym c.header_at.ensures ∙ c.in-Whole.is in
-    let u2 = c.in-Whole-header_at.second in
-    let end = c.in-Whole-header_at.end in
-    let e2 : look_in l mid a.to ≡ Whole u2 end = sym c.header_at-2.ensures ∙ c.in-Whole-header_at.is in
-    let f = in_whole l mid a.to u2 end e2 in
+    let f = in_whole a.bytes.now c.in_ok-left.left.next a.to _ _ (sym c.header_at-2.ensures ∙ c.in_ok-right.was) in
     omega (arith, f.low, f.high)
 
-pub combined-evaluate-right-requires : goal.combined-evaluate-right-requires
-combined-evaluate-right-requires t c =
+pub combined-evaluate-requires-2 : goal.combined-evaluate-requires-2
+combined-evaluate-requires-2 t c =
     let a = c.args in
-    let l = a.bytes.now in
-    let v = take a.many a.vars.now in
-    let s = slice a.from a.to l in
-    let u = c.in-Whole.first in
-    let mid = c.in-Whole.mid in
-    let e : look_in l a.from a.to ≡ Whole u mid = sym c.header_at.ensures ∙ c.in-Whole.is in
-    let u2 = c.in-Whole-header_at.second in
-    let end = c.in-Whole-header_at.end in
-    let e2 : look_in l mid a.to ≡ Whole u2 end = sym c.header_at-2.ensures ∙ c.in-Whole-header_at.is in
-    let f = in_whole l mid a.to u2 end e2 in
+    let f = in_whole a.bytes.now c.in_ok-left.left.next a.to _ _ (sym c.header_at-2.ensures ∙ c.in_ok-right.was) in
     (omega (arith, c.decreases, c.requires.levels_nonzero.0), ((f.low, omega (arith, f.high, c.requires.from_le_to.1)), c.requires.many_le_most_values))
 
-pub combined-returns-in_default-right : goal.combined-returns-in_default-right
-combined-returns-in_default-right t c =
+pub combined-returns-in_err-y : goal.combined-returns-in_err-y
+combined-returns-in_err-y t c =
     let a = c.args in
-    let l = a.bytes.now in
-    let v = take a.many a.vars.now in
-    let s = slice a.from a.to l in
-    let h : a.levels ≡ 0 → ⊥ = λ z. omega (arith, c.requires.levels_nonzero.0) in
-    let u = c.in-Whole.first in
-    let mid = c.in-Whole.mid in
-    let e : look_in l a.from a.to ≡ Whole u mid = sym c.header_at.ensures ∙ c.in-Whole.is in
-    let w : IndexIs u (slice (a.from + 3) mid l) (a.levels - 1) v c.evaluate-left.result = c.evaluate-left.ensures in
-    let x = c.in-Is.x in
-    let wx : IndexIs u (slice (a.from + 3) mid l) (a.levels - 1) v (Is x) = rw c.in-Is.is at w in
-    let u2 = c.in-Whole-header_at.second in
-    let end = c.in-Whole-header_at.end in
-    let e2 : look_in l mid a.to ≡ Whole u2 end = sym c.header_at-2.ensures ∙ c.in-Whole-header_at.is in
-    at_right a.tag s a.levels v h (omega arith) (omega arith) x c.evaluate-right.result (left_some l a.from a.to (a.levels - 1) v u mid e (Is x) wx)
-    (right_some l a.from a.to (a.levels - 1) v u mid e u2 end c.evaluate-right.result e2 c.evaluate-right.ensures) (opened c.in_default-right.in_default-right-own.keys2)
+    let p = err_from_is_err_and c.from_residual-in_err-y.result c.from_residual-in_err-y.ensures.1 in
+    rw (p.1, p.2) (combined_right a.tag a.bytes.now a.from a.to a.levels (take a.many a.vars.now) (λ z. omega (arith, c.requires.levels_nonzero.0)) (omega arith) (omega arith) _ (sym c.header_at.ensures ∙ c.in_ok-left.was)
+    _ (rw c.in_ok-x.was at c.evaluate.ensures) _ (sym c.header_at-2.ensures ∙ c.in_ok-right.was) _ (rw c.in_err-y.was at c.evaluate-2.ensures))
 
 pub combined-operate-requires : goal.combined-operate-requires
 combined-operate-requires t c =
-    let a = c.args in
-    let l = a.bytes.now in
-    let v = take a.many a.vars.now in
-    let s = slice a.from a.to l in
-    let u = c.in-Whole.first in
-    let mid = c.in-Whole.mid in
-    let e : look_in l a.from a.to ≡ Whole u mid = sym c.header_at.ensures ∙ c.in-Whole.is in
-    let w : IndexIs u (slice (a.from + 3) mid l) (a.levels - 1) v c.evaluate-left.result = c.evaluate-left.ensures in
-    let x = c.in-Is.x in
-    let wx : IndexIs u (slice (a.from + 3) mid l) (a.levels - 1) v (Is x) = rw c.in-Is.is at w in
-    let u2 = c.in-Whole-header_at.second in
-    let end = c.in-Whole-header_at.end in
-    let e2 : look_in l mid a.to ≡ Whole u2 end = sym c.header_at-2.ensures ∙ c.in-Whole-header_at.is in
-    let w2 : IndexIs u2 (slice (mid + 3) end l) (a.levels - 1) v c.evaluate-right.result = c.evaluate-right.ensures in
-    let y = c.in-Is-right.y in
-    let wy : IndexIs u2 (slice (mid + 3) end l) (a.levels - 1) v (Is y) = rw c.in-Is-right.is at w2 in
-    let rx = is_ranged _ _ _ _ x wx in
-    let ry = is_ranged _ _ _ _ y wy in
+    let rx = is_ranged _ _ _ _ c.in_ok-x.x (rw c.in_ok-x.was at c.evaluate.ensures) in
+    let ry = is_ranged _ _ _ _ c.in_ok-y.y (rw c.in_ok-y.was at c.evaluate-2.ensures) in
     record {
-      x_value = rw (range_back {z = x} rx) rx;
-      y_value = rw (range_back {z = y} ry) ry;
+      x_value = rw (range_back {z = c.in_ok-x.x} rx) rx;
+      y_value = rw (range_back {z = c.in_ok-y.y} ry) ry;
     }
 
 pub combined-returns : goal.combined-returns
 combined-returns t c =
     let a = c.args in
-    let l = a.bytes.now in
-    let v = take a.many a.vars.now in
-    let s = slice a.from a.to l in
-    let h : a.levels ≡ 0 → ⊥ = λ z. omega (arith, c.requires.levels_nonzero.0) in
-    let u = c.in-Whole.first in
-    let mid = c.in-Whole.mid in
-    let e : look_in l a.from a.to ≡ Whole u mid = sym c.header_at.ensures ∙ c.in-Whole.is in
-    let w : IndexIs u (slice (a.from + 3) mid l) (a.levels - 1) v c.evaluate-left.result = c.evaluate-left.ensures in
-    let x = c.in-Is.x in
-    let wx : IndexIs u (slice (a.from + 3) mid l) (a.levels - 1) v (Is x) = rw c.in-Is.is at w in
-    let u2 = c.in-Whole-header_at.second in
-    let end = c.in-Whole-header_at.end in
-    let e2 : look_in l mid a.to ≡ Whole u2 end = sym c.header_at-2.ensures ∙ c.in-Whole-header_at.is in
-    let w2 : IndexIs u2 (slice (mid + 3) end l) (a.levels - 1) v c.evaluate-right.result = c.evaluate-right.ensures in
-    let y = c.in-Is-right.y in
-    let wy : IndexIs u2 (slice (mid + 3) end l) (a.levels - 1) v (Is y) = rw c.in-Is-right.is at w2 in
-    let rx = is_ranged _ _ _ _ x wx in
-    let ry = is_ranged _ _ _ _ y wy in
-    let o : OperateIs a.tag x y c.operate.result = rw (range_back {z = x} rx, range_back {z = y} ry) at c.operate.ensures in
-    at_both a.tag s a.levels v h (omega arith) (omega arith) x y (left_some l a.from a.to (a.levels - 1) v u mid e (Is x) wx)
-    (right_some l a.from a.to (a.levels - 1) v u mid e u2 end (Is y) e2 wy) c.operate.result o
+    let x = c.in_ok-x.x in
+    let y = c.in_ok-y.y in
+    let wx = rw c.in_ok-x.was at c.evaluate.ensures in
+    let wy = rw c.in_ok-y.was at c.evaluate-2.ensures in
+    let o : OperateIs a.tag x y c.operate.result = rw (range_back {z = x} (is_ranged _ _ _ _ x wx), range_back {z = y} (is_ranged _ _ _ _ y wy)) at c.operate.ensures in
+    combined_both a.tag a.bytes.now a.from a.to a.levels (take a.many a.vars.now) (λ z. omega (arith, c.requires.levels_nonzero.0)) (omega arith) (omega arith) _ (sym c.header_at.ensures ∙ c.in_ok-left.was)
+    x wx _ (sym c.header_at-2.ensures ∙ c.in_ok-right.was) y wy c.operate.result o
 
 pub evaluate-returns-then-levels-eq0 : goal.evaluate-returns-then-levels-eq0
 evaluate-returns-then-levels-eq0 t c =
     let a = c.args in
-    let l = a.bytes.now in
-    let v = take a.many a.vars.now in
-    let s = slice a.from a.to l in
-    at_deepest a.tag s a.levels v c.if-levels-eq0.true
+    at_deepest a.tag (slice a.from a.to a.bytes.now) a.levels (take a.many a.vars.now) c.if-levels-eq0.true
 
-pub evaluate-returns-then-tag-eq64 : goal.evaluate-returns-then-tag-eq64
-evaluate-returns-then-tag-eq64 t c =
+pub evaluate-returns-in-64 : goal.evaluate-returns-in-64
+evaluate-returns-in-64 t c =
     let a = c.args in
-    let l = a.bytes.now in
     let v = take a.many a.vars.now in
-    let s = slice a.from a.to l in
-    at_literal a.tag s a.levels v c.if-levels-eq0.false c.if-tag-eq64.true c.literal.result (c.literal.ensures v)
+    at_literal a.tag (slice a.from a.to a.bytes.now) a.levels v c.if-levels-eq0.false c.in-64.is c.literal.result (c.literal.ensures v)
 
-pub evaluate-returns-then-tag-eq65 : goal.evaluate-returns-then-tag-eq65
-evaluate-returns-then-tag-eq65 t c =
+pub evaluate-returns-in-65 : goal.evaluate-returns-in-65
+evaluate-returns-in-65 t c =
     let a = c.args in
-    let l = a.bytes.now in
-    let v = take a.many a.vars.now in
-    let s = slice a.from a.to l in
-    at_variable a.tag s a.levels v c.if-levels-eq0.false c.if-tag-eq65.true c.variable.result c.variable.ensures
-
-pub evaluate-combined-requires : goal.evaluate-combined-requires
-evaluate-combined-requires t c =
-    omega arith
-
-pub evaluate-returns : goal.evaluate-returns
-evaluate-returns t c =
-    c.combined.ensures
+    at_variable a.tag (slice a.from a.to a.bytes.now) a.levels (take a.many a.vars.now) c.if-levels-eq0.false c.in-65.is c.variable.result c.variable.ensures

@@ -4,87 +4,79 @@ use mathlib.Core.Path.{◌∙◌, sym}
 use native.Mathlib.Omega.{arith}
 use lib.ListN.{take}
 use lib.Seq.{slice}
+use Rattle.std.proofs.lemmas.Result.{err_from_is_err_and}
+use Rattle.std.specs.Prelude.{Ok}
 use Rattle.language.proofs.Integers.{range_back}
 use Rattle.fields.proofs.Between.{in_whole}
 use Rattle.indexes.specs.Values.{IndexAt}
-use Rattle.indexes.specs.declared.Value.TheVariants.{Is}
 use Rattle.indexes.proofs.Operations.{index_some, index_ranged}
 use Rattle.indexes.proofs.TwoBounds.{bounds_low, bounds_none, bounds_high, bounds_cut, bounds_are}
-use borrow.Enum.Refused.{opened}
 use Rattle.indexes.proofs.bounds_of.Goals as goal
 
-pub returns-in_default : goal.returns-in_default
-returns-in_default c =
+pub returns-in_err-first : goal.returns-in_err-first
+returns-in_err-first c =
     let a = c.args in
-    let l = a.bytes.now in
-    let v = take a.many a.vars.now in
-    bounds_none l a.from a.to v (rw c.header_at.ensures at (opened c.in_default.in_default-own.keys2))
+    let p = err_from_is_err_and c.from_residual.result c.from_residual.ensures.1 in
+    rw (p.1, p.2) (bounds_none a.bytes.now a.from a.to (take a.many a.vars.now) (sym c.header_at.ensures ∙ c.in_err-first.was))
 
-pub overflow_add-start : goal.overflow_add-start
-overflow_add-start c =
+pub overflow_add-from : goal.overflow_add-from
+overflow_add-from c =
     let a = c.args in
-    let f = in_whole a.bytes.now a.from a.to _ _ (sym c.header_at.ensures ∙ c.in-Whole.is) in
+    let f = in_whole a.bytes.now a.from a.to _ _ (sym c.header_at.ensures ∙ c.in_ok-first.was) in
     omega (arith, f.low, f.high)
 
-pub evaluate-low-requires : goal.evaluate-low-requires
-evaluate-low-requires c =
+pub evaluate-requires : goal.evaluate-requires
+evaluate-requires c =
     let a = c.args in
-    let f = in_whole a.bytes.now a.from a.to _ _ (sym c.header_at.ensures ∙ c.in-Whole.is) in
+    let f = in_whole a.bytes.now a.from a.to _ _ (sym c.header_at.ensures ∙ c.in_ok-first.was) in
     search rules
 
-pub returns-in_default-low : goal.returns-in_default-low
-returns-in_default-low c =
+pub returns-in_err-low : goal.returns-in_err-low
+returns-in_err-low c =
     let a = c.args in
-    let l = a.bytes.now in
     let v = take a.many a.vars.now in
-    let e = sym c.header_at.ensures ∙ c.in-Whole.is in
-    rw c.bound.ensures (bounds_low l a.from a.to v c.evaluate-low.result (index_some l a.from a.to v _ _ c.evaluate-low.result e c.evaluate-low.ensures) (opened c.in_default-low.in_default-low-own.keys2))
+    let p = err_from_is_err_and c.from_residual-in_err-low.result c.from_residual-in_err-low.ensures.1 in
+    rw (p.1, p.2) (bounds_low a.bytes.now a.from a.to v _ (index_some a.bytes.now a.from a.to v _ _ _ (sym c.header_at.ensures ∙ c.in_ok-first.was) (rw c.in_err-low.was at c.evaluate.ensures)))
 
-pub returns-in_default-header_at : goal.returns-in_default-header_at
-returns-in_default-header_at c =
+pub returns-in_err-second : goal.returns-in_err-second
+returns-in_err-second c =
     let a = c.args in
-    let l = a.bytes.now in
     let v = take a.many a.vars.now in
-    let x = c.in-Is.x in
-    let e = sym c.header_at.ensures ∙ c.in-Whole.is in
-    let wx : IndexAt (slice a.from a.to l) 0 v (Is x) = index_some l a.from a.to v _ _ (Is x) e (rw c.in-Is.is at c.evaluate-low.ensures) in
-    bounds_cut l a.from a.to v x wx _ _ e (rw c.header_at-2.ensures at (opened c.in_default-header_at.in_default-header_at-own.keys2))
+    let e = sym c.header_at.ensures ∙ c.in_ok-first.was in
+    let p = err_from_is_err_and c.from_residual-in_err-second.result c.from_residual-in_err-second.ensures.1 in
+    rw (p.1, p.2) (bounds_cut a.bytes.now a.from a.to v c.in_ok-low.low (index_some a.bytes.now a.from a.to v _ _ _ e (rw c.in_ok-low.was at c.evaluate.ensures)) _ _ e (sym c.header_at-2.ensures ∙ c.in_err-second.was))
 
-pub overflow_add-next : goal.overflow_add-next
-overflow_add-next c =
+pub overflow_add-first : goal.overflow_add-first
+overflow_add-first c =
     let a = c.args in
-    let f = in_whole a.bytes.now _ a.to _ _ (sym c.header_at-2.ensures ∙ c.in-Whole-header_at.is) in
+    let f = in_whole a.bytes.now _ a.to _ _ (sym c.header_at-2.ensures ∙ c.in_ok-second.was) in
     omega (arith, f.low, f.high)
 
-pub evaluate-high-requires : goal.evaluate-high-requires
-evaluate-high-requires c =
+pub evaluate-requires-2 : goal.evaluate-requires-2
+evaluate-requires-2 c =
     let a = c.args in
-    let f = in_whole a.bytes.now _ a.to _ _ (sym c.header_at-2.ensures ∙ c.in-Whole-header_at.is) in
+    let f = in_whole a.bytes.now _ a.to _ _ (sym c.header_at-2.ensures ∙ c.in_ok-second.was) in
     search rules
 
-pub returns-in_default-high : goal.returns-in_default-high
-returns-in_default-high c =
+pub returns-in_err-high : goal.returns-in_err-high
+returns-in_err-high c =
     let a = c.args in
-    let l = a.bytes.now in
     let v = take a.many a.vars.now in
-    let x = c.in-Is.x in
-    let e = sym c.header_at.ensures ∙ c.in-Whole.is in
-    let mid = c.in-Whole.mid in
-    let wx : IndexAt (slice a.from a.to l) 0 v (Is x) = index_some l a.from a.to v _ _ (Is x) e (rw c.in-Is.is at c.evaluate-low.ensures) in
-    let g = sym c.header_at-2.ensures ∙ c.in-Whole-header_at.is in
-    rw c.bound-in_default-high.ensures (bounds_high l a.from a.to v x wx _ _ e c.evaluate-high.result (index_some l mid a.to v _ _ c.evaluate-high.result g c.evaluate-high.ensures) (opened c.in_default-high.in_default-high-own.keys2))
+    let e = sym c.header_at.ensures ∙ c.in_ok-first.was in
+    let p = err_from_is_err_and c.from_residual-in_err-high.result c.from_residual-in_err-high.ensures.1 in
+    rw (p.1, p.2) (bounds_high a.bytes.now a.from a.to v c.in_ok-low.low (index_some a.bytes.now a.from a.to v _ _ _ e (rw c.in_ok-low.was at c.evaluate.ensures)) _ _ e
+    _ (index_some a.bytes.now _ a.to v _ _ _ (sym c.header_at-2.ensures ∙ c.in_ok-second.was) (rw c.in_err-high.was at c.evaluate-2.ensures)))
 
 pub returns : goal.returns
 returns c =
     let a = c.args in
     let l = a.bytes.now in
     let v = take a.many a.vars.now in
-    let x = c.in-Is.x in
-    let y = c.in-Is-high.y in
-    let e = sym c.header_at.ensures ∙ c.in-Whole.is in
-    let mid = c.in-Whole.mid in
-    let g = sym c.header_at-2.ensures ∙ c.in-Whole-header_at.is in
-    let wx : IndexAt (slice a.from a.to l) 0 v (Is x) = index_some l a.from a.to v _ _ (Is x) e (rw c.in-Is.is at c.evaluate-low.ensures) in
-    let wy : IndexAt (slice mid a.to l) 0 v (Is y) = index_some l mid a.to v _ _ (Is y) g (rw c.in-Is-high.is at c.evaluate-high.ensures) in
-    rw (range_back {z = x} (index_ranged (slice a.from a.to l) 0 v x wx), range_back {z = y} (index_ranged (slice mid a.to l) 0 v y wy))
+    let x = c.in_ok-low.low in
+    let y = c.in_ok-high.high in
+    let e = sym c.header_at.ensures ∙ c.in_ok-first.was in
+    let g = sym c.header_at-2.ensures ∙ c.in_ok-second.was in
+    let wx : IndexAt (slice a.from a.to l) 0 v (Ok x) = index_some l a.from a.to v _ _ _ e (rw c.in_ok-low.was at c.evaluate.ensures) in
+    let wy : IndexAt (slice c.in_ok-first.first.next a.to l) 0 v (Ok y) = index_some l _ a.to v _ _ _ g (rw c.in_ok-high.was at c.evaluate-2.ensures) in
+    rw (range_back {z = x} (index_ranged (slice a.from a.to l) 0 v x wx), range_back {z = y} (index_ranged (slice c.in_ok-first.first.next a.to l) 0 v y wy))
     (bounds_are l a.from a.to v x wx _ _ e y _ _ wy g)

@@ -1,39 +1,16 @@
 -- `operands::as_bit` meets its contract. Assumes nothing.
-use Rattle.language.specs.Machine.{◌>>=◌, after, as_bit}
-use Rattle.operands.specs.Meanings.{meaning_told, bit_told}
+use Rattle.language.specs.Machine.{as_bit}
+use Rattle.indexes.specs.Values.{fault_told}
+use Rattle.operands.specs.Meanings.{stood, bit_told}
+use Rattle.operands.proofs.Meanings.{no_bit}
 use Rattle.operands.proofs.as_bit.Goals as goal
 
-pub returns-in-AWire : goal.returns-in-AWire
-unfolding meaning_told bit_told ◌>>=◌ after as_bit
-returns-in-AWire c =
-    λ p. rw c.in-AWire.is
+pub returns-in-Bit : goal.returns-in-Bit
+unfolding bit_told stood as_bit
+returns-in-Bit c =
+    λ p. rw c.in-Bit.is
 
-pub returns-in-ABit : goal.returns-in-ABit
-unfolding meaning_told bit_told ◌>>=◌ after as_bit
-returns-in-ABit c =
-    λ p. rw c.in-ABit.is
-
-pub returns-in-Wires : goal.returns-in-Wires
-unfolding meaning_told bit_told ◌>>=◌ after as_bit
-returns-in-Wires c =
-    λ p. rw c.in-Wires.is
-
-pub returns-in-Bits : goal.returns-in-Bits
-unfolding meaning_told bit_told ◌>>=◌ after as_bit
-returns-in-Bits c =
-    λ p. rw c.in-Bits.is
-
-pub returns-in-AFamily : goal.returns-in-AFamily
-unfolding meaning_told bit_told ◌>>=◌ after as_bit
-returns-in-AFamily c =
-    λ p. rw c.in-AFamily.is
-
-pub returns-in-Over : goal.returns-in-Over
-unfolding meaning_told bit_told ◌>>=◌ after as_bit
-returns-in-Over c =
-    λ p. rw c.in-Over.is
-
-pub returns-in-Stuck : goal.returns-in-Stuck
-unfolding meaning_told bit_told ◌>>=◌ after as_bit
-returns-in-Stuck c =
-    λ p. rw c.in-Stuck.is
+pub returns-in_default : goal.returns-in_default
+unfolding bit_told fault_told
+returns-in_default c =
+    λ p. no_bit c.args.s c.in_default.not-Bit
