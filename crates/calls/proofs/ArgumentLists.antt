@@ -1,7 +1,8 @@
 -- Arguments gone through one by one, with what they gave so far. Assumes nothing.
 use mathlib.Core.Path.{◌≡◌, refl, sym, ap, ◌∙◌}
 use mathlib.Core.List.{List, [], ◌∷◌, ◌++◌, map, append_assoc, append-nil}
-use Prim.Native.Nat.{ℕ, ◌+◌, ◌-◌, ◌≤◌}
+use Prim.Native.Nat.{ℕ, ◌+◌, ◌-◌, ◌≤◌, ◌<◌}
+use lib.ListN.{length}
 use native.Mathlib.Omega.{arith}
 use lib.Seq.{slice}
 use Rattle.language.specs.Tree.{Place, Argument, bad_argument}
@@ -11,7 +12,10 @@ use Rattle.std.specs.Prelude.{Ok, Err}
 use Rattle.indexes.specs.declared.Fault.{Fault}
 use Rattle.indexes.specs.declared.Fault.TheVariants.{Over, Stuck}
 use Rattle.indexes.specs.Values.{fault_told}
+use Rattle.fields.specs.declared.NoHeader.{NoHeader}
 use Rattle.fields.specs.declared.NoHeader.TheVariants.{End, Cut}
+use Rattle.fields.specs.Header.{header_of}
+use Rattle.fields.proofs.Headers.{View, ends, cuts, goes, view, fields_end}
 use Rattle.fields.proofs.Between.{look_in, in_whole, in_none, in_bad}
 use Rattle.calls.specs.Arguments.{arguments_in, Gives, Fails}
 
@@ -56,6 +60,22 @@ module _ {A : Type 0} where
   joined_stuck : (xs : List A) → joined {A = A} xs no_meaning ≡ no_meaning
   unfolding joined ◌>>=◌ after
   joined_stuck xs = refl
+
+-- ---- where a list ends or is cut off
+
+module _ (l : List ℕ) (at to : ℕ) where
+  pub ends_at : to ≤ at → look_in l at to ≡ Err End
+  unfolding header_of
+  ends_at h = ap (header_of at) (fields_end l at to h)
+
+  pub cut_at : to ≤ length l → at < to → (e : NoHeader) → look_in l at to ≡ Err e → look_in l at to ≡ Err Cut
+  unfolding header_of
+  cut_at k h e f = go (view l at to k)
+    where
+      go : View l at to → look_in l at to ≡ Err Cut
+      go (ends x i) = absurd (omega arith)
+      go (cuts x) = ap (header_of at) x
+      go (goes tag next w) = absurd (let x = ap (header_of at) w.first in let z : ◌≡◌ {A = ℕ} 0 1 = cc in omega arith)
 
 -- ---- a list of arguments from a position on
 

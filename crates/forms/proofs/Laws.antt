@@ -16,8 +16,8 @@ use Rattle.form_laws.proofs.Trials.{for_most, trials_most}
 use Rattle.std.specs.Prelude.{Result, Ok, Err, OnOk, is_ok}
 use Rattle.forms.specs.declared.OutOfRange.{OutOfRange}
 use Rattle.forms.specs.Flat.{Kept, as_form, built_of}
-use Rattle.language.proofs.Integers.{integers, plus, minus, times, clash}
-use Rattle.forms.proofs.Lists.{tested, answer_tested, sum_flat, difference_flat, ranges, rest_good, rest_bad, rest_none, Passed, begun, again, stopped, ended_kept, both, zero_yes, zero_no, term_flat, rest_long, set_kept}
+use Rattle.language.proofs.Integers.{integers, plus, minus, times}
+use Rattle.forms.proofs.Lists.{tested, sum_flat, difference_flat, ranges, rest_good, rest_bad, rest_none, Passed, again, stopped, ended_kept, both, zero_yes, zero_no, term_flat, rest_long, set_kept}
 use Rattle.forms.proofs.Lists as L
 use Rattle.forms.specs.Rows.{Rows, loop_at, loops_of, forms_of}
 
@@ -96,9 +96,6 @@ both_no false t a b e f g = ap (λ (u : Bool). u && b) (f refl)
 pub record Scaling (k : ℤ) (f h r g : List ℤ) (i : ℕ) : Type 0 where
   pub sums : Passed (λ x y. x +ℤ k *ℤ y) f h r g i
   pub products : all_in_range (map (λ z. k *ℤ z) h) ≡ all_in_range (drop i (map (λ z. k *ℤ z) h))
-
-pub scaling_begun : (k : ℤ) (f h r : List ℤ) → Scaling k f h r r 0
-scaling_begun k f h r = record { sums = begun _ f h r; products = refl }
 
 module _ {k : ℤ} {f h r g : List ℤ} {i : ℕ} (s : Scaling k f h r g i) (kf : Kept f) (kh : Kept h) (lr : length r ≡ 13) where
   product_at_lem : i < 13 → get_or (map (λ z. k *ℤ z) h) i (pos 0) ≡ k *ℤ get_or h i (pos 0)

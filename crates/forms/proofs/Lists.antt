@@ -2,7 +2,7 @@
 --     front i new old   the first i of `new`, and what is left of `old` past them: what such a loop has after i turns
 --     rest-...          the answer to "are all in range" is the answer for what is left, so long as each one passed is
 -- Assumes nothing.
-use mathlib.Core.Path.{◌≡◌, refl, sym, ap, ◌∙◌, subst}
+use mathlib.Core.Path.{◌≡◌, refl, sym, ap, ◌∙◌}
 use mathlib.Core.List.{List, [], ◌∷◌, ◌++◌, map}
 use mathlib.Core.Bool.{Bool, true, false, cond, ◌&&◌}
 use Prim.Native.Nat.{ℕ, zero, suc, ◌+◌, ◌≤◌, ◌<◌}
@@ -10,11 +10,11 @@ use native.Mathlib.Numerals.{add-one}
 use native.Mathlib.Omega.{arith}
 use lib.IntN.{ℤ, pos, negsuc, ◌+ℤ◌, ◌-ℤ◌}
 use lib.Signed.{le_z, lt_z}
-use lib.ListN.{length, get_or, take, drop, set, replicate, length-set, length-take, length-append, drop_of_length-le, take-append-drop, get_or-append}
+use lib.ListN.{length, get_or, take, drop, set, replicate, length-set, length-take, length-append, get_or-append}
 use lib.Seq.{take_all}
 use Rattle.std.proofs.lemmas.List.{take-append-le}
-use Rattle.std.specs.Prelude.{Result, Ok, Err, IsErr, OnOk, is_ok, is_err}
-use Rattle.language.specs.Form.{Form, Built, built, out_of_range, Loop, closed, showing_of, in_range, all_in_range, zipped, build, sum_of, difference_of, multiple_of, ◌then_build◌, without, none_negative, is_zero, all_zero, same_number, same_numbers, same_form}
+use Rattle.std.specs.Prelude.{Result, Ok, Err, IsErr, OnOk, is_err}
+use Rattle.language.specs.Form.{Built, built, out_of_range, Loop, closed, showing_of, in_range, all_in_range, zipped, build, sum_of, difference_of, multiple_of, ◌then_build◌, without, none_negative, is_zero, all_zero, same_numbers, same_form}
 use Rattle.forms.specs.declared.OutOfRange.{OutOfRange}
 use Rattle.forms.specs.Flat.{Kept, Short, widened, as_form, built_of, showing_by}
 use mir.Syntax.{w32, w64}
@@ -22,7 +22,7 @@ use mir.Val.{to_z, of_z}
 use Rattle.language.proofs.Integers.{clash, lt_true, widen_back}
 use Rattle.std.specs.Bool.{Decides}
 use Rattle.std.specs.List.{list_all}
-use Rattle.form_laws.proofs.Equal.{same_number_lem, number_itself, same_numbers_lem, numbers_itself}
+use Rattle.form_laws.proofs.Equal.{same_numbers_lem, numbers_itself}
 
 module _ {A : Type 0} where
   abbrev pub front : ℕ → List A → List A → List A
@@ -138,38 +138,8 @@ zero_no {z = negsuc n} h = refl
 
 -- ---- a test whether two lists are the same
 
-pub number_same : {x y : ℤ} → x ≡ y → same_number x y ≡ true
-number_same {x} {y} e = ap (same_number x) (sym e) ∙ number_itself x
-
-pub number_other : {x y : ℤ} → (x ≡ y → ⊥) → same_number x y ≡ false
-number_other {x} {y} h = go (same_number x y) (same_number_lem x y)
-  where
-    go : (b : Bool) → (b ≡ true → x ≡ y) → b ≡ false
-    go true k = absurd (h (k refl))
-    go false k = refl
-
 pub numbers_decide : (xs ys : List ℤ) → Decides (same_numbers xs ys) (xs ≡ ys)
 numbers_decide xs ys = (same_numbers_lem xs ys, λ e. ap (same_numbers xs) (sym e) ∙ numbers_itself xs)
-
--- the answer for two lists is the answer for what is left of them, as above
-pub pair_good : (xs ys : List ℤ) (i : ℕ) → i < length xs → i < length ys → same_number (get_or xs i (pos 0)) (get_or ys i (pos 0)) ≡ true
-    → same_numbers (drop i xs) (drop i ys) ≡ same_numbers (drop (suc i) xs) (drop (suc i) ys)
-unfolding same_numbers
-pair_good [] ys i h k e = absurd (omega arith)
-pair_good (x ∷ xs) [] i h k e = absurd (omega arith)
-pair_good (x ∷ xs) (y ∷ ys) zero h k e = ap (λ (t : Bool). t && same_numbers xs ys) e
-pair_good (x ∷ xs) (y ∷ ys) (suc i) h k e = pair_good xs ys i (omega arith) (omega arith) e
-
-pub pair_bad : (xs ys : List ℤ) (i : ℕ) → i < length xs → i < length ys → same_number (get_or xs i (pos 0)) (get_or ys i (pos 0)) ≡ false → same_numbers (drop i xs) (drop i ys) ≡ false
-unfolding same_numbers
-pair_bad [] ys i h k e = absurd (omega arith)
-pair_bad (x ∷ xs) [] i h k e = absurd (omega arith)
-pair_bad (x ∷ xs) (y ∷ ys) zero h k e = ap (λ (t : Bool). t && same_numbers xs ys) e
-pair_bad (x ∷ xs) (y ∷ ys) (suc i) h k e = pair_bad xs ys i (omega arith) (omega arith) e
-
-pub pair_none : (xs ys : List ℤ) (i : ℕ) → length xs ≤ i → length ys ≤ i → same_numbers (drop i xs) (drop i ys) ≡ true
-unfolding same_numbers
-pair_none xs ys i h k = rw (drop_of_length-le xs {i = i} h, drop_of_length-le ys {i = i} k) refl
 
 pub same_flat : (f g : List ℤ) → Kept f → Kept g → same_numbers f g ≡ same_form (as_form f) (as_form g)
 unfolding as_form same_form same_numbers
@@ -184,9 +154,6 @@ pub record Passed (op : ℤ → ℤ → ℤ) (f₀ g r f : List ℤ) (i : ℕ) :
   pub bound : i ≤ 13
   pub shape : f ≡ front i (zipped op f₀ g) r
   pub answer : all_in_range (zipped op f₀ g) ≡ all_in_range (drop i (zipped op f₀ g))
-
-pub begun : (op : ℤ → ℤ → ℤ) (f g r : List ℤ) → Passed op f g r r 0
-begun op f g r = record { bound = omega arith; shape = refl; answer = refl }
 
 module _ {op : ℤ → ℤ → ℤ} {f₀ g r f : List ℤ} {i : ℕ} (p : Passed op f₀ g r f i) (kf : Kept f₀) (kg : Kept g) where
   new_long : length (zipped op f₀ g) ≡ 13
@@ -257,11 +224,6 @@ not_built (Err x) l e = refl
 -- a form that stands where a test came out true
 abbrev pub tested : Bool → List ℤ → Built
 tested t l = cond t (built (as_form l)) out_of_range
-
-pub answer_tested : (r : Result (Unit {0}) OutOfRange) (l : List ℤ) → built_of r l ≡ tested (is_ok r) l
-unfolding built_of
-answer_tested (Ok u) l = refl
-answer_tested (Err e) l = refl
 
 -- ---- the definitions, of lists
 
@@ -390,9 +352,6 @@ loaded l s = let n = s.long in ap (λ (x : List ℤ). x ++ replicate 8 (pos 0)) 
 module _ (l : List ℤ) (k : Kept l) where
   pub stored : front 5 (take 5 l) (replicate 5 (pos 0)) ≡ take 5 l
   stored = let n = k.long in front_all 5 (take 5 l) (replicate 5 (pos 0)) (omega (arith, length-take 5 l)) refl
-
-  pub store_wide : drop 5 l ≡ replicate 8 (pos 0) → widened (take 5 l) ≡ l
-  store_wide e = ap (λ (x : List ℤ). take 5 l ++ x) (sym e) ∙ take-append-drop 5 l
 
   pub store_short : Short (take 5 l)
   store_short = record { long = (let n = k.long in omega (arith, length-take 5 l)); inside = take_range 5 l k.inside }

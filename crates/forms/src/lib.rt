@@ -96,7 +96,7 @@ pub fn in_range(z: i64) -> bool
     LOWEST <= z && z <= FURTHEST
 }
 
-// f's number i becomes x plus k times y; false where the product or the sum is out of range.
+// f's number i becomes x plus k times y, if the product and the sum are in range.
 fn put_sum(f: &mut Form, i: usize, x: i64, k: i64, y: i64) -> Result<(), OutOfRange>
     requires i_lt_form_numbers { i < form_numbers }
     requires x_value { in_range x ≡ true }
@@ -117,7 +117,7 @@ fn put_sum(f: &mut Form, i: usize, x: i64, k: i64, y: i64) -> Result<(), OutOfRa
     Ok(())
 }
 
-// f's number i becomes itself plus k times y; false where the product or the sum is out of range.
+// f's number i becomes itself plus k times y, if the product and the sum are in range.
 fn add_number(f: &mut Form, i: usize, k: i64, y: i64) -> Result<(), OutOfRange>
     requires i_lt_form_numbers { i < form_numbers }
     requires pos_value { in_range (get_or f.old i (pos 0)) ≡ true }
@@ -133,7 +133,7 @@ fn add_number(f: &mut Form, i: usize, k: i64, y: i64) -> Result<(), OutOfRange>
     put_sum(f, i, x, k, y)
 }
 
-// f becomes f plus k times g; false where a number is out of range, and what f holds then is of no use.
+// f becomes f plus k times g. Where a number is out of range, what f holds then is of no use.
 pub fn add_scaled(f: &mut Form, k: i64, g: &Form) -> Result<(), OutOfRange>
     requires kept { Kept f.old }
     requires k_value { in_range k ≡ true }
@@ -292,7 +292,7 @@ fn number_but(f: &Form, at: usize, i: usize) -> i64
     f[i]
 }
 
-// g's number i becomes x plus k times y, where y is mostly 0; false where the product or the sum is out of range.
+// g's number i becomes x plus k times y, where y is mostly 0, if the product and the sum are in range.
 fn put_number(g: &mut Form, i: usize, x: i64, k: i64, y: i64) -> Result<(), OutOfRange>
     requires i_lt_form_numbers { i < form_numbers }
     requires x_value { in_range x ≡ true }
@@ -308,7 +308,7 @@ fn put_number(g: &mut Form, i: usize, x: i64, k: i64, y: i64) -> Result<(), OutO
     put_sum(g, i, x, k, y)
 }
 
-// g becomes f, with 0 in the place of the number `at`, plus k times h; false where a number is out of range.
+// g becomes f, with 0 in the place of the number `at`, plus k times h, if the numbers are in range.
 fn sum_but(g: &mut Form, f: &Form, at: usize, k: i64, h: &Form) -> Result<(), OutOfRange>
     requires g_len { length g.old ≡ form_numbers }
     requires kept { Kept f.now }
@@ -360,15 +360,12 @@ fn left(f: &Form, variables: usize, loops: usize) -> usize
     ensures upper_bound { result ≤ loops }
     ensures fact { 0 < result → get_or f.now (variables + result) (pos 0) ≡ pos 0 → ⊥ }
 {
-    let mut n = loops;
-    while 0 < n {
-        let x = f[variables + n];
-        if x != 0 {
-            return n;
+    for n in (0..loops).rev() {
+        if f[variables + n + 1] != 0 {
+            return n + 1;
         }
-        n -= 1;
     }
-    n
+    0
 }
 
 // What is shown of a form all of whose numbers are 0 or more, and of another.
@@ -442,7 +439,7 @@ fn show_plainly(f: &Form, ranges: &Ranges) -> Settling
     }
 }
 
-// f becomes f − (high − low) of the loop n, high − low being built first; false where a number is out of range.
+// f becomes f − (high − low) of the loop n, high − low being built first, if the numbers are in range.
 fn less_range(f: &mut Form, lows: &[Form], highs: &[Form], n: usize) -> Result<(), OutOfRange>
     requires kept { Kept f.old }
     requires rows { Rows lows.now (n + 1) }

@@ -13,8 +13,8 @@ use Rattle.language.specs.Check.{require, check, ◌>>◌}
 use Rattle.language.specs.Result.{verdict, check_program, check_result}
 use Rattle.language.proofs.Refusals.{place_within}
 use Rattle.check_program.specs.Answers.{result_told}
-use Rattle.check_program.specs.declared.Outcome.{Outcome}
-use Rattle.check_program.specs.declared.Outcome.TheVariants.{Turned}
+use Rattle.std.specs.Prelude.{Result, Err}
+use Rattle.refusals.specs.declared.Refusal.{Refusal}
 
 -- the place of a check's answer
 pub place_small : (p : List ℕ) → (check_result p).place ≤ longest_program
@@ -25,7 +25,6 @@ place_small p = by (leb (length p) longest_program) refl
     by true e = let h = leb-true (length p) longest_program e in let k = rw e at (place_within p) in omega arith
     by false e = omega arith
 
-module _ (o : Outcome) (p : List ℕ) (e : result_told o ≡ check_result p) where
-  pub turned_small : (n q : ℕ) → o ≡ Turned n q → q ≤ longest_program
-  unfolding result_told
-  turned_small n q u = let z : q ≡ (check_result p).place = sym (ap (λ (x : Outcome). (result_told x).place) u) ∙ ap (λ r. r.place) e in let h = place_small p in omega arith
+pub refused_small : (r : Result (Unit {0}) Refusal) (p : List ℕ) (f : Refusal) → result_told r ≡ check_result p → r ≡ Err f → f.1 ≤ longest_program
+unfolding result_told
+refused_small r p f e u = let z : f.1 ≡ (check_result p).place = sym (ap (λ (x : Result (Unit {0}) Refusal). (result_told x).place) u) ∙ ap (λ r. r.place) e in let h = place_small p in omega arith

@@ -21,14 +21,16 @@ use Rattle.kinds.specs.Numbers.{kind_with}
 use Rattle.operands.specs.declared.Wire.{Wire}
 use Rattle.operands.specs.declared.Bit.{Bit}
 use Rattle.language.specs.Tree.{Place}
-use Rattle.language.specs.Machine.{Meaning, a_wire, a_bit, wires, bits, Run, give, no_meaning, found, natural_of, ◌>>=◌, after, element_at, slice_at}
+use Rattle.language.specs.Machine.{Meaning, a_wire, a_bit, wires, bits, Run, give, no_meaning, found, natural_of, ◌>>=◌, after, element_at, slice_at, as_wire, as_bit}
 use Rattle.operands.specs.declared.Operand.{Operand}
 use Rattle.operands.specs.declared.Operand.TheVariants.{Single, Register, Family}
 use Rattle.operands.specs.declared.Parameter.{Parameter}
-use Rattle.std.specs.Prelude.{Ok, Err}
+use Rattle.std.specs.Prelude.{Result, Ok, Err}
+use Rattle.std.specs.Option.{ok_or}
 use Rattle.std.specs.Prelude as prelude
 use Rattle.operands.specs.declared.Meaning as code
-use Rattle.operands.specs.declared.Meaning.TheVariants.{Wire as m_wire, Bit as m_bit, Wires, Family as m_family}
+use Rattle.operands.specs.declared.Meaning.TheVariants.{Wire as m_wire, Bit as m_bit, Wires, Bits, Family as m_family}
+use Rattle.indexes.specs.declared.Fault.{Fault}
 use Rattle.indexes.specs.declared.Fault.TheVariants.{Stuck}
 use Rattle.indexes.specs.Values.{fault_told}
 use Rattle.operands.specs.Meanings.{of_parameter, parameter_of, register_of, registers_of, stood, meaning_told, location_in, locations, clipped, location_of, the_wire, the_bit}
@@ -77,17 +79,11 @@ parameter_at n (suc k) [] d h i = absurd (omega arith)
 parameter_at zero (suc k) (x ∷ l) d h i = refl
 parameter_at (suc n) (suc k) (x ∷ l) d h i = parameter_at n k l d (omega arith) (omega arith)
 
-pub parameter_past : (n k : ℕ) (l : List Parameter) → k ≤ n → get_elem? (map of_parameter (take k l)) n ≡ none
-parameter_past n zero l h = refl
-parameter_past n (suc k) [] h = refl
-parameter_past zero (suc k) (x ∷ l) h = absurd (omega arith)
-parameter_past (suc n) (suc k) (x ∷ l) h = parameter_past n k l (omega arith)
-
-pub parameter_none : (n k : ℕ) (l : List Parameter) → length l ≤ n → get_elem? (map of_parameter (take k l)) n ≡ none
-parameter_none n zero l h = refl
-parameter_none n (suc k) [] h = refl
-parameter_none zero (suc k) (x ∷ l) h = absurd (omega arith)
-parameter_none (suc n) (suc k) (x ∷ l) h = parameter_none n k l (omega arith)
+pub parameter_out : (n k : ℕ) (l : List Parameter) → (n < k → n < length l → ⊥) → get_elem? (map of_parameter (take k l)) n ≡ none
+parameter_out n zero l h = refl
+parameter_out n (suc k) [] h = refl
+parameter_out zero (suc k) (x ∷ l) h = absurd (h (omega arith) (omega arith))
+parameter_out (suc n) (suc k) (x ∷ l) h = parameter_out n k l (λ i j. h (omega arith) (omega arith))
 
 -- the code's answer for what a parameter holds
 abbrev pub parameter_answer : Operand → code.Meaning
@@ -116,6 +112,52 @@ location_high first size i h = simp (le-ltb i (clipped first size) (omega arith)
 pub location_at : (first size i : ℕ) → i < size → first + i < locations → prelude.Some (first + i) ≡ location_in first size i
 unfolding location_in
 location_at first size i h k = simp (lt-ltb i (clipped first size) (omega arith))
+
+-- ---- a location, or a fault where there is none
+
+pub location_none : (o : prelude.Option ℕ) (r : Result ℕ Fault) (f : Fault) → r ≡ ok_or o Stuck → r ≡ Err f → (o ≡ prelude.None) × (f ≡ Stuck)
+location_none prelude.None r f e k = (refl, cc)
+location_none (prelude.Some n) r f e k = absurd (let z : ◌≡◌ {A = ℕ} 0 1 = cc in omega arith)
+
+pub location_some : (o : prelude.Option ℕ) (r : Result ℕ Fault) (n : ℕ) → r ≡ ok_or o Stuck → r ≡ Ok n → o ≡ prelude.Some n
+location_some prelude.None r n e k = absurd (let z : ◌≡◌ {A = ℕ} 0 1 = cc in omega arith)
+location_some (prelude.Some m) r n e k = cc
+
+-- ---- what has no elements, or no slices
+
+pub no_element : (s : code.Meaning) → ((w : Wire) (n : ℕ) → s ≡ Wires w n → ⊥) → ((b : Bit) (n : ℕ) → s ≡ Bits b n → ⊥) → (z : ℤ) → no_meaning ≡ element_at (stood s) z
+unfolding stood element_at
+no_element (m_wire w) h k z = refl
+no_element (m_bit b) h k z = refl
+no_element (Wires w n) h k z = absurd (h w n refl)
+no_element (Bits b n) h k z = absurd (k b n refl)
+no_element (m_family n) h k z = refl
+
+pub no_slice : (s : code.Meaning) → ((w : Wire) (n : ℕ) → s ≡ Wires w n → ⊥) → (x y : ℤ) → no_meaning ≡ slice_at (stood s) x y
+unfolding stood slice_at
+no_slice (m_wire w) h x y = refl
+no_slice (m_bit b) h x y = refl
+no_slice (Wires w n) h x y = absurd (h w n refl)
+no_slice (Bits b n) h x y = refl
+no_slice (m_family n) h x y = refl
+
+-- ---- what is no wire, or no bit
+
+pub no_wire : (s : code.Meaning) → ((w : Wire) → s ≡ m_wire w → ⊥) → no_meaning ≡ as_wire (stood s)
+unfolding stood as_wire
+no_wire (m_wire w) h = absurd (h w refl)
+no_wire (m_bit b) h = refl
+no_wire (Wires w n) h = refl
+no_wire (Bits b n) h = refl
+no_wire (m_family n) h = refl
+
+pub no_bit : (s : code.Meaning) → ((b : Bit) → s ≡ m_bit b → ⊥) → no_meaning ≡ as_bit (stood s)
+unfolding stood as_bit
+no_bit (m_wire w) h = refl
+no_bit (m_bit b) h = absurd (h b refl)
+no_bit (Wires w n) h = refl
+no_bit (Bits b n) h = refl
+no_bit (m_family n) h = refl
 
 -- ---- elements
 

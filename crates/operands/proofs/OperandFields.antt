@@ -16,6 +16,7 @@ use Rattle.language.specs.Read.{field, fields, two_bytes, due, choose, read_oper
 use Rattle.language.specs.Machine.{Meaning, the_family, Run, ended, going, stuck, begin, give, end_at, no_meaning, found, after, ◌>>=◌, element_at, slice_at, run_bounds, meaning_of, evaluate, Direction, Condition, wire_of, as_wire, bit_of, as_bit, as_family}
 use Rattle.std.specs.Prelude.{Result, Ok, Err}
 use Rattle.std.specs.Prelude as prelude
+use Rattle.std.specs.Result.{result_ok}
 use Rattle.fields.specs.declared.NoHeader.{NoHeader}
 use Rattle.fields.specs.declared.NoHeader.TheVariants.{End, Cut}
 use Rattle.indexes.specs.declared.Fault.{Fault}
@@ -180,15 +181,23 @@ module _ (ms : List Meaning) (n : ℕ) where
   unfolding meaning_told stood family_told as_family ◌>>=◌ after
   family_named i w = ap (λ (m : Run Meaning). m >>= as_family) (w 0)
 
-  pub family_none : (r : Answer) → OperandIs ms n r → ((i : ℕ) → r ≡ Ok (m.Family i) → ⊥) → FamilyOf ms n prelude.None
-  unfolding meaning_told stood fault_told family_told as_family ◌>>=◌ after
-  family_none (Ok (m.Wire x)) w h = ap (λ (m : Run Meaning). m >>= as_family) (w 0)
-  family_none (Ok (m.Bit x)) w h = ap (λ (m : Run Meaning). m >>= as_family) (w 0)
-  family_none (Ok (m.Wires x i)) w h = ap (λ (m : Run Meaning). m >>= as_family) (w 0)
-  family_none (Ok (m.Bits x i)) w h = ap (λ (m : Run Meaning). m >>= as_family) (w 0)
-  family_none (Ok (m.Family i)) w h = absurd (h i refl)
-  family_none (Err Over) w h = absurd (let s = operand_stuck ms n Over w in let z : ◌≡◌ {A = ℕ} 0 1 = cc in omega arith)
-  family_none (Err Stuck) w h = ap (λ (m : Run Meaning). m >>= as_family) (w 0)
+  pub family_other : (s : code.Meaning) → OperandIs ms n (Ok s) → ((i : ℕ) → s ≡ m.Family i → ⊥) → FamilyOf ms n prelude.None
+  unfolding meaning_told stood family_told as_family ◌>>=◌ after
+  family_other (m.Wire x) w h = ap (λ (m : Run Meaning). m >>= as_family) (w 0)
+  family_other (m.Bit x) w h = ap (λ (m : Run Meaning). m >>= as_family) (w 0)
+  family_other (m.Wires x i) w h = ap (λ (m : Run Meaning). m >>= as_family) (w 0)
+  family_other (m.Bits x i) w h = ap (λ (m : Run Meaning). m >>= as_family) (w 0)
+  family_other (m.Family i) w h = absurd (h i refl)
+
+  pub family_none : (r : Answer) → OperandIs ms n r → result_ok r ≡ prelude.None → FamilyOf ms n prelude.None
+  unfolding meaning_told fault_told family_told ◌>>=◌ after
+  family_none (Ok s) w e = absurd (let z : ◌≡◌ {A = ℕ} 0 1 = cc in omega arith)
+  family_none (Err Over) w e = absurd (let s = operand_stuck ms n Over w in let z : ◌≡◌ {A = ℕ} 0 1 = cc in omega arith)
+  family_none (Err Stuck) w e = ap (λ (m : Run Meaning). m >>= as_family) (w 0)
+
+  pub family_meant : (r : Answer) (s : code.Meaning) → OperandIs ms n r → result_ok r ≡ prelude.Some s → OperandIs ms n (Ok s)
+  family_meant (Ok t) s w e = let k : t ≡ s = cc in rw k at w
+  family_meant (Err f) s w e = absurd (let z : ◌≡◌ {A = ℕ} 0 1 = cc in omega arith)
 
 -- ---- the operand due at a position
 

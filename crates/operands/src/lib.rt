@@ -147,14 +147,14 @@ fn element(s: Meaning, z: i64) -> Result<Meaning, Fault>
     ensures { ElementIs s z result }
 {
     match s {
-        Meaning::Wires(first, size) => match indexed(first.0, size, z) {
-            Some(n) => Ok(Meaning::Wire(Wire(n))),
-            None => Err(Fault::Stuck),
-        },
-        Meaning::Bits(first, size) => match indexed(first.0, size, z) {
-            Some(n) => Ok(Meaning::Bit(Bit(n))),
-            None => Err(Fault::Stuck),
-        },
+        Meaning::Wires(first, size) => {
+            let n = indexed(first.0, size, z).ok_or(Fault::Stuck)?;
+            Ok(Meaning::Wire(Wire(n)))
+        }
+        Meaning::Bits(first, size) => {
+            let n = indexed(first.0, size, z).ok_or(Fault::Stuck)?;
+            Ok(Meaning::Bit(Bit(n)))
+        }
         _ => Err(Fault::Stuck),
     }
 }
@@ -332,8 +332,8 @@ pub fn bit_at(
 pub fn family_of(scope: Scope, regs: &[u16; REGISTER_NUMBERS], n: usize) -> Option<u16>
     ensures { FamilyOf (operands_of scope regs.now) n result }
 {
-    match operand_meaning(scope, regs, n) {
-        Ok(Meaning::Family(number)) => Some(number),
+    match operand_meaning(scope, regs, n).ok()? {
+        Meaning::Family(number) => Some(number),
         _ => None,
     }
 }

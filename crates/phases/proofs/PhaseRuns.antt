@@ -187,11 +187,10 @@ module _ (tag : ℕ) (l : List ℕ) (from to : ℕ) (values : List ℤ) (reverse
 -- what is written on the wires of its parts is what it does
 pub parts_do : (o : List ℕ) (st : State) (o' : List ℕ) (r : Result State Stop) (mode : Mode) (tag : ℕ) (p : Place) (l : List ℕ) (from to : ℕ) (f : Frame) (q : Parts)
     → Parted mode (length o) tag p l from to f (Ok q) → OnWires q.single o st o' r mode p (slice q.next to l) f (op_number q.op) q.k → Does o st o' r (action_at mode (length o) tag p (slice from to l) f)
-unfolding Parted
+unfolding Parted PartedOn OnWires
 parts_do o st o' r mode tag p l from to f q h w = go q.single h w
   where
     go : (single : Bool) → PartedOn single mode (length o) tag p l from to f (op_number q.op) q.k q.next → OnWires single o st o' r mode p (slice q.next to l) f (op_number q.op) q.k
         → Does o st o' r (action_at mode (length o) tag p (slice from to l) f)
-    unfolding PartedOn OnWires
     go true h w = does_as o st o' r _ (action_at mode (length o) tag p (slice from to l) f) h.is (w h.place h.action h.numbers)
     go false h w = does_as o st o' r _ (action_at mode (length o) tag p (slice from to l) f) h.is (w h.place h.action h.numbers)

@@ -1,26 +1,22 @@
 -- Forms in range one after another, the number of loop variables gone through, and what is answered. Assumes nothing.
-use mathlib.Core.Path.{◌≡◌, refl, ap, subst}
+use mathlib.Core.Path.{◌≡◌, refl, ap}
 use mathlib.Core.List.{List, [], ◌∷◌}
 use mathlib.Core.Bool.{Bool, true, false, ◌&&◌}
 use Prim.Native.Nat.{ℕ, zero, suc, ◌+◌, ◌≤◌, ◌<◌}
 use native.Mathlib.Omega.{arith}
-use borrow.Author.Tests.{ltb-true, ltb-false, le-leb, lt-leb}
-use lib.Dec.{ltb}
+use borrow.Author.Tests.{le-leb, lt-leb}
 use lib.IntN.{ℤ}
 use lib.ListN.{length, get_or}
 use Rattle.language.specs.Limits.{all_variables}
 use Rattle.language.specs.Form.{built, all_in_range, showing}
 use Rattle.form_laws.specs.Settled.{gone_through}
 use Rattle.form_laws.specs.Trials.{trials_made}
-use Rattle.forms.specs.Flat.{Kept, as_form}
+use Rattle.forms.specs.Flat.{as_form}
 use Rattle.forms.specs.Rows.{Rows, loops_of}
 use Rattle.forms.proofs.Laws.{and_no}
 use Rattle.showing.specs.Answers.{forms_in_range, are_forms, number_of, no_forms, answer}
 
 -- ---- forms one after another
-
-pub none : (l : List (List ℤ)) → Rows l 0
-none l = record { enough = omega arith; each = λ i h. absurd (omega arith) }
 
 pub too_few : (n : ℕ) (l : List (List ℤ)) → length l < n → forms_in_range n l ≡ false
 unfolding forms_in_range
@@ -43,13 +39,6 @@ all_in (suc n) [] r = absurd (let e = r.enough in omega arith)
 all_in (suc n) (f ∷ l) r =
     let e = r.enough in
     rw ((r.each 0 (omega arith)).inside, all_in n l (record { enough = omega arith; each = λ i h. r.each (suc i) (omega arith) }))
-
-pub one_more_lem : (l : List (List ℤ)) (i : ℕ) → Rows l i → i < length l → Kept (get_or l i []) → Rows l (i + 1)
-one_more_lem l i r h k = record { enough = omega arith; each = λ j p. by j p (ltb j i) (ltb-true j i) (ltb-false j i) }
-  where
-    by : (j : ℕ) → j < i + 1 → (t : Bool) → (t ≡ true → j < i) → (t ≡ false → i ≤ j) → Kept (get_or l j [])
-    by j p true f g = r.each j (f refl)
-    by j p false f g = let q = g refl in let e : i ≡ j = omega arith in subst (λ (n : ℕ). Kept (get_or l n [])) e k
 
 -- ---- the arguments, in the order in which they are tested
 

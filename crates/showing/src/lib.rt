@@ -1,13 +1,13 @@
 // The showing of a form as a call from C, with how far it goes (include/metaqasm_showing.h).
 #![tactic(auto)]
 
-ghost use Rattle.std.specs.Prelude.{◌≡◌, true, length};
+ghost use Rattle.std.specs.Prelude.{◌≡◌, true};
 ghost use Rattle.language.specs.Form.{all_in_range};
-ghost use Rattle.forms.specs.Flat.{Kept, form_numbers, shown_of};
+ghost use Rattle.forms.specs.Flat.{Kept, shown_of};
 ghost use Rattle.forms.specs.Rows.{Rows};
 ghost use Rattle.showing.specs.Answers.{forms_in_range, are_forms, AreForms, number_of, answered, answer};
 
-use forms::{FORM_NUMBERS, Form, Verdict};
+use forms::{Form, Ranges, Unshown};
 use limits::ALL_VARIABLES;
 
 // The number where the arguments are no forms, which is no number of a refusal.
@@ -22,26 +22,12 @@ pub struct ShowingResult {
     pub trials: u32,
 }
 
-// An array tells how long it is.
-fn tell(f: [i64; FORM_NUMBERS])
-    ensures { length f ≡ form_numbers }
-{}
-
 // Whether every number of a form is in range.
 fn kept(f: &Form) -> bool
     ensures value { result ≡ all_in_range f.now }
     ensures kept { result ≡ true → Kept f.now }
 {
-    tell(*f);
-    let mut i: usize = 0;
-    while i < FORM_NUMBERS {
-        let x = f[i];
-        if !forms::in_range(x) {
-            return false;
-        }
-        i += 1;
-    }
-    true
+    f.iter().all(|z| forms::in_range(*z))
 }
 
 // Whether there are n forms at least, and every number of the first n is in range.
@@ -52,24 +38,22 @@ fn rows_kept(rows: &[Form], n: usize) -> bool
     if rows.len() < n {
         return false;
     }
-    let mut row: usize = 0;
-    while row < n {
-        if !kept(&rows[row]) {
+    for row in &rows[..n] {
+        if !kept(row) {
             return false;
         }
-        row += 1;
     }
     true
 }
 
 // The number of a verdict.
-fn number(v: Verdict) -> u32
-    ensures { result ≡ number_of (shown_of v) }
+fn number(verdict: Result<(), Unshown>) -> u32
+    ensures { result ≡ number_of (shown_of verdict) }
 {
-    match v {
-        Verdict::Shown => 0,
-        Verdict::NotShown => 12,
-        Verdict::OutOfRange => 11,
+    match verdict {
+        Ok(()) => 0,
+        Err(Unshown::NotShown) => 12,
+        Err(Unshown::OutOfRange) => 11,
     }
 }
 
@@ -110,12 +94,17 @@ pub extern "C" fn metaqasm_showing(
             trials: 0,
         };
     }
-    let s = forms::show(f, variables as usize, loops as usize, lows, highs);
-    let verdict = s.verdict;
+    let ranges = Ranges {
+        variables: variables as usize,
+        loops: loops as usize,
+        lows,
+        highs,
+    };
+    let s = forms::show(f, &ranges);
     let through = s.through as u32;
     let trials = s.trials as u32;
     ShowingResult {
-        number: number(verdict),
+        number: number(s.verdict),
         through,
         trials,
     }

@@ -9,10 +9,13 @@ use lib.Seq.{slice, take-length}
 use lib.IntN.{ℤ}
 use Rattle.language.specs.Tree.{call}
 use Rattle.language.specs.Read.{read, fields, statements_by, outer_statement}
-use Rattle.language.specs.Machine.{Meaning, Run, no_meaning, end_at, found, step, run_call, run_statement, run_statements, all_declared, after, ◌>>=◌, ◌>>◌}
+use Rattle.language.specs.Machine.{Meaning, Run, no_meaning, found, step, run_call, run_statement, run_statements, all_declared, after, ◌>>=◌, ◌>>◌}
 use Rattle.language.proofs.Families.{family_not_called}
 use Rattle.fields.specs.Table.{past_of}
-use Rattle.fields.specs.declared.Named.TheVariants.{Number}
+use Rattle.std.specs.Prelude.{Option as Maybe, Some, None, Result, Ok, Err}
+use Rattle.fields.specs.declared.Named.{Named}
+use Rattle.indexes.specs.declared.Fault.{Fault}
+use Rattle.indexes.specs.Values.{fault_told}
 use Rattle.fields.specs.CallNumber.{is_call_tag, named_in}
 use Rattle.fields.proofs.CallNumbers.{named_in_lem}
 use Rattle.operands.specs.declared.Scope.{Scope}
@@ -22,22 +25,19 @@ use Rattle.gates.specs.declared.Mode.{Mode}
 use Rattle.gates.specs.Gates.{direction_of, frame_in, entered_of, nameless_of}
 use Rattle.gates.proofs.CallNames.{names_number}
 use Rattle.calls.specs.declared.Taken.{Taken}
-use Rattle.calls.specs.declared.Taken.TheVariants.{All, Over, Stuck}
 use Rattle.calls.specs.Families.{declared_at, Entry, BodyFrom}
 use Rattle.calls.specs.Arguments.{arguments_in, gathered_operands, arguments_told, BodyBegins, Scopes, Arguments}
 use Rattle.calls.proofs.CallByNumber.{call_is}
 use Rattle.unroller.specs.Runs.{Ready, families_in, one_run, rest_run}
-use Rattle.unroller.specs.declared.Called.{Called}
-use Rattle.unroller.specs.declared.Called.TheVariants as C
 use Rattle.unroller.specs.CalledFamilies.{family_by, CallsFamily, Calls}
 use Rattle.unroller.proofs.Statements.{one_call}
 
-module _ (tag from : ℕ) (content : List ℕ) (ms : List Meaning) (r : Called) (w : Calls tag from content ms r) where
-  pub calls_family : (k first : ℕ) → r ≡ C.Family k first → CallsFamily tag from content ms k first
+module _ (tag from : ℕ) (content : List ℕ) (ms : List Meaning) (r : Maybe Named) (w : Calls tag from content ms r) where
+  pub calls_family : (h : Named) → r ≡ Some h → CallsFamily tag from content ms h.number h.next
   unfolding Calls
-  calls_family k first e = rw e at w
+  calls_family h e = rw e at w
 
-  pub calls_none : r ≡ C.Stuck → Calls tag from content ms C.Stuck
+  pub calls_none : r ≡ None → Calls tag from content ms None
   calls_none e = rw e at w
 
 module _ (mode : Mode) (room base from to place tag : ℕ) (bytes program : List ℕ) (values : List ℤ) (scope : Scope) (regs : List ℕ)
@@ -51,11 +51,11 @@ module _ (mode : Mode) (room base from to place tag : ℕ) (bytes program : List
       >> (family >>= λ k. run_call mode.limit room place k (arguments_in (place + 3 + (first - from)) (slice first to bytes)) (families_in mode room program) (frame_in mode values scope regs))
 
   -- the call by the number that it names, with the arguments behind it
-  call_named : (n first : ℕ) → named_in tag from (slice from to bytes) ≡ Number n first → whole ≡ calling first (family_by tag n (operands_of scope regs))
+  call_named : (n first : ℕ) → named_in tag from (slice from to bytes) ≡ Ok (record { number = n; next = first }) → whole ≡ calling first (family_by tag n (operands_of scope regs))
   call_named n first e = one_call mode room place tag (slice from to bytes) program (frame_in mode values scope regs) deep calls n _ _ ((named_in_lem tag from to bytes ready.order ready.within n first e).reads place _ refl)
 
   -- it calls none
-  pub call_nothing : nameless_of tag (slice from to bytes) ≡ false → Calls tag from (slice from to bytes) (operands_of scope regs) C.Stuck → whole ≡ (step mode.limit room place >> no_meaning)
+  pub call_nothing : nameless_of tag (slice from to bytes) ≡ false → Calls tag from (slice from to bytes) (operands_of scope regs) None → whole ≡ (step mode.limit room place >> no_meaning)
   unfolding Calls ◌>>=◌ after
   call_nothing h w =
       let k = names_number tag (slice from to bytes) from calls h in
@@ -72,7 +72,7 @@ module _ (mode : Mode) (room base from to place tag : ℕ) (bytes program : List
     unfolding run_statement run_call found ◌>>=◌ after
     call_none h = call_family_lem ∙ rw (family_not_called mode.limit room (read program) mode.families_visible number h)
 
-    module _ (at : ℕ) (h : number < mode.families_visible) (e : Entry program number at) (sizes : List ℤ) (hand : List ℕ) (r : Taken)
+    module _ (at : ℕ) (h : number < mode.families_visible) (e : Entry program number at) (sizes : List ℤ) (hand : List ℕ) (r : Result Taken Fault)
         (w : Arguments (slice first to bytes) program at values (operands_of scope regs) sizes hand r) where
       -- what the body does with so many operands
       abbrev bodied : ℕ → Run (Unit {0})
@@ -83,29 +83,25 @@ module _ (mode : Mode) (room base from to place tag : ℕ) (bytes program : List
       called = call_family_lem ∙ call_is program number at mode.families_visible e h (slice first to bytes) values (operands_of scope regs) sizes hand r w
           mode.limit room place (place + 3 + (first - from)) (direction_of mode.reversed) (condition_of mode.condition)
 
-      pub call_over : r ≡ Over → whole ≡ (step mode.limit room place >> end_at 24 place)
+      pub call_fails : (f : Fault) → r ≡ Err f → whole ≡ (step mode.limit room place >> fault_told place f)
       unfolding arguments_told
-      call_over q = called ∙ ap (λ (x : Taken). step mode.limit room place >> arguments_told place x bodied) q
+      call_fails f q = called ∙ ap (λ (x : Result Taken Fault). step mode.limit room place >> arguments_told place x bodied) q
 
-      pub call_stuck : r ≡ Stuck → whole ≡ (step mode.limit room place >> no_meaning)
-      unfolding arguments_told
-      call_stuck q = called ∙ ap (λ (x : Taken). step mode.limit room place >> arguments_told place x bodied) q
-
-      pub call_begins : (n start : ℕ) → r ≡ All n start → BodyFrom program at start
+      pub call_begins : (h : Taken) → r ≡ Ok h → BodyFrom program at h.start
       unfolding BodyBegins
-      call_begins n start q = rw q at w.begins
+      call_begins h q = rw q at w.begins
 
       -- all are taken: the body's list, which begins at `start`
-      pub call_all : (n start : ℕ) → r ≡ All n start → (inner : Scope) → Scopes hand n inner → (b : List ℕ) → b ≡ slice start (past_of program at) program
-          → whole ≡ (step mode.limit room place >> rest_run (entered_of mode number (get_or program (at + 3) 0)) room start 0 (length b) b program
+      pub call_all : (h : Taken) → r ≡ Ok h → (inner : Scope) → Scopes hand h.count inner → (b : List ℕ) → b ≡ slice h.start (past_of program at) program
+          → whole ≡ (step mode.limit room place >> rest_run (entered_of mode number (get_or program (at + 3) 0)) room h.start 0 (length b) b program
           (frame_in (entered_of mode number (get_or program (at + 3) 0)) (take (get_or program (at + 3) 0) sizes) inner regs))
       unfolding arguments_told
-      call_all n start q inner s b c =
-          let o = call_begins n start q in
-          let i : at + 5 + (start - (at + 5)) ≡ start + 0 = omega (arith, o.low) in
-          let body : statements_by outer_statement (fields (start + 0) (slice 0 (length b) b)) ≡ (declared_at program at).body =
-          ap (λ (x : List ℕ). statements_by outer_statement (fields (start + 0) x)) (take-length b ∙ c) ∙ ap (λ (k : ℕ). statements_by outer_statement (fields k (slice start (past_of program at) program))) (sym i)
+      call_all k q inner s b c =
+          let o = call_begins k q in
+          let i : at + 5 + (k.start - (at + 5)) ≡ k.start + 0 = omega (arith, o.low) in
+          let body : statements_by outer_statement (fields (k.start + 0) (slice 0 (length b) b)) ≡ (declared_at program at).body =
+          ap (λ (x : List ℕ). statements_by outer_statement (fields (k.start + 0) x)) (take-length b ∙ c) ∙ ap (λ (z : ℕ). statements_by outer_statement (fields z (slice k.start (past_of program at) program))) (sym i)
           ∙ ap (statements_by outer_statement) (o.rest (at + 5)) in
-          called ∙ ap (λ (x : Taken). step mode.limit room place >> arguments_told place x bodied) q
+          called ∙ ap (λ (x : Result Taken Fault). step mode.limit room place >> arguments_told place x bodied) q
           ∙ (λ j. step mode.limit room place >> run_statements mode.limit room (sym body j) (take number (all_declared mode.limit room (read program) []))
           (frame_of (direction_of mode.reversed) (condition_of mode.condition) (take (get_or program (at + 3) 0) sizes) (sym (s.same regs) j)))

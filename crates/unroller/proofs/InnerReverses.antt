@@ -8,13 +8,13 @@ use lib.Seq.{slice}
 use lib.IntN.{ℤ}
 use Rattle.language.specs.Limits.{longest_program}
 use Rattle.language.specs.Machine.{Run, step, in_direction, run_statements, ◌>>◌}
-use Rattle.fields.specs.declared.Header.TheVariants.{Whole}
+use Rattle.std.specs.Prelude.{Result, Ok}
 use Rattle.fields.specs.Header.{fields_at, header_of}
 use Rattle.fields.proofs.Between.{FieldIn, in_whole}
 use Rattle.operands.specs.declared.Scope.{Scope}
 use Rattle.operands.specs.Meanings.{operands_of, frame_of}
 use Rattle.records.specs.declared.State.{State}
-use Rattle.records.specs.declared.Answer.{Answer}
+use Rattle.records.specs.declared.Stop.{Stop}
 use Rattle.records.specs.Outcomes.{condition_of}
 use Rattle.records.proofs.Sequences.{step_taken}
 use Rattle.gates.specs.declared.Mode.{Mode}
@@ -35,7 +35,7 @@ module _ (bytes : List ℕ) (base to : ℕ) (e : Nested) where
     leads = λ room program values scope regs l l' r x. x;
   }
 
-  module _ (r : Nested) (w : Inside bytes base to e r) (t : r.tag ≡ 37) (tag next : ℕ) (is : header_of r.from (fields_at bytes r.from to) ≡ Whole tag next) where
+  module _ (r : Nested) (w : Inside bytes base to e r) (t : r.tag ≡ 37) (tag next : ℕ) (is : header_of r.from (fields_at bytes r.from to) ≡ Ok (record { tag = tag; next = next })) where
     held : FieldIn bytes r.from to tag next
     held = in_whole bytes r.from to tag next is
 
@@ -95,7 +95,7 @@ module _ (bytes : List ℕ) (base to : ℕ) (e : Nested) where
 
 -- the answer of what stands inside, with the values in scope
 module _ (bytes : List ℕ) (base to : ℕ) (e r : Nested) (w : Inside bytes base to e r) where
-  pub inside_does : (place : ℕ) → base + e.from ≡ place + 3 → (room : ℕ) (program : List ℕ) (vars : List ℤ) (scope : Scope) (regs l l' : List ℕ) (a : Answer) → Nests bytes base to r room program (take r.mode.variables vars) scope regs l l' a
+  pub inside_does : (place : ℕ) → base + e.from ≡ place + 3 → (room : ℕ) (program : List ℕ) (vars : List ℤ) (scope : Scope) (regs l l' : List ℕ) (a : Result State Stop) → Nests bytes base to r room program (take r.mode.variables vars) scope regs l l' a
       → Completes e.mode e.tag (slice e.from to bytes) l e.st l' a (one_run e.mode room place e.tag (slice e.from to bytes) program (frame_in e.mode (take e.mode.variables vars) scope regs))
   inside_does place b room program vars scope regs l l' a x =
       let z : tag_at base e ≡ place = omega (arith, b) in

@@ -1,29 +1,25 @@
 -- The loop that runs a list: what holds between two statements, and what each turn does. Assumes nothing.
 use Prim.Native.Nat.{ℕ, ◌+◌, ◌-◌, ◌<◌, ◌≤◌}
 use mathlib.Core.Path.{◌≡◌, refl, sym, ap, ◌∙◌, subst}
-use mathlib.Core.List.{List, [], ◌∷◌}
+use mathlib.Core.List.{List}
 use mathlib.Core.Bool.{Bool}
 use native.Mathlib.Omega.{arith}
-use types.Run.{OneOf}
-use denote.Enum.Declared.{tag_of}
 use lib.IntN.{ℤ}
 use lib.ListN.{length, take}
 use lib.Seq.{slice}
 use Rattle.language.specs.Machine.{Run, ◌>>◌}
 use Rattle.language.proofs.Runs.{then_then, done_then}
-use Rattle.fields.specs.declared.Header.TheVariants.{Whole}
+use Rattle.std.specs.Prelude.{Option as Maybe, Some, None, Result, Ok, Err}
+use Rattle.fields.specs.declared.Header.{Header}
 use Rattle.fields.specs.Header.{fields_at, header_of}
-use Rattle.fields.specs.contracts.Header.{the_type as header-type}
 use Rattle.field_walk.specs.declared.Walk.{Walk}
-use Rattle.field_walk.specs.declared.Begun.{Begun}
-use Rattle.field_walk.specs.declared.Begun.TheVariants as B
+use Rattle.field_walk.specs.declared.Held.{Held}
 use Rattle.field_walk.specs.Walks.{Walking, Sought, Starting, passed_of, whole_of}
 use Rattle.operands.specs.declared.Scope.{Scope}
 use Rattle.records.specs.Outcomes.{Does, Leads}
 use Rattle.records.specs.declared.State.{State}
-use Rattle.records.specs.declared.Answer.{Answer}
-use Rattle.records.specs.declared.Answer.TheVariants.{Going, Stuck}
-use Rattle.records.specs.contracts.Answer.{the_type}
+use Rattle.records.specs.declared.Stop.{Stop}
+use Rattle.records.specs.declared.Stop.TheVariants.{Stuck}
 use Rattle.records.proofs.Sequences.{does_stuck, does_done, does_then, does_other}
 use Rattle.gates.specs.declared.Mode.{Mode}
 use Rattle.gates.specs.Gates.{frame_in}
@@ -42,6 +38,11 @@ module _ (looping : Bool) (mode : Mode) (base from to place : ℕ) (start : ℤ)
 
   abbrev ahead : (vars : List ℤ) → (at to : ℕ) → Run (Unit {0})
   ahead vars at to = rest_run mode (length out₀) base at to l program (frame_in mode (take mode.variables vars) scope regs)
+
+  -- the whole, from the same value on by another name
+  pub at_start : (z : ℤ) → start ≡ z → (o : List ℕ) (r : Result State Stop) → Does out₀ s₀ o r whole
+      → Does out₀ s₀ o r (times_run looping mode (length out₀) base from to place z total l program (frame_in mode (take (kept_in mode looping) vars₀) scope regs))
+  at_start z e o r d = subst (λ (x : ℤ). Does out₀ s₀ o r (times_run looping mode (length out₀) base from to place x total l program (frame_in mode (take (kept_in mode looping) vars₀) scope regs))) e d
 
   pub record Midway (vars : List ℤ) (out cuts : List ℕ) (w : Walk) (i : ℕ) (s : State) : Type 0 where
     pub leads : Leads out₀ s₀ out s (ahead vars w.at w.to >> later i) whole
@@ -73,37 +74,37 @@ module _ (looping : Bool) (mode : Mode) (base from to place : ℕ) (start : ℤ)
       over : ahead vars w.at w.to >> later i ≡ later i
       over = ap (λ (a : Run (Unit {0})). a >> later i) (rest_done mode (length out₀) base l program (frame_in mode (take mode.variables vars) scope regs) w.at w.to e) ∙ done_then (later i)
 
-      pub ends : total ≤ i → Does out₀ s₀ out (Going s) whole
-      ends k = h.leads out (Going s) (does_as _ _ _ _ _ (ahead vars w.at w.to >> later i)
+      pub ends : total ≤ i → Does out₀ s₀ out (Ok s) whole
+      ends k = h.leads out (Ok s) (does_as _ _ _ _ _ (ahead vars w.at w.to >> later i)
           (over ∙ later_none mode (length out₀) base from to place start l program (take (kept_in mode looping) vars₀) scope regs looping (total - i) i (omega arith)) (does_done out s))
 
-      module _ (k : i < total) (vars' : List ℤ) (r : Answer) (turned : Turned looping mode place start i vars vars' s r) where
+      module _ (k : i < total) (vars' : List ℤ) (r : Result State Stop) (turned : Turned looping mode place start i vars vars' s r) where
         pub stays : take (kept_in mode looping) vars' ≡ take (kept_in mode looping) vars₀
         stays = round_kept looping mode place start i vars vars' s r turned ∙ h.kept
 
         -- no step is left for the next
-        pub refuses : OneOf (1 ∷ 2 ∷ []) (tag_of the_type r) → Does out₀ s₀ out r whole
-        refuses q = h.leads out r (does_as _ _ _ _ _ (ahead vars w.at w.to >> later i) over
+        pub refuses : {x : Stop} → r ≡ Err x → Does out₀ s₀ out (Err x) whole
+        refuses {x} q = h.leads out (Err x) (does_as _ _ _ _ _ (ahead vars w.at w.to >> later i) over
             (round_stops mode (length out₀) base from to place start l program (take (kept_in mode looping) vars₀) scope regs total i k looping vars vars' s r turned q out))
 
-        module _ (often : Often looping mode start total) (t : State) (g : r ≡ Going t) (kept' : List ℕ) (b : Begun) (started : Starting l from to mode.reversed kept' b) where
-          opens : (x : List ℕ) (q : Answer) → Does out t x q (ahead vars' from to >> later (i + 1)) → Does out₀ s₀ x q whole
+        module _ (often : Often looping mode start total) (t : State) (g : r ≡ Ok t) (kept' : List ℕ) (b : Maybe Held) (started : Starting l from to mode.reversed kept' b) where
+          opens : (x : List ℕ) (q : Result State Stop) → Does out t x q (ahead vars' from to >> later (i + 1)) → Does out₀ s₀ x q whole
           opens x q d = h.leads x q (does_as _ _ _ _ _ (ahead vars w.at w.to >> later i) over
               ((round_goes mode (length out₀) base from to place start l program (take (kept_in mode looping) vars₀) scope regs total i k looping often vars vars' s t r turned g h.kept out).leads x q d))
 
           -- a list with a bad header
-          pub breaks : b ≡ B.Broken → (x : List ℕ) → Does out₀ s₀ x Stuck whole
-          breaks q x = opens x Stuck (does_as _ _ _ _ _ (ahead vars' from to >> later (i + 1))
+          pub breaks : b ≡ None → (x : List ℕ) → Does out₀ s₀ x (Err Stuck) whole
+          breaks q x = opens x (Err Stuck) (does_as _ _ _ _ _ (ahead vars' from to >> later (i + 1))
               (ap (λ (a : Run (Unit {0})). a >> later (i + 1)) (begin_stops mode (length out₀) base l program (frame_in mode (take mode.variables vars') scope regs) mode.reversed refl from to kept' b started q) ∙ stuck_then (later (i + 1)))
               (does_stuck out t x))
 
           -- the next round
-          pub begins : from ≤ to → (depth sure : ℕ) → b ≡ B.With depth sure → Midway vars' out kept' (whole_of from to depth sure) (i + 1) t
+          pub begins : from ≤ to → (k : Held) → b ≡ Some k → Midway vars' out kept' (whole_of from to k.depth k.sure) (i + 1) t
           unfolding whole_of
-          begins j depth sure q = record {
+          begins j m q = record {
             leads = opens;
             same_length = h.same_length;
-            walking = walk_start l from to mode.reversed kept' b depth sure started q;
+            walking = walk_start l from to mode.reversed kept' b m started q;
             few = omega arith;
             kept = stays;
             low = omega arith;
@@ -120,12 +121,12 @@ module _ (looping : Bool) (mode : Mode) (base from to place : ℕ) (start : ℤ)
       same j = ahead vars (sym sought.same_at j) (sym sought.same_to j)
 
       -- no whole field
-      pub cut : OneOf (1 ∷ 2 ∷ []) (tag_of header-type (header_of v.here (fields_at l v.here v.to))) → (x : List ℕ) → Does out₀ s₀ x Stuck whole
-      cut q x = h.leads x Stuck (does_as _ _ _ _ _ (ahead vars w.at w.to >> later i)
+      pub cut : ((k : Header) → header_of v.here (fields_at l v.here v.to) ≡ Ok k → ⊥) → (x : List ℕ) → Does out₀ s₀ x (Err Stuck) whole
+      cut q x = h.leads x (Err Stuck) (does_as _ _ _ _ _ (ahead vars w.at w.to >> later i)
           (ap (λ (a : Run (Unit {0})). a >> later i) (same ∙ walk_stops mode (length out₀) base l program (frame_in mode (take mode.variables vars) scope regs) mode.reversed refl v kept' sought.next some q) ∙ stuck_then (later i))
           (does_stuck out s x))
 
-      module _ (tag end : ℕ) (is : header_of v.here (fields_at l v.here v.to) ≡ Whole tag end) where
+      module _ (tag end : ℕ) (is : header_of v.here (fields_at l v.here v.to) ≡ Ok (record { tag = tag; next = end })) where
         turn : Turn mode (length out₀) base l program (frame_in mode (take mode.variables vars) scope regs) mode.reversed v kept' tag end
         turn = walk_turn mode (length out₀) base l program (frame_in mode (take mode.variables vars) scope regs) mode.reversed refl v kept' tag end sought.next some is
 
@@ -152,16 +153,16 @@ module _ (looping : Bool) (mode : Mode) (base from to place : ℕ) (start : ℤ)
         next : ahead vars w.at w.to >> later i ≡ (field_run_lem (length out₀) >> (ahead vars (passed_of v mode.reversed end).at (passed_of v mode.reversed end).to >> later i))
         next = ap (λ (a : Run (Unit {0})). a >> later i) (same ∙ turn.runs_on) ∙ then_then _ _ _
 
-        module _ (out' : List ℕ) (r : Answer) (does : Does out s out' r (field_run_lem (length out))) where
+        module _ (out' : List ℕ) (r : Result State Stop) (does : Does out s out' r (field_run_lem (length out))) where
           did : Does out s out' r (field_run_lem (length out₀))
           did = subst (λ (n : ℕ). Does out s out' r (field_run_lem n)) h.same_length does
 
           -- it does not go on
-          pub other : OneOf (1 ∷ 2 ∷ []) (tag_of the_type r) → Does out₀ s₀ out' r whole
-          other q = h.leads out' r (does_as _ _ _ _ _ (ahead vars w.at w.to >> later i) next (does_other _ _ _ _ _ _ did q))
+          pub other : {x : Stop} → r ≡ Err x → Does out₀ s₀ out' (Err x) whole
+          other {x} q = h.leads out' (Err x) (does_as _ _ _ _ _ (ahead vars w.at w.to >> later i) next (does_other _ _ _ _ _ _ did q))
 
           -- it goes on
-          pub passes : (t : State) → r ≡ Going t → length out' ≡ length out → (vars' : List ℤ) → take mode.variables vars' ≡ take mode.variables vars → Midway vars' out' kept' (passed_of v mode.reversed end) i t
+          pub passes : (t : State) → r ≡ Ok t → length out' ≡ length out → (vars' : List ℤ) → take mode.variables vars' ≡ take mode.variables vars → Midway vars' out' kept' (passed_of v mode.reversed end) i t
           passes t g k vars' f = record {
             leads = λ x q d. h.leads x q (does_as _ _ _ _ _ (ahead vars w.at w.to >> later i) next (does_then _ _ _ _ _ _ _ _ _ did g
                 (subst (λ (values : List ℤ). Does out' t x q (rest_run mode (length out₀) base (passed_of v mode.reversed end).at (passed_of v mode.reversed end).to l program (frame_in mode values scope regs) >> later i)) f d)));

@@ -12,17 +12,18 @@ use lib.IntN.{ℤ, pos, ◌-ℤ◌}
 use Rattle.indexes.specs.Values.{most_values}
 use Rattle.language.specs.Form.{in_range}
 use Rattle.language.specs.Read.{fields, read_statement, statements_by}
-use Rattle.language.specs.Machine.{run_for, Run, no_meaning, end_at, step, rounds, rounds_of, start_of, in_round, in_direction, run_statements, ◌>>◌}
+use Rattle.language.specs.Machine.{run_for, Run, step, rounds, rounds_of, start_of, in_round, in_direction, run_statements, ◌>>◌}
 use Rattle.operands.specs.declared.Scope.{Scope}
 use Rattle.operands.specs.Meanings.{operands_of, frame_of}
 use Rattle.records.specs.Outcomes.{condition_of}
 use Rattle.gates.specs.declared.Mode.{Mode}
+use Rattle.std.specs.Prelude.{Result, Ok, Err}
+use Rattle.indexes.specs.declared.Fault.{Fault}
 use Rattle.indexes.specs.declared.Bounds.{Bounds}
-use Rattle.indexes.specs.declared.Bounds.TheVariants.{Are, Over, Stuck}
+use Rattle.indexes.specs.Values.{fault_told}
 use Rattle.indexes.specs.Bounds.{bounding, Bounded}
 use Rattle.indexes.proofs.TwoBounds.{bounds_run}
 use Rattle.gates.specs.declared.Repeats.{Repeats}
-use Rattle.gates.specs.declared.Repeats.TheVariants as R
 use Rattle.gates.specs.Gates.{direction_of, frame_in, deeper_of, inner_of, Rounds, Looped, Repeated}
 use Rattle.gates.proofs.RoundValues.{rounds_behind, rounds_start, rounds_turn}
 use Rattle.unroller.specs.Runs.{families_in, one_run, list_at, times_run, kept_in, Often, HasBody}
@@ -78,20 +79,16 @@ module _ (mode : Mode) (room base from to place tag : ℕ) (bytes program : List
 
   -- a for
   module _ (t : tag ≡ 38) where
-    for_is : (b : Bounds) → Bounded bytes from to (take mode.variables vars) b → whole ≡ (step mode.limit room place >> bounding place b (λ x y.
+    for_is : (b : Result Bounds Fault) → Bounded bytes from to (take mode.variables vars) b → whole ≡ (step mode.limit room place >> bounding place b (λ x y.
         rounds mode.limit room place (direction_of mode.reversed) (rounds_of (y -ℤ x)) (start_of (direction_of mode.reversed) x y)
         (λ z. run_statements mode.limit room (statements_by (read_statement (mode.levels - 1)) (drop 2 (fields (place + 3) (slice from to bytes)))) (families_in mode room program) (in_round (frame_in mode (take mode.variables vars) scope regs) z))))
     unfolding run_for
     for_is b w = one_for mode room place tag (slice from to bytes) program (frame_in mode (take mode.variables vars) scope regs) deep t
         ∙ ap (λ (x : Run (Unit {0})). step mode.limit room place >> x) (sym (bounds_run _ w place place (place + 3)))
 
-    for_over : Bounded bytes from to (take mode.variables vars) Over → whole ≡ (step mode.limit room place >> end_at 24 place)
+    for_fails : (f : Fault) → Bounded bytes from to (take mode.variables vars) (Err f) → whole ≡ (step mode.limit room place >> fault_told place f)
     unfolding bounding
-    for_over w = for_is Over w
-
-    for_stuck : Bounded bytes from to (take mode.variables vars) Stuck → whole ≡ (step mode.limit room place >> no_meaning)
-    unfolding bounding
-    for_stuck w = for_is Stuck w
+    for_fails f w = for_is (Err f) w
 
     for_are : (start : ℤ) (total body : ℕ) → Rounds bytes from to (take mode.variables vars) mode.reversed start total body → whole ≡ (step mode.limit room place >> bodied start total body)
     unfolding bounding in_round
@@ -100,7 +97,7 @@ module _ (mode : Mode) (room base from to place tag : ℕ) (bytes program : List
         let q : place + 3 + (body - from) ≡ base + body = omega (arith, at, b.past) in
         let fs : drop 2 (fields (place + 3) (slice from to bytes)) ≡ fields (base + body) (slice body to bytes) = b.rest (place + 3) ∙ ap (λ (n : ℕ). fields n (slice body to bytes)) q in
         let k : mode.variables ≡ mode.variables + 1 - 1 = omega arith in
-        for_is (Are w.x w.y body) w.bounded
+        for_is (Ok (record { low = w.x; high = w.y; next = body })) w.bounded
         ∙ rw t (λ j. step mode.limit room place >> rounds mode.limit room place (direction_of mode.reversed) (sym w.often j) (sym w.first j)
         (λ z. run_statements mode.limit room (statements_by (read_statement (mode.levels - 1)) (fs j)) (families_in mode room program) (in_round (frame_in mode (take (k j) vars) scope regs) z)))
 
@@ -112,12 +109,13 @@ module _ (mode : Mode) (room base from to place tag : ℕ) (bytes program : List
     pub ranged : in_range start ≡ true
     pub is : whole ≡ (step mode.limit room place >> bodied start total body)
 
-  reverse_opens : tag ≡ 37 → from ≤ to → (start : ℤ) (total body : ℕ) → R.Are start total body ≡ R.Are (pos 0) 1 from → Opens start total body
+  reverse_opens : tag ≡ 37 → from ≤ to → (start : ℤ) (total body : ℕ) → ◌≡◌ {A = Result Repeats Fault} (Ok (record { start = start; total = total; body = body })) (Ok (record { start = pos 0; total = 1; body = from })) → Opens start total body
   unfolding Often in_range
   reverse_opens t h start total body q =
-      let u : start ≡ pos 0 = cc in
-      let v : total ≡ 1 = cc in
-      let w : body ≡ from = cc in
+      let z : ◌≡◌ {A = Repeats} (record { start = start; total = total; body = body }) (record { start = pos 0; total = 1; body = from }) = cc in
+      let u : start ≡ pos 0 = ap (λ (k : Repeats). k.start) z in
+      let v : total ≡ 1 = ap (λ (k : Repeats). k.total) z in
+      let w : body ≡ from = ap (λ (k : Repeats). k.body) z in
       record {
         low = omega arith;
         high = omega arith;
@@ -138,30 +136,22 @@ module _ (mode : Mode) (room base from to place tag : ℕ) (bytes program : List
         is = for_are t start total body w;
       }
 
-  module _ (r : Repeats) (w : Repeated bytes from to tag (take mode.variables vars) mode.reversed r) where
+  module _ (r : Result Repeats Fault) (w : Repeated bytes from to tag (take mode.variables vars) mode.reversed r) where
     for_tag : (tag ≡ 37 → ⊥) → tag ≡ 38
     for_tag h = omega (arith, has)
 
-    pub loop_over : r ≡ R.Over → whole ≡ (step mode.limit room place >> end_at 24 place)
+    pub loop_fails : (f : Fault) → r ≡ Err f → whole ≡ (step mode.limit room place >> fault_told place f)
     unfolding Looped
-    loop_over q = go (eqb tag 37) refl
+    loop_fails f q = go (eqb tag 37) refl
       where
-        go : (b : Bool) → eqb tag 37 ≡ b → whole ≡ (step mode.limit room place >> end_at 24 place)
-        go true u = absurd (let z : R.Over ≡ R.Are (pos 0) 1 from = sym q ∙ w.once (eqb-true tag 37 u) in let z : ◌≡◌ {A = ℕ} 0 1 = cc in omega arith)
-        go false u = let n = eqb-false tag 37 u in for_over (for_tag n) (rw q at (w.looped n))
+        go : (b : Bool) → eqb tag 37 ≡ b → whole ≡ (step mode.limit room place >> fault_told place f)
+        go true u = absurd (let z = sym q ∙ w.once (eqb-true tag 37 u) in let z : ◌≡◌ {A = ℕ} 0 1 = cc in omega arith)
+        go false u = let n = eqb-false tag 37 u in for_fails (for_tag n) f (rw q at (w.looped n))
 
-    pub loop_stuck : r ≡ R.Stuck → whole ≡ (step mode.limit room place >> no_meaning)
+    pub loop_opens : from ≤ to → (k : Repeats) → r ≡ Ok k → Opens k.start k.total k.body
     unfolding Looped
-    loop_stuck q = go (eqb tag 37) refl
+    loop_opens h k q = go (eqb tag 37) refl
       where
-        go : (b : Bool) → eqb tag 37 ≡ b → whole ≡ (step mode.limit room place >> no_meaning)
-        go true u = absurd (let z : R.Stuck ≡ R.Are (pos 0) 1 from = sym q ∙ w.once (eqb-true tag 37 u) in let z : ◌≡◌ {A = ℕ} 0 1 = cc in omega arith)
-        go false u = let n = eqb-false tag 37 u in for_stuck (for_tag n) (rw q at (w.looped n))
-
-    pub loop_opens : from ≤ to → (start : ℤ) (total body : ℕ) → r ≡ R.Are start total body → Opens start total body
-    unfolding Looped
-    loop_opens h start total body q = go (eqb tag 37) refl
-      where
-        go : (b : Bool) → eqb tag 37 ≡ b → Opens start total body
-        go true u = let t = eqb-true tag 37 u in reverse_opens t h start total body (sym q ∙ w.once t)
-        go false u = let n = eqb-false tag 37 u in for_opens (for_tag n) start total body (rw q at (w.looped n))
+        go : (b : Bool) → eqb tag 37 ≡ b → Opens k.start k.total k.body
+        go true u = let t = eqb-true tag 37 u in reverse_opens t h k.start k.total k.body (sym q ∙ w.once t)
+        go false u = let n = eqb-false tag 37 u in for_opens (for_tag n) k.start k.total k.body (rw q at (w.looped n))

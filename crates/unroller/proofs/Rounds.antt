@@ -2,10 +2,8 @@
 use Prim.Native.Nat.{ℕ, zero, suc, ◌+◌, ◌-◌, ◌<◌, ◌≤◌}
 use mathlib.Core.Path.{◌≡◌, refl, sym, ap, ◌∙◌}
 use mathlib.Core.List.{List, [], ◌∷◌, ◌++◌}
-use mathlib.Core.Bool.{Bool, true, false, cond, not}
+use mathlib.Core.Bool.{Bool, true, false, cond}
 use native.Mathlib.Omega.{arith}
-use types.Run.{OneOf}
-use denote.Enum.Declared.{tag_of}
 use lib.IntN.{ℤ}
 use lib.ListN.{length, take, set}
 use lib.Seq.{take-suc-set, take-set-le, take-take}
@@ -15,10 +13,10 @@ use Rattle.language.proofs.Runs.{then_done}
 use Rattle.operands.specs.declared.Scope.{Scope}
 use Rattle.records.specs.Outcomes.{Does, OneStep, Stepped}
 use Rattle.records.specs.declared.State.{State}
-use Rattle.records.specs.declared.Answer.{Answer}
-use Rattle.records.specs.declared.Answer.TheVariants.{Going, Ended, Stuck}
-use Rattle.records.specs.contracts.Answer.{the_type}
-use Rattle.records.proofs.Sequences.{step_full, step_taken, not_first}
+use Rattle.std.specs.Prelude.{Result, Ok, Err}
+use Rattle.records.specs.declared.Stop.{Stop}
+use Rattle.records.specs.declared.Stop.TheVariants.{Ended, Stuck}
+use Rattle.records.proofs.Sequences.{stepped_stops, step_taken}
 use Rattle.gates.specs.declared.Mode.{Mode}
 use Rattle.gates.specs.Gates.{direction_of, frame_in, turn_of}
 use Rattle.gates.proofs.GateRuns.{does_as}
@@ -88,28 +86,30 @@ module _ (mode : Mode) (room base from to place : ℕ) (start : ℤ) (l program 
   left_over looping left i = later_run looping mode room base from to place start l program (frame_in mode values scope regs) left i
 
   -- none is left: the list's answer
-  pub round_stops : (looping : Bool) (vars vars' : List ℤ) (st : State) (r : Answer) → Turned looping mode place start i vars vars' st r → OneOf (1 ∷ 2 ∷ []) (tag_of the_type r)
-      → (out : List ℕ) → Does out st out r (left_over looping (total - i) i)
-  unfolding Turned RoundBegun
-  round_stops false vars vars' st r w k out = absurd (not_first (rw w.0 at k))
-  round_stops true vars vars' st (Going t) w k out = absurd (not_first k)
-  round_stops true vars vars' st (Ended n p t) w k out =
-      rw (w.none.number, w.none.here, w.none.same) (does_as _ _ _ _ _ (left_over true (total - i) i)
-      (rounds_more mode room base from to place start l program values scope regs (total - i) i (omega arith)) (step_full mode.limit room out st place _ w.none.none))
-  round_stops true vars vars' st Stuck w k out = absurd w
+  pub round_stops : (looping : Bool) (vars vars' : List ℤ) (st : State) (r : Result State Stop) → Turned looping mode place start i vars vars' st r → {e : Stop} → r ≡ Err e
+      → (out : List ℕ) → Does out st out (Err e) (left_over looping (total - i) i)
+  unfolding Turned RoundBegun Stepped
+  round_stops false vars vars' st r w {e} k out = absurd (let z : ◌≡◌ {A = Result State Stop} (Ok st) (Err e) = sym w.0 ∙ k in let y : ◌≡◌ {A = ℕ} 0 1 = cc in omega arith)
+  round_stops true vars vars' st r w {e} k out = does_as _ _ _ _ _ (left_over true (total - i) i)
+      (rounds_more mode room base from to place start l program values scope regs (total - i) i (omega arith))
+      (stepped_stops mode.limit room out st place _ (Err e) (unstepped e (rw k at w)) refl)
+    where
+      unstepped : (e : Stop) → RoundBegun mode place (turn_of mode.reversed start i) vars vars' st (Err e) → Stepped mode.limit place st (Err e)
+      unstepped (Ended n p t) w = w.none
+      unstepped Stuck w = w
 
   -- it goes on: the list in the round's frame, and then the rounds after it
   pub record RoundsGo (looping : Bool) (vars' : List ℤ) (st t : State) (out : List ℕ) : Type 0 where
-    pub leads : (x : List ℕ) (q : Answer) → Does out t x q (rest_run mode room base from to l program (frame_in mode (take mode.variables vars') scope regs) >> left_over looping (total - (i + 1)) (i + 1))
+    pub leads : (x : List ℕ) (q : Result State Stop) → Does out t x q (rest_run mode room base from to l program (frame_in mode (take mode.variables vars') scope regs) >> left_over looping (total - (i + 1)) (i + 1))
         → Does out st x q (left_over looping (total - i) i)
 
-  pub round_goes : (looping : Bool) → Often looping mode start total → (vars vars' : List ℤ) (st t : State) (r : Answer) → Turned looping mode place start i vars vars' st r → r ≡ Going t
+  pub round_goes : (looping : Bool) → Often looping mode start total → (vars vars' : List ℤ) (st t : State) (r : Result State Stop) → Turned looping mode place start i vars vars' st r → r ≡ Ok t
       → take (kept_in mode looping) vars ≡ values → (out : List ℕ) → RoundsGo looping vars' st t out
   unfolding Often Turned RoundBegun once_run in_round
   round_goes false o vars vars' st t r w e v out =
       let a : total - i ≡ 1 = omega (arith, o) in
       let b : total - (i + 1) ≡ 0 = omega (arith, o) in
-      let same : st ≡ t = (let z : Going st ≡ Going t = sym w.0 ∙ e in cc) in
+      let same : st ≡ t = (let z : ◌≡◌ {A = Result State Stop} (Ok st) (Ok t) = sym w.0 ∙ e in cc) in
       let k : take mode.variables vars' ≡ values = rw w.1 v in
       record { leads = λ x q d. rw (a, same) (does_as _ _ _ _ _ (rest_run mode room base from to l program (frame_in mode values scope regs)) (sym (then_done _)) (rw (b, k) at d)) }
   round_goes true o vars vars' st t r w e v out =
@@ -120,13 +120,13 @@ module _ (mode : Mode) (room base from to place : ℕ) (start : ℤ) (l program 
       record { leads = λ x q d. does_as _ _ _ _ _ (left_over true (total - i) i) more (step_taken mode.limit room out st t place _ x q u.step.left u.step.same u.step.more (rw z (rw k at d))) }
 
 -- the values that stay, stay
-pub round_kept : (looping : Bool) (mode : Mode) (place : ℕ) (start : ℤ) (i : ℕ) (vars vars' : List ℤ) (st : State) (r : Answer) → Turned looping mode place start i vars vars' st r
+pub round_kept : (looping : Bool) (mode : Mode) (place : ℕ) (start : ℤ) (i : ℕ) (vars vars' : List ℤ) (st : State) (r : Result State Stop) → Turned looping mode place start i vars vars' st r
     → take (kept_in mode looping) vars' ≡ take (kept_in mode looping) vars
 unfolding Turned RoundBegun
 round_kept false mode place start i vars vars' st r w = ap (take mode.variables) w.1
-round_kept true mode place start i vars vars' st (Going t) w = w.kept
-round_kept true mode place start i vars vars' st (Ended n p t) w = ap (take (mode.variables - 1)) w.kept
-round_kept true mode place start i vars vars' st Stuck w = absurd w
+round_kept true mode place start i vars vars' st (Ok t) w = w.kept
+round_kept true mode place start i vars vars' st (Err (Ended n p t)) w = ap (take (mode.variables - 1)) w.kept
+round_kept true mode place start i vars vars' st (Err Stuck) w = absurd w
 
 -- what the round i is given
 pub round_turns : (looping : Bool) (mode : Mode) (start : ℤ) (total i : ℕ) → Often looping mode start total → i < total → Turns looping mode start i
@@ -136,32 +136,26 @@ round_turns true mode start total i o h = (o.0, o.1, o.2 i h)
 
 -- ---- how a round begins
 
-pub not_true : (b : Bool) → not b ≡ true → b ≡ false
-not_true true h = sym h
-not_true false h = refl
-
-pub not_false : (b : Bool) → not b ≡ false → b ≡ true
-not_false true h = refl
-not_false false h = sym h
-
 module _ (looping : Bool) (mode : Mode) (place : ℕ) (start : ℤ) (i : ℕ) (vars : List ℤ) (st : State) where
-  pub turned_once : looping ≡ false → Turned looping mode place start i vars vars st (Going st)
+  pub turned_once : looping ≡ false → Turned looping mode place start i vars vars st (Ok st)
   unfolding Turned
   turned_once e = rw e (refl, refl)
 
   module _ (e : looping ≡ true) where
-    pub turned_none : (r : Answer) → Stepped mode.limit place st r → OneOf (1 ∷ 2 ∷ []) (tag_of the_type r) → Turned looping mode place start i vars vars st r
+    pub turned_none : (r : Result State Stop) → Stepped mode.limit place st r → {x : Stop} → r ≡ Err x → Turned looping mode place start i vars vars st (Err x)
     unfolding Turned RoundBegun Stepped
-    turned_none (Going t) h k = absurd (not_first k)
-    turned_none (Ended n p t) h k = rw e (record { none = h; kept = refl })
-    turned_none Stuck h k = absurd h
+    turned_none r h {x} k = rw e (go x (rw k at h))
+      where
+        go : (x : Stop) → Stepped mode.limit place st (Err x) → RoundBegun mode place (turn_of mode.reversed start i) vars vars st (Err x)
+        go (Ended n p t) h = record { none = h; kept = refl }
+        go Stuck h = h
 
     pub turns_are : Turns looping mode start i → (1 ≤ mode.variables) × (in_range start ≡ true) × (in_range (turn_of mode.reversed start i) ≡ true)
     unfolding Turns
     turns_are w = rw e at w
 
     pub turned_goes : Turns looping mode start i → mode.variables ≤ length vars → (t : State) → OneStep mode.limit st t
-        → (last : ℕ) → last ≡ mode.variables - 1 → (z : ℤ) → z ≡ turn_of mode.reversed start i → Turned looping mode place start i vars (set vars last z) st (Going t)
+        → (last : ℕ) → last ≡ mode.variables - 1 → (z : ℤ) → z ≡ turn_of mode.reversed start i → Turned looping mode place start i vars (set vars last z) st (Ok t)
     unfolding Turned RoundBegun
     turned_goes w h t one last l z v = rw (e, l, v) (record {
       step = one;

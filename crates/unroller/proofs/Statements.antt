@@ -5,8 +5,6 @@ use mathlib.Core.List.{List, [], ◌∷◌}
 use mathlib.Core.Bool.{Bool, true, false, cond, not, ◌&&◌, ◌||◌}
 use native.Mathlib.Omega.{arith}
 use borrow.Author.Tests.{ne_eqb, eqb-true, eqb-false, leb-true, leb-false, ltb-true, ltb-false}
-use types.Run.{OneOf}
-use denote.Enum.Declared.{tag_of}
 use lib.ListN.{get_elem?, drop}
 use lib.Dec.{eqb, leb, ltb}
 use Rattle.language.specs.Tree.{Place, bad_index, Argument, Statement, call, call_parameter, bad_statement}
@@ -16,12 +14,12 @@ use Rattle.language.proofs.Integers.{clash}
 use Rattle.language.proofs.Runs.{after_after}
 use Rattle.fields.specs.CallNumber.{calling_by, call_reader, is_call_tag}
 use Rattle.fields.proofs.CallNumbers.{call_read, named_bad, named_number}
-use Rattle.records.specs.Outcomes.{Does}
+use Rattle.records.specs.Outcomes.{Does, Stepped}
 use Rattle.records.specs.declared.State.{State}
-use Rattle.records.specs.declared.Answer.{Answer}
-use Rattle.records.specs.declared.Answer.TheVariants.{Going, Ended, Stuck as a_stuck}
-use Rattle.records.specs.contracts.Answer.{the_type}
-use Rattle.records.proofs.Sequences.{step_full, does_stuck, not_first}
+use Rattle.std.specs.Prelude.{Result, Ok, Err}
+use Rattle.records.specs.declared.Stop.{Stop}
+use Rattle.records.specs.declared.Stop.TheVariants.{Ended, Stuck}
+use Rattle.records.proofs.Sequences.{stepped_stops, does_stuck}
 use Rattle.gates.specs.declared.Mode.{Mode}
 use Rattle.gates.specs.Gates.{direction_of, gate_for, gate_at, cx_at, gate_by, nameless_of, Enterable, StepTaken, Entered}
 use Rattle.phases.specs.Phases.{phase_at, is_action_tag, action_at}
@@ -187,15 +185,17 @@ module _ (mode : Mode) (room base tag : ℕ) (l program : List ℕ) (f : Frame) 
       go false e false g false k = record { after_it = _; is = one_for mode room base tag l program f w.deep (for_tag e g (eqb-false tag 37 k)) }
 
   -- a statement that is not entered
-  pub one_stops : (o : List ℕ) (st : State) (r : Answer) → Entered mode tag l base st r → OneOf (1 ∷ 2 ∷ []) (tag_of the_type r) → Does o st o r (one_run mode room base tag l program f)
-  unfolding Entered
-  one_stops o st (Going s) e h = absurd (not_first h)
-  one_stops o st (Ended n p s) e h =
-      let q = first e.enterable in
-      rw (e.none.number, e.none.here, e.none.same) (does_as o st o (Ended 26 base st) (step mode.limit room base >> q.after_it) (one_run mode room base tag l program f) q.is (step_full mode.limit room o st base q.after_it e.none.none))
-  one_stops o st a_stuck e h = does_as o st o a_stuck no_meaning (one_run mode room base tag l program f) (one_refused e) (does_stuck o st o)
+  pub one_stops : (o : List ℕ) (st : State) (r : Result State Stop) → Entered mode tag l base st r → {e : Stop} → r ≡ Err e → Does o st o (Err e) (one_run mode room base tag l program f)
+  unfolding Entered Stepped
+  one_stops o st r w {e} k = go e (rw k at w)
+    where
+      go : (e : Stop) → Entered mode tag l base st (Err e) → Does o st o (Err e) (one_run mode room base tag l program f)
+      go (Ended n p t) w =
+          let q = first w.enterable in
+          does_as o st o (Err (Ended n p t)) (step mode.limit room base >> q.after_it) (one_run mode room base tag l program f) q.is (stepped_stops mode.limit room o st base q.after_it (Err (Ended n p t)) w.none refl)
+      go Stuck w = does_as o st o (Err Stuck) no_meaning (one_run mode room base tag l program f) (one_refused w) (does_stuck o st o)
 
 -- the step that a statement entered has taken
-pub one_steps : (mode : Mode) (tag : ℕ) (l : List ℕ) (place : ℕ) (st s : State) (r : Answer) → Entered mode tag l place st r → r ≡ Going s → StepTaken mode tag l st s
+pub one_steps : (mode : Mode) (tag : ℕ) (l : List ℕ) (place : ℕ) (st s : State) (r : Result State Stop) → Entered mode tag l place st r → r ≡ Ok s → StepTaken mode tag l st s
 unfolding Entered
 one_steps mode tag l place st s r e h = rw h at e

@@ -4,8 +4,6 @@ use mathlib.Core.Path.{◌≡◌, refl, sym, ap, ◌∙◌}
 use mathlib.Core.List.{List, [], ◌∷◌}
 use mathlib.Core.Bool.{Bool, true, false, ◌&&◌}
 use native.Mathlib.Omega.{arith}
-use types.Run.{OneOf}
-use denote.Enum.Declared.{tag_of}
 use lib.ListN.{length, drop}
 use lib.Seq.{slice, slice_empty}
 use Rattle.language.specs.Tree.{Statements}
@@ -13,17 +11,16 @@ use Rattle.language.specs.Read.{Field, field, bad_header, fields, fields_after, 
 use Rattle.language.specs.Machine.{Run, Frame, Direction, forward, backward, no_meaning, done, in_order, run_statement, run_statements, after, ◌>>◌}
 use Rattle.language.proofs.Runs.{run_joined, statements_split, then_done, done_then}
 use Rattle.language.proofs.Integers.{clash}
-use Rattle.fields.specs.declared.Header.TheVariants.{Whole}
+use Rattle.std.specs.Prelude.{Option as Maybe, Some, None, Result, Ok}
+use Rattle.fields.specs.declared.Header.{Header}
+use Rattle.fields.specs.declared.NoHeader.{NoHeader}
 use Rattle.fields.specs.Header.{fields_at, header_of}
 use Rattle.fields.specs.Count.{Counted, Many, Broken, counted}
-use Rattle.fields.specs.contracts.Header.{the_type}
 use Rattle.fields.proofs.Headers.{slice_none}
-use Rattle.fields.proofs.Parts.{not_first}
 use Rattle.fields.proofs.Between.{FieldIn, in_whole}
 use Rattle.fields.proofs.Counts.{Broke, lastly, before, broken_fields}
 use Rattle.field_walk.specs.declared.Walk.{Walk}
-use Rattle.field_walk.specs.declared.Begun.{Begun}
-use Rattle.field_walk.specs.declared.Begun.TheVariants as B
+use Rattle.field_walk.specs.declared.Held.{Held}
 use Rattle.field_walk.specs.Walks.{is_broken, broken_in, FieldBegins, PositionsKept, Linked, Walking, NextField, Starting, passed_of, whole_of}
 use Rattle.field_walk.proofs.Positions.{cut_in, begins_passes, slice_part, slice_rest}
 use Rattle.gates.specs.declared.Mode.{Mode}
@@ -76,7 +73,7 @@ module _ (mode : Mode) (room base : ℕ) (l program : List ℕ) (f : Frame) wher
   unfolding runs statements_by run_statements
   bad_last bytes = alone_is _ f.direction ∙ bad_is mode.levels bytes
 
-  forward_stops : (at to : ℕ) → at < to → to ≤ length l → OneOf (1 ∷ 2 ∷ []) (tag_of the_type (header_of at (fields_at l at to))) → rest_run mode room base at to l program f ≡ no_meaning
+  forward_stops : (at to : ℕ) → at < to → to ≤ length l → ((k : Header) → header_of at (fields_at l at to) ≡ Ok k → ⊥) → rest_run mode room base at to l program f ≡ no_meaning
   unfolding runs
   forward_stops at to h w k = ap runs (cut_in l at to h w k (base + at)) ∙ bad_last (base + at)
 
@@ -131,14 +128,15 @@ module _ (mode : Mode) (room base : ℕ) (l program : List ℕ) (f : Frame) wher
     pub to_sooner : (passed_of w reversed end).to ≤ w.to
 
   pub walk_turn : (reversed : Bool) → f.direction ≡ direction_of reversed → (w : Walk) (kept : List ℕ) (tag end : ℕ) → NextField l reversed w kept → w.at < w.to
-      → header_of w.here (fields_at l w.here w.to) ≡ Whole tag end → Turn reversed w kept tag end
+      → header_of w.here (fields_at l w.here w.to) ≡ Ok (record { tag = tag; next = end }) → Turn reversed w kept tag end
   unfolding Walking NextField passed_of direction_of
   walk_turn true d w kept tag end n h e =
       let x = n.ends in
       let i : FieldIn l w.here w.to x.tag w.to = in_whole l w.here w.to x.tag w.to x.is in
-      let y : Whole x.tag w.to ≡ Whole tag end = sym x.is ∙ e in
-      let u : x.tag ≡ tag = cc in
-      let v : w.to ≡ end = cc in
+      let y : ◌≡◌ {A = Result Header NoHeader} (Ok (record { tag = x.tag; next = w.to })) (Ok (record { tag = tag; next = end })) = sym x.is ∙ e in
+      let z : ◌≡◌ {A = Header} (record { tag = x.tag; next = w.to }) (record { tag = tag; next = end }) = cc in
+      let u : x.tag ≡ tag = ap (λ (k : Header). k.tag) z in
+      let v : w.to ≡ end = ap (λ (k : Header). k.next) z in
       let b = backward_next mode room base l program f w.at w.here w.to x.tag d n.begins i n.within in
       record {
         runs_on = b ∙ (λ j. field_run mode room base l program f w.here (u j) (v j) >> rest_run mode room base w.at w.here l program f);
@@ -167,20 +165,20 @@ module _ (mode : Mode) (room base : ℕ) (l program : List ℕ) (f : Frame) wher
         to_sooner = omega arith;
       }
 
-  pub walk_stops : (reversed : Bool) → f.direction ≡ direction_of reversed → (w : Walk) (kept : List ℕ) → NextField l reversed w kept → w.at < w.to → OneOf (1 ∷ 2 ∷ []) (tag_of the_type (header_of w.here (fields_at l w.here w.to)))
+  pub walk_stops : (reversed : Bool) → f.direction ≡ direction_of reversed → (w : Walk) (kept : List ℕ) → NextField l reversed w kept → w.at < w.to → ((k : Header) → header_of w.here (fields_at l w.here w.to) ≡ Ok k → ⊥)
       → rest_run mode room base w.at w.to l program f ≡ no_meaning
   unfolding NextField direction_of
-  walk_stops true d w kept n h k = absurd (not_first (rw n.ends.is at k))
+  walk_stops true d w kept n h k = absurd (k _ n.ends.is)
   walk_stops false d w kept n h k = forward_stops mode room base l program f w.at w.to h n.within (rw n.begins at k)
 
   -- a walk that does not begin: the list is stuck before anything runs
-  pub begin_stops : (reversed : Bool) → f.direction ≡ direction_of reversed → (from to : ℕ) (kept : List ℕ) (r : Begun) → Starting l from to reversed kept r → r ≡ B.Broken → rest_run mode room base from to l program f ≡ no_meaning
+  pub begin_stops : (reversed : Bool) → f.direction ≡ direction_of reversed → (from to : ℕ) (kept : List ℕ) (r : Maybe Held) → Starting l from to reversed kept r → r ≡ None → rest_run mode room base from to l program f ≡ no_meaning
   unfolding Starting
   begin_stops reversed d from to kept r s e = list_broken mode room (base + from) (slice from to l) program f reversed d (rw e at s)
 
-pub walk_start : (l : List ℕ) (from to : ℕ) (reversed : Bool) (kept : List ℕ) (r : Begun) (depth sure : ℕ) → Starting l from to reversed kept r → r ≡ B.With depth sure → Walking l reversed (whole_of from to depth sure) kept
+pub walk_start : (l : List ℕ) (from to : ℕ) (reversed : Bool) (kept : List ℕ) (r : Maybe Held) (h : Held) → Starting l from to reversed kept r → r ≡ Some h → Walking l reversed (whole_of from to h.depth h.sure) kept
 unfolding Starting
-walk_start l from to reversed kept r depth sure s e = rw e at s
+walk_start l from to reversed kept r h s e = rw e at s
 
 pub walk_within : (l : List ℕ) (reversed : Bool) (w : Walk) (kept : List ℕ) → Walking l reversed w kept → w.to ≤ length l
 unfolding Walking

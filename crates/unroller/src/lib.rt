@@ -14,7 +14,7 @@ ghost use Rattle.unroller.specs.CalledFamilies.{Calls};
 ghost use Rattle.unroller.specs.Runs.{Ready, Often, Turns, Turned, Completes, HasBody, Nestable, Inside, one_run, times_run, kept_in};
 
 use calls::OPERAND_NUMBERS;
-use fields::{Header, Named};
+use fields::Named;
 use gates::Mode;
 use indexes::VALUES;
 use limits::MOST_FAMILIES;
@@ -97,16 +97,11 @@ fn inmost(bytes: &[u8], base: usize, to: usize, e: Nested) -> Nested
     let mut r = e;
     while r.tag == fields::REVERSE {
         let at = r.from;
-        let Ok(Header { tag, next }) = fields::header_at(bytes, at, to) else {
+        let Ok(header) = fields::header_at(bytes, at, to) else {
             return r;
         };
-        if next < to {
-            return r;
-        }
-        if tag < fields::REVERSE {
-            return r;
-        }
-        if fields::FOR < tag {
+        let tag = header.tag;
+        if header.next < to || tag < fields::REVERSE || fields::FOR < tag {
             return r;
         }
         let from = at + 3;
@@ -271,15 +266,28 @@ pub fn run_list(
         }
         w = field_walk::seek(bytes, w, reversed, &mut cuts);
         let here = w.here;
-        let Ok(Header { tag, next }) = fields::header_at(bytes, here, w.to) else {
+        let Ok(header) = fields::header_at(bytes, here, w.to) else {
             return Err(Stop::Stuck);
         };
         let content = here + 3;
         let at = base + here;
         s = run_statement(
-            bytes, base, content, next, at, tag, vars, scope, regs, program, table, mode, s, out,
+            bytes,
+            base,
+            content,
+            header.next,
+            at,
+            header.tag,
+            vars,
+            scope,
+            regs,
+            program,
+            table,
+            mode,
+            s,
+            out,
         )?;
-        w = field_walk::passed(w, reversed, next);
+        w = field_walk::passed(w, reversed, header.next);
     }
 }
 

@@ -5,14 +5,10 @@ use Rattle.language.specs.Form.{in_range}
 use Rattle.forms.proofs.Laws.{sum_as}
 use Rattle.forms.proofs.add.Goals as goal
 
-pub add_scaled-requires : goal.add_scaled-requires
+pub add_scaled-requires-clause-k_value : goal.add_scaled-requires-clause-k_value
 unfolding in_range
-add_scaled-requires c =
-    record {
-      kept = c.requires.kept;
-      k_value = refl;
-      kept_2 = c.requires.kept_2;
-    }
+add_scaled-requires-clause-k_value c =
+    refl
 
 pub returns : goal.returns
 returns c =

@@ -1,21 +1,21 @@
 -- `forms::add_constant` meets its contract: one number, at k = 1. Assumes nothing.
 use native.Mathlib.Omega.{arith}
-use mathlib.Core.Path.{refl, ap, ◌∙◌}
+use mathlib.Core.Path.{refl}
 use Rattle.language.specs.Form.{in_range}
 use Rattle.language.proofs.Integers.{range_back}
 use Rattle.forms.proofs.Lists.{kept_at}
 use Rattle.forms.proofs.Laws.{constant_added}
 use Rattle.forms.proofs.add_constant.Goals as goal
 
-pub add_number-requires : goal.add_number-requires
+pub add_number-requires-clause-pos_value : goal.add_number-requires-clause-pos_value
 unfolding in_range
-add_number-requires c =
-    record {
-      i_lt_form_numbers = omega arith;
-      pos_value = kept_at c.args.f.now 0 (omega arith) c.requires.kept;
-      k_value = refl;
-      y_value = ap in_range {y = c.args.z} (range_back c.requires.z_value) ∙ c.requires.z_value;
-    }
+add_number-requires-clause-pos_value c =
+    kept_at c.args.f.now 0 (omega arith) c.requires.kept
+
+pub add_number-requires-clause-k_value : goal.add_number-requires-clause-k_value
+unfolding in_range
+add_number-requires-clause-k_value c =
+    refl
 
 pub returns : goal.returns
 returns c =

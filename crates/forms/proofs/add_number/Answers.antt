@@ -1,6 +1,5 @@
 -- `forms::add_number` meets its contract: nothing is added where y is 0. Assumes nothing.
-use borrow.Author.Rules.{rules}
-use Rattle.language.proofs.Integers.{range_fits, range_back, bits_zero}
+use Rattle.language.proofs.Integers.{range_fits, bits_zero}
 use Rattle.forms.proofs.Laws.{nothing_added}
 use Rattle.forms.proofs.add_number.Goals as goal
 

@@ -1,5 +1,4 @@
 -- `forms::add_scaled` meets its contract. One loop for sum, difference and replacement. Assumes nothing.
-use native.Mathlib.Omega.{arith}
 use mathlib.Core.Path.{◌≡◌, sym, ap, ◌∙◌, subst}
 use mathlib.Core.List.{List}
 use mathlib.Core.Bool.{Bool, true, ◌&&◌}
@@ -12,7 +11,7 @@ use Rattle.language.specs.Form.{in_range, sum_of, multiple_of, ◌then_build◌}
 use Rattle.forms.specs.Flat.{as_form, built_of}
 use Rattle.language.proofs.Integers.{range_back}
 use Rattle.forms.proofs.Lists.{kept_at, stands, not_built}
-use Rattle.forms.proofs.Laws.{Scaling, scaling_begun, scaling_again, scaling_stopped, scaling_ended}
+use Rattle.forms.proofs.Laws.{Scaling, scaling_again, scaling_stopped, scaling_ended}
 use Rattle.forms.proofs.add_scaled.Goals as goal
 
 -- the definition, for the number k as the machine reads it back
@@ -25,16 +24,15 @@ meets k f g h = ap (λ (v : ℤ). (multiple_of v (as_form g) then_build sum_of (
 number-told : (k x x' y : ℤ) {r : Bool} → x ≡ x' → in_range y ≡ true → r ≡ (in_range (k *ℤ to_z w64 (of_z w64 y)) && in_range (x +ℤ k *ℤ to_z w64 (of_z w64 y))) → r ≡ (in_range (k *ℤ y) && in_range (x' +ℤ k *ℤ y))
 number-told k x x' y e h p = p ∙ (λ j. in_range (k *ℤ range_back h j) && in_range (e j +ℤ k *ℤ range_back h j))
 
-pub add_number-requires : goal.add_number-requires
-add_number-requires c =
+pub add_number-requires-clause-pos_value : goal.add_number-requires-clause-pos_value
+add_number-requires-clause-pos_value c =
     let x-in = stands c.loop-i.invariant.sums c.requires.kept c.requires.kept_2 c.loop-i-test.true in
+    ap in_range x-in ∙ kept_at c.args.f.now c.loop-i.i c.loop-i-test.true c.requires.kept
+
+pub add_number-requires-clause-y_value : goal.add_number-requires-clause-y_value
+add_number-requires-clause-y_value c =
     let y-in = kept_at c.args.g.now c.loop-i.i c.loop-i-test.true c.requires.kept_2 in
-    record {
-      i_lt_form_numbers = omega (arith, c.loop-i-test.true);
-      pos_value = ap in_range x-in ∙ kept_at c.args.f.now c.loop-i.i c.loop-i-test.true c.requires.kept;
-      k_value = ap in_range (range_back c.requires.k_value) ∙ c.requires.k_value;
-      y_value = ap in_range (range_back y-in) ∙ y-in;
-    }
+    ap in_range (range_back y-in) ∙ y-in
 
 pub returns-in_err-add_number-clause-f_after : goal.returns-in_err-add_number-clause-f_after
 returns-in_err-add_number-clause-f_after c =

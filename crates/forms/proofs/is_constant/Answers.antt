@@ -1,5 +1,5 @@
 -- `forms::is_constant` meets its contract. Assumes nothing.
-use Rattle.std.proofs.Common.{length, drop, length-drop, arith, rules, tests}
+use Rattle.std.proofs.Common.{drop, length-drop, arith, rules, tests}
 use mathlib.Core.Path.{◌∙◌}
 use lib.Seq.{take_all}
 use Rattle.std.proofs.lemmas.Iterator.{YieldsList-from_slice}

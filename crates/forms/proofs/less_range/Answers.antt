@@ -1,17 +1,9 @@
 -- `forms::less_range` meets its contract. Assumes nothing.
-use native.Mathlib.Omega.{arith}
 use mathlib.Core.Path.{ap, ◌∙◌}
 use Rattle.language.specs.Form.{Built, difference_of, ◌then_build◌, less_range}
 use Rattle.forms.specs.Flat.{as_form}
 use Rattle.forms.proofs.Lists.{when_built, when_out, not_built}
 use Rattle.forms.proofs.less_range.Goals as goal
-
-pub subtract-requires : goal.subtract-requires
-subtract-requires c =
-    record {
-      kept = c.requires.rows_2.each c.args.n (omega arith);
-      kept_2 = c.requires.rows.each c.args.n (omega arith);
-    }
 
 pub returns-in_err-subtract-clause-f_after : goal.returns-in_err-subtract-clause-f_after
 unfolding less_range ◌then_build◌

@@ -2,11 +2,8 @@
 use native.Mathlib.Omega.{arith}
 use native.Mathlib.Numerals.{add-one}
 use mathlib.Core.Path.{◌≡◌, sym, ap, ◌∙◌, subst}
-use mathlib.Core.List.{List}
-use lib.IntN.{ℤ, pos}
-use lib.ListN.{get_or, set, replicate}
-use mir.Syntax.{w64}
-use mir.Val.{to_z, of_z}
+use lib.IntN.{pos}
+use lib.ListN.{set, replicate}
 use Rattle.forms.specs.Flat.{Kept, widened}
 use Rattle.forms.proofs.Lists.{front, front_put, short_at, short_range, short_kept, widen_read, loaded}
 use Rattle.forms.proofs.load.Goals as goal

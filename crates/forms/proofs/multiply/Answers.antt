@@ -29,13 +29,13 @@ pub returns-in_err-set_multiple-clause-f_after : goal.returns-in_err-set_multipl
 returns-in_err-set_multiple-clause-f_after c =
     let a = c.args in
     λ p. product_out p _ _ c.from_residual.ensures.1 c.in_err-set_multiple.was (c.set_multiple.ensures.f_after ∙ constant-times a.f.now a.g.now c.requires.kept)
-        ∙ product_left p (as_form a.f.now) (as_form a.g.now) (sym c.is_constant.ensures ∙ c.if-is_constant.true)
+    ∙ product_left p (as_form a.f.now) (as_form a.g.now) (sym c.is_constant.ensures ∙ c.if-is_constant.true)
 
 pub returns-then-is_constant-clause-f_after : goal.returns-then-is_constant-clause-f_after
 returns-then-is_constant-clause-f_after c =
     let a = c.args in
     λ p. product_made p _ c.in_ok-set_multiple.was (c.set_multiple.ensures.f_after ∙ constant-times a.f.now a.g.now c.requires.kept)
-        ∙ product_left p (as_form a.f.now) (as_form a.g.now) (sym c.is_constant.ensures ∙ c.if-is_constant.true)
+    ∙ product_left p (as_form a.f.now) (as_form a.g.now) (sym c.is_constant.ensures ∙ c.if-is_constant.true)
 
 pub set_multiple-requires-then-is_constant-2-clause-k_value : goal.set_multiple-requires-then-is_constant-2-clause-k_value
 set_multiple-requires-then-is_constant-2-clause-k_value c = constant-in c.args.g.now c.requires.kept_2
@@ -44,13 +44,13 @@ pub returns-in_err-set_multiple-2-clause-f_after : goal.returns-in_err-set_multi
 returns-in_err-set_multiple-2-clause-f_after c =
     let a = c.args in
     λ p. product_out p _ _ c.from_residual-in_err-set_multiple-2.ensures.1 c.in_err-set_multiple-2.was (c.set_multiple-then-is_constant-2.ensures.f_after ∙ constant-times a.g.now a.f.now c.requires.kept_2)
-        ∙ product_right p (as_form a.f.now) (as_form a.g.now) (sym c.is_constant.ensures ∙ c.if-is_constant.false) (sym c.is_constant-2.ensures ∙ c.if-is_constant-2.true)
+    ∙ product_right p (as_form a.f.now) (as_form a.g.now) (sym c.is_constant.ensures ∙ c.if-is_constant.false) (sym c.is_constant-2.ensures ∙ c.if-is_constant-2.true)
 
 pub returns-then-is_constant-2-clause-f_after : goal.returns-then-is_constant-2-clause-f_after
 returns-then-is_constant-2-clause-f_after c =
     let a = c.args in
     λ p. product_made p _ c.in_ok-set_multiple-2.was (c.set_multiple-then-is_constant-2.ensures.f_after ∙ constant-times a.g.now a.f.now c.requires.kept_2)
-        ∙ product_right p (as_form a.f.now) (as_form a.g.now) (sym c.is_constant.ensures ∙ c.if-is_constant.false) (sym c.is_constant-2.ensures ∙ c.if-is_constant-2.true)
+    ∙ product_right p (as_form a.f.now) (as_form a.g.now) (sym c.is_constant.ensures ∙ c.if-is_constant.false) (sym c.is_constant-2.ensures ∙ c.if-is_constant-2.true)
 
 pub returns-clause-f_after : goal.returns-clause-f_after
 unfolding product_of

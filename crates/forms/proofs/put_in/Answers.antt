@@ -31,7 +31,7 @@ module _ (size : List ℤ) (forms : List (List ℤ)) (m j : ℕ) (f : List ℤ) 
       i
       ∙ put_step m j (as_form (widened size)).coefficients forms (as_form f) h n (omega arith)
       ∙ sym (ap (λ (b : Built). b then_build terms_put_in (drop (j + 1) (as_form (widened size)).coefficients) (drop (j + 1) (forms_of m forms)))
-          (u ∙ ap (λ (v : ℤ). multiple_of v (as_form (get_or forms j [])) then_build sum_of (as_form f)) k-is))
+      (u ∙ ap (λ (v : ℤ). multiple_of v (as_form (get_or forms j [])) then_build sum_of (as_form f)) k-is))
 
 pub set_constant-requires : goal.set_constant-requires
 set_constant-requires c =
@@ -50,14 +50,10 @@ loop-j-init c =
           (ap constant_form (head_flat (widened a.size.now) k ∙ short_at a.size.now 0 (omega arith) s ∙ sym (widen_read c.from-z.ensures q)) ∙ sym c.set_constant.ensures.f_after),
     )
 
-pub add_scaled-requires : goal.add_scaled-requires
-add_scaled-requires c =
+pub add_scaled-requires-clause-k_value : goal.add_scaled-requires-clause-k_value
+add_scaled-requires-clause-k_value c =
     let a = c.args in
-    record {
-      kept = c.loop-j.invariant.0;
-      k_value = k-in a.size.now a.forms.now a.m c.loop-j.j c.loop-j.f c.requires.short c.requires.rows c.requires.m_le_most_variables c.loop-j-test.true c.from-k.ensures;
-      kept_2 = c.requires.rows.each c.loop-j.j c.loop-j-test.true;
-    }
+    k-in a.size.now a.forms.now a.m c.loop-j.j c.loop-j.f c.requires.short c.requires.rows c.requires.m_le_most_variables c.loop-j-test.true c.from-k.ensures
 
 pub returns-in_err-add_scaled-clause-f_after : goal.returns-in_err-add_scaled-clause-f_after
 unfolding ◌then_build◌

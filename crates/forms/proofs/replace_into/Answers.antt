@@ -1,5 +1,4 @@
 -- `forms::replace_into` meets its contract. Assumes nothing.
-use borrow.Author.Rules.{rules}
 use native.Mathlib.Omega.{arith}
 use mathlib.Core.Path.{◌≡◌, ap, ◌∙◌}
 use mathlib.Core.Bool.{true}
@@ -19,21 +18,10 @@ use Rattle.forms.proofs.replace_into.Goals as goal
 k-in : (f : List ℤ) (v : ℕ) → v < 12 → Kept f → in_range (get_or f (v + 1) (pos 0)) ≡ true
 k-in f v h k = kept_at f (v + 1) (omega arith) k
 
-pub bounds-f-at : goal.bounds-f-at
-bounds-f-at c = search rules
-
-pub sum_but-requires : goal.sum_but-requires
-sum_but-requires c =
+pub sum_but-requires-clause-k_value : goal.sum_but-requires-clause-k_value
+sum_but-requires-clause-k_value c =
     let k = k-in c.args.f.now c.args.v c.requires.v_lt_all_variables c.requires.kept in
-    let low = c.requires.rows.each c.args.n (omega arith) in
-    let high = c.requires.rows_2.each c.args.n (omega arith) in
-    record {
-      g_len = c.requires.g_len;
-      kept = c.requires.kept;
-      at_lt_form_numbers = omega (arith, c.requires.v_lt_all_variables);
-      k_value = ap in_range (range_back k) ∙ k;
-      kept_2 = search rules;
-    }
+    ap in_range (range_back k) ∙ k
 
 pub returns-then-k-lt0 : goal.returns-then-k-lt0
 returns-then-k-lt0 c =
@@ -46,18 +34,10 @@ returns-then-k-lt0 c =
       kept_2 = c.sum_but.ensures.kept_3;
     }
 
-pub sum_but-requires-2 : goal.sum_but-requires-2
-sum_but-requires-2 c =
+pub sum_but-requires-2-clause-k_value : goal.sum_but-requires-2-clause-k_value
+sum_but-requires-2-clause-k_value c =
     let k = k-in c.args.f.now c.args.v c.requires.v_lt_all_variables c.requires.kept in
-    let low = c.requires.rows.each c.args.n (omega arith) in
-    let high = c.requires.rows_2.each c.args.n (omega arith) in
-    record {
-      g_len = c.requires.g_len;
-      kept = c.requires.kept;
-      at_lt_form_numbers = omega (arith, c.requires.v_lt_all_variables);
-      k_value = ap in_range (range_back k) ∙ k;
-      kept_2 = search rules;
-    }
+    ap in_range (range_back k) ∙ k
 
 pub returns : goal.returns
 returns c =

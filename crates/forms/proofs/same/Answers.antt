@@ -2,7 +2,6 @@
 use mathlib.Core.Path.{◌∙◌}
 use Rattle.std.proofs.lemmas.Bool.Decides.{same_from_decides}
 use Rattle.std.specs.Cmp.Rules.{signed_items}
-use Rattle.form_laws.proofs.Equal.{same_numbers_lem, numbers_itself}
 use Rattle.forms.proofs.Lists.{same_flat, numbers_decide}
 use Rattle.forms.proofs.same.Goals as goal
 

@@ -1,8 +1,8 @@
 -- `forms::scan` meets its contract. The invariant: the scan of the form that came in is the scan of the form as it is, over the loops below the last variable that was replaced.
 -- Assumes nothing.
 use native.Mathlib.Omega.{arith}
-use mathlib.Core.Path.{◌≡◌, sym, ap, ◌∙◌}
-use Prim.Native.Nat.{ℕ, ◌+◌, ◌-◌, ◌≤◌, ◌<◌}
+use mathlib.Core.Path.{sym, ap, ◌∙◌}
+use Prim.Native.Nat.{ℕ, ◌<◌}
 use Rattle.language.specs.Form.{showing_of}
 use Rattle.forms.specs.Flat.{as_form, shown_of}
 use Rattle.forms.specs.Rows.{loops_of}
@@ -33,7 +33,7 @@ returns-then-is_err c =
     let u = r.highs.now in
     let some : 0 < c.left-next.result = omega (arith, c.if-next-eq0.false) in
     let out = scan_out r.variables c.args.loops c.loop-f.n l u (as_form c.args.f.now) (as_form c.loop-f.f) c.loop-f.invariant.0 c.loop-f.invariant.2 c.left-next.result some c.left-next.ensures.upper_bound (c.left-next.ensures.f_value l u)
-      (out_when _ c.substitute.new.f (sym c.is_err.ensures.value ∙ c.if-is_err.true) c.substitute.ensures.f_after) in
+    (out_when _ c.substitute.new.f (sym c.is_err.ensures.value ∙ c.if-is_err.true) c.substitute.ensures.f_after) in
     let both = told _ _ _ _ out in
     record {
       verdict_value = both.0;
@@ -48,5 +48,5 @@ loop-f-preserved c =
     let some : 0 < c.left-next.result = omega (arith, c.if-next-eq0.false) in
     let e = sym c.is_err.ensures.value ∙ c.if-is_err.false in
     let on = scan_on r.variables c.args.loops c.loop-f.n l u (as_form c.args.f.now) (as_form c.loop-f.f) c.loop-f.invariant.0 c.loop-f.invariant.2 c.left-next.result (as_form c.substitute.new.f) some c.left-next.ensures.upper_bound (c.left-next.ensures.f_value l u)
-      (built_when _ c.substitute.new.f e c.substitute.ensures.f_after) in
+    (built_when _ c.substitute.new.f e c.substitute.ensures.f_after) in
     (omega (arith, c.loop-f.invariant.0, c.left-next.ensures.upper_bound), kept_when _ e c.substitute.ensures.kept_2, on)

@@ -1,15 +1,13 @@
 -- `forms::show_plainly` meets its contract: the first variable is replaced into another form, and the scan goes on with that. Assumes nothing.
 use borrow.Author.Rules.{rules}
 use native.Mathlib.Omega.{arith}
-use mathlib.Core.Path.{◌≡◌, refl, sym, ap, ◌∙◌}
-use Prim.Native.Nat.{ℕ, ◌+◌, ◌-◌, ◌≤◌, ◌<◌}
-use lib.IntN.{pos}
-use lib.ListN.{get_or}
+use mathlib.Core.Path.{◌≡◌, sym, ap, ◌∙◌}
+use Prim.Native.Nat.{ℕ, ◌+◌, ◌-◌, ◌<◌}
 use Rattle.language.specs.Form.{showing_of}
 use Rattle.forms.specs.Flat.{as_form, shown_of}
 use Rattle.forms.specs.Rows.{loops_of}
 use Rattle.forms.proofs.Lists.{built_when, out_when}
-use Rattle.forms.proofs.Laws.{fewer, gone_few, told, told_after, none_after, scan_on, scan_out, scan_end}
+use Rattle.forms.proofs.Laws.{gone_few, told, told_after, none_after, scan_on, scan_out, scan_end}
 use Rattle.forms.proofs.show_plainly.Goals as goal
 
 pub returns-then-next-eq0 : goal.returns-then-next-eq0

@@ -22,9 +22,6 @@ use Rattle.forms.proofs.substitute.Goals as goal
 k-in : (f : List ℤ) (v : ℕ) → v < 12 → Kept f → in_range (get_or f (v + 1) (pos 0)) ≡ true
 k-in f v h k = kept_at f (v + 1) (omega arith) k
 
-pub bounds-f-at : goal.bounds-f-at
-bounds-f-at c = search rules
-
 pub returns-then-k-eq0 : goal.returns-then-k-eq0
 unfolding built_of
 returns-then-k-eq0 c =
@@ -33,13 +30,13 @@ returns-then-k-eq0 c =
       kept_2 = c.requires.kept;
     }
 
-pub add_scaled-requires : goal.add_scaled-requires
-add_scaled-requires c =
-    record {
-      kept = drop_kept c.args.f.now c.args.v c.requires.kept;
-      k_value = let q = k-in c.args.f.now c.args.v c.requires.v_lt_all_variables c.requires.kept in search (rules, range_back);
-      kept_2 = c.requires.rows_2.each c.args.n (omega arith);
-    }
+pub add_scaled-requires-clause-kept : goal.add_scaled-requires-clause-kept
+add_scaled-requires-clause-kept c =
+    drop_kept c.args.f.now c.args.v c.requires.kept
+
+pub add_scaled-requires-clause-k_value : goal.add_scaled-requires-clause-k_value
+add_scaled-requires-clause-k_value c =
+    let q = k-in c.args.f.now c.args.v c.requires.v_lt_all_variables c.requires.kept in search (rules, range_back)
 
 pub returns-then-k-lt0 : goal.returns-then-k-lt0
 returns-then-k-lt0 c =
@@ -52,13 +49,13 @@ returns-then-k-lt0 c =
       kept_2 = c.add_scaled.ensures.kept_3;
     }
 
-pub add_scaled-requires-2 : goal.add_scaled-requires-2
-add_scaled-requires-2 c =
-    record {
-      kept = drop_kept c.args.f.now c.args.v c.requires.kept;
-      k_value = let q = k-in c.args.f.now c.args.v c.requires.v_lt_all_variables c.requires.kept in search (rules, range_back);
-      kept_2 = c.requires.rows.each c.args.n (omega arith);
-    }
+pub add_scaled-requires-2-clause-kept : goal.add_scaled-requires-2-clause-kept
+add_scaled-requires-2-clause-kept c =
+    drop_kept c.args.f.now c.args.v c.requires.kept
+
+pub add_scaled-requires-2-clause-k_value : goal.add_scaled-requires-2-clause-k_value
+add_scaled-requires-2-clause-k_value c =
+    let q = k-in c.args.f.now c.args.v c.requires.v_lt_all_variables c.requires.kept in search (rules, range_back)
 
 pub returns : goal.returns
 returns c =

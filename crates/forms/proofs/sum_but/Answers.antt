@@ -1,5 +1,4 @@
 -- `forms::sum_but` meets its contract: the loop of `add_scaled`, into another form. Assumes nothing.
-use native.Mathlib.Omega.{arith}
 use mathlib.Core.Path.{◌≡◌, refl, sym, ap, ◌∙◌, subst}
 use mathlib.Core.List.{List}
 use mathlib.Core.Bool.{Bool, true, ◌&&◌}
@@ -12,7 +11,7 @@ use Rattle.language.specs.Form.{in_range, sum_of, multiple_of, ◌then_build◌}
 use Rattle.forms.specs.Flat.{Kept, as_form, built_of}
 use Rattle.language.proofs.Integers.{range_back}
 use Rattle.forms.proofs.Lists.{kept_at, set_kept, not_built}
-use Rattle.forms.proofs.Laws.{Scaling, scaling_begun, scaling_again, scaling_stopped, scaling_ended}
+use Rattle.forms.proofs.Laws.{Scaling, scaling_again, scaling_stopped, scaling_ended}
 use Rattle.forms.proofs.sum_but.Goals as goal
 
 rest-kept : (f : List ℤ) (at : ℕ) → Kept f → Kept (set f at (pos 0))
@@ -34,17 +33,16 @@ x-told e h = ap (λ (z : ℤ). to_z w64 (of_z w64 z)) e ∙ range_back h
 number-told : (k x x' y : ℤ) {r : Bool} → x ≡ x' → in_range y ≡ true → r ≡ (in_range (k *ℤ to_z w64 (of_z w64 y)) && in_range (x +ℤ k *ℤ to_z w64 (of_z w64 y))) → r ≡ (in_range (k *ℤ y) && in_range (x' +ℤ k *ℤ y))
 number-told k x x' y e h p = p ∙ (λ j. in_range (k *ℤ range_back h j) && in_range (e j +ℤ k *ℤ range_back h j))
 
-pub put_number-requires : goal.put_number-requires
-put_number-requires c =
+pub put_number-requires-clause-x_value : goal.put_number-requires-clause-x_value
+put_number-requires-clause-x_value c =
     let rk = rest-kept c.args.f.now c.args.at c.requires.kept in
     let x-in = kept_at (set c.args.f.now c.args.at (pos 0)) c.loop-i.i c.loop-i-test.true rk in
+    ap in_range (x-told c.number_but-x.ensures x-in) ∙ x-in
+
+pub put_number-requires-clause-y_value : goal.put_number-requires-clause-y_value
+put_number-requires-clause-y_value c =
     let y-in = kept_at c.args.h.now c.loop-i.i c.loop-i-test.true c.requires.kept_2 in
-    record {
-      i_lt_form_numbers = omega (arith, c.loop-i-test.true);
-      x_value = ap in_range (x-told c.number_but-x.ensures x-in) ∙ x-in;
-      k_value = ap in_range (range_back c.requires.k_value) ∙ c.requires.k_value;
-      y_value = ap in_range (range_back y-in) ∙ y-in;
-    }
+    ap in_range (range_back y-in) ∙ y-in
 
 pub returns-in_err-put_number-clause-g_after : goal.returns-in_err-put_number-clause-g_after
 returns-in_err-put_number-clause-g_after c =

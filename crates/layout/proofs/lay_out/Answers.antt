@@ -2,9 +2,9 @@
 use mathlib.Core.Path.{refl, ◌∙◌, sym}
 use native.Mathlib.Omega.{arith}
 use lib.ListN.{take}
+use Rattle.std.proofs.lemmas.Result.{err_from_is_err_and}
 use Rattle.fields.proofs.Between.{in_whole}
 use Rattle.layout.proofs.Parameters.{laying_start, laying_none, laying_next, laying_past, laying_over, laying_stuck, laying_done}
-use borrow.Enum.Refused.{opened}
 use Rattle.layout.proofs.lay_out.Goals as goal
 
 pub loop-i-init : goal.loop-i-init
@@ -12,60 +12,29 @@ loop-i-init c =
     let a = c.args in
     laying_start a.bytes.now a.from a.to a.count (take a.many a.values.now) _ refl
 
-pub header_at-requires : goal.header_at-requires
-header_at-requires c =
-    c.requires.from_le_to.1
-
-pub laid_out-requires : goal.laid_out-requires
-laid_out-requires c =
-    c.requires.count_le_most_parameters.0
-
-pub returns-in_default : goal.returns-in_default
-returns-in_default c =
+pub returns-in_err-header : goal.returns-in_err-header
+returns-in_err-header c =
     let a = c.args in
     let l = a.bytes.now in
     let v = take a.many a.values.now in
     let i = c.loop-i in
-    rw c.laid_out.ensures (laying_none
-    l a.from a.to a.count v i.params i.at i.next i.i i.invariant
-    c.loop-i-test.true (rw c.header_at.ensures at (opened c.in_default.in_default-own.keys2)))
+    let r = err_from_is_err_and c.from_residual.result c.from_residual.ensures.1 in
+    rw (r.1, r.2) (laying_none l a.from a.to a.count v i.params i.at i.next i.i i.invariant c.loop-i-test.true _ (sym c.header_at.ensures ∙ c.in_err-header.was))
 
-pub overflow_add-content : goal.overflow_add-content
-overflow_add-content c =
+pub overflow_add-at : goal.overflow_add-at
+overflow_add-at c =
     let a = c.args in
-    let l = a.bytes.now in
-    let v = take a.many a.values.now in
-    let i = c.loop-i in
-    let w = in_whole l i.at a.to _ _ (sym c.header_at.ensures ∙ c.in-Whole.is) in
+    let w = in_whole a.bytes.now c.loop-i.at a.to _ _ (sym c.header_at.ensures ∙ c.in_ok-header.was) in
     omega (arith, w.low, w.high, c.requires.from_le_to.1)
 
 pub type_from-requires : goal.type_from-requires
 type_from-requires c =
     let a = c.args in
-    let l = a.bytes.now in
-    let v = take a.many a.values.now in
-    let i = c.loop-i in
-    let w = in_whole l i.at a.to _ _ (sym c.header_at.ensures ∙ c.in-Whole.is) in
+    let w = in_whole a.bytes.now c.loop-i.at a.to _ _ (sym c.header_at.ensures ∙ c.in_ok-header.was) in
     record {
       to_in_bounds = omega (arith, w.high, c.requires.from_le_to.1);
-      many_le_most_values = (c.requires.count_le_most_parameters.1, i.invariant.few);
+      many_le_most_values = (c.requires.count_le_most_parameters.1, c.loop-i.invariant.few);
     }
-
-pub offset_bounds-params-i : goal.offset_bounds-params-i
-offset_bounds-params-i c =
-    omega (arith, c.loop-i.invariant.low, c.requires.count_le_most_parameters.0)
-
-pub bounds-params-i : goal.bounds-params-i
-bounds-params-i c =
-    omega (arith, c.loop-i.invariant.low, c.requires.count_le_most_parameters.0)
-
-pub overflow_add-i : goal.overflow_add-i
-overflow_add-i c =
-    omega (arith, c.loop-i.invariant.low, c.requires.count_le_most_parameters.0)
-
-pub loop-i-smaller : goal.loop-i-smaller
-loop-i-smaller c =
-    omega (arith, c.loop-i.invariant.low, c.requires.count_le_most_parameters.0)
 
 pub loop-i-preserved : goal.loop-i-preserved
 loop-i-preserved c =
@@ -73,59 +42,39 @@ loop-i-preserved c =
     let l = a.bytes.now in
     let v = take a.many a.values.now in
     let i = c.loop-i in
-    laying_next
-    l a.from a.to a.count v i.params i.at i.next i.i i.invariant
-    c.loop-i-test.true _ _ (sym c.header_at.ensures ∙ c.in-Whole.is) c.type_from.result c.type_from.ensures
-    _ _ c.in-Fits.is c.requires.count_le_most_parameters.0
+    laying_next l a.from a.to a.count v i.params i.at i.next i.i i.invariant
+    c.loop-i-test.true _ _ (sym c.header_at.ensures ∙ c.in_ok-header.was) c.type_from.result c.type_from.ensures
+    _ _ c.in-Ok.is c.requires.count_le_most_parameters.0
 
-pub laid_out-requires-in-Past : goal.laid_out-requires-in-Past
-laid_out-requires-in-Past c =
-    c.requires.count_le_most_parameters.0
-
-pub returns-in-Past : goal.returns-in-Past
-returns-in-Past c =
+pub returns-in-Err-Past : goal.returns-in-Err-Past
+returns-in-Err-Past c =
     let a = c.args in
     let l = a.bytes.now in
     let v = take a.many a.values.now in
     let i = c.loop-i in
-    rw c.laid_out-in-Past.ensures (laying_past
-    l a.from a.to a.count v i.params i.at i.next i.i i.invariant
-    c.loop-i-test.true _ _ (sym c.header_at.ensures ∙ c.in-Whole.is) c.type_from.result c.type_from.ensures
-    c.in-Past.is)
+    laying_past l a.from a.to a.count v i.params i.at i.next i.i i.invariant
+    c.loop-i-test.true _ _ (sym c.header_at.ensures ∙ c.in_ok-header.was) c.type_from.result c.type_from.ensures
+    (cc)
 
-pub laid_out-requires-in-Over : goal.laid_out-requires-in-Over
-laid_out-requires-in-Over c =
-    c.requires.count_le_most_parameters.0
-
-pub returns-in-Over : goal.returns-in-Over
-returns-in-Over c =
+pub returns-in-Err-Over : goal.returns-in-Err-Over
+returns-in-Err-Over c =
     let a = c.args in
     let l = a.bytes.now in
     let v = take a.many a.values.now in
     let i = c.loop-i in
-    rw c.laid_out-in-Over.ensures (laying_over
-    l a.from a.to a.count v i.params i.at i.next i.i i.invariant
-    c.loop-i-test.true _ _ (sym c.header_at.ensures ∙ c.in-Whole.is) c.type_from.result c.type_from.ensures
-    c.in-Over.is)
+    laying_over l a.from a.to a.count v i.params i.at i.next i.i i.invariant
+    c.loop-i-test.true _ _ (sym c.header_at.ensures ∙ c.in_ok-header.was) c.type_from.result c.type_from.ensures
+    (cc)
 
-pub laid_out-requires-in-Stuck : goal.laid_out-requires-in-Stuck
-laid_out-requires-in-Stuck c =
-    c.requires.count_le_most_parameters.0
-
-pub returns-in-Stuck : goal.returns-in-Stuck
-returns-in-Stuck c =
+pub returns-in-Err-Stuck : goal.returns-in-Err-Stuck
+returns-in-Err-Stuck c =
     let a = c.args in
     let l = a.bytes.now in
     let v = take a.many a.values.now in
     let i = c.loop-i in
-    rw c.laid_out-in-Stuck.ensures (laying_stuck
-    l a.from a.to a.count v i.params i.at i.next i.i i.invariant
-    c.loop-i-test.true _ _ (sym c.header_at.ensures ∙ c.in-Whole.is) c.type_from.result c.type_from.ensures
-    c.in-Stuck.is)
-
-pub laid_out-requires-2 : goal.laid_out-requires-2
-laid_out-requires-2 c =
-    c.requires.count_le_most_parameters.0
+    laying_stuck l a.from a.to a.count v i.params i.at i.next i.i i.invariant
+    c.loop-i-test.true _ _ (sym c.header_at.ensures ∙ c.in_ok-header.was) c.type_from.result c.type_from.ensures
+    (cc)
 
 pub returns : goal.returns
 returns c =
@@ -133,6 +82,4 @@ returns c =
     let l = a.bytes.now in
     let v = take a.many a.values.now in
     let i = c.loop-i in
-    rw c.laid_out-2.ensures (laying_done
-    l a.from a.to a.count v i.params i.at i.next i.i i.invariant
-    c.loop-i-test.false)
+    laying_done l a.from a.to a.count v i.params i.at i.next i.i i.invariant c.loop-i-test.false

@@ -7,7 +7,3 @@ use Rattle.layout.proofs.lay_out.Given as goal
 abbrev pub invariant-loop-i : goal.invariant-loop-i
 invariant-loop-i l =
     Laying l.bytes l.from l.to l.count (take l.many l.values) l.params l.at l.next l.i
-
-abbrev pub decreases-loop-i : goal.decreases-loop-i
-decreases-loop-i l =
-    l.count - l.i

@@ -6,61 +6,29 @@ use mir.ValLaws.{to_z_pos}
 use Rattle.layout.proofs.SizeBytes.{sizing_start, wrong_length_lem, sizing_done, too_large_lem, sizing_next}
 use Rattle.layout.proofs.read_sizes.Goals as goal
 
-pub overflow_mul-wanted : goal.overflow_mul-wanted
-overflow_mul-wanted c =
-    omega arith
-
-pub returns-then-bytes-wanted : goal.returns-then-bytes-wanted
-returns-then-bytes-wanted c =
-    wrong_length_lem c.args.bytes.now c.args.m _ c.if-bytes-wanted.true refl
+pub returns-then-bytes-m : goal.returns-then-bytes-m
+returns-then-bytes-m c =
+    wrong_length_lem c.args.bytes.now c.args.m _ c.if-bytes-m.true refl
 
 pub loop-i-init : goal.loop-i-init
 loop-i-init c =
     sizing_start c.args.bytes.now c.args.m
 
-pub overflow_mul-at : goal.overflow_mul-at
-overflow_mul-at c =
-    omega (arith, c.loop-i.invariant.low)
-
-pub size_at-n-requires : goal.size_at-n-requires
-size_at-n-requires c =
-    omega (arith, c.loop-i.invariant.low)
-
 pub returns-then-n-gt-LARGEST_SIZE : goal.returns-then-n-gt-LARGEST_SIZE
 returns-then-n-gt-LARGEST_SIZE c =
     let a = c.args in
     let i = c.loop-i in
-    too_large_lem a.bytes.now a.m i.i i.values c.if-bytes-wanted.false i.invariant c.size_at-n.result c.loop-i-test.true c.size_at-n.ensures.0 (omega arith)
-
-pub overflow_cast-values : goal.overflow_cast-values
-overflow_cast-values c =
-    record { sfits = omega arith }
-
-pub offset_bounds-values-i : goal.offset_bounds-values-i
-offset_bounds-values-i c =
-    omega (arith, c.loop-i.invariant.low)
-
-pub bounds-values-i : goal.bounds-values-i
-bounds-values-i c =
-    omega (arith, c.loop-i.invariant.low)
-
-pub overflow_add-i : goal.overflow_add-i
-overflow_add-i c =
-    omega (arith, c.loop-i.invariant.low)
-
-pub loop-i-smaller : goal.loop-i-smaller
-loop-i-smaller c =
-    omega (arith, c.loop-i.invariant.low)
+    too_large_lem a.bytes.now a.m i.i i.values c.if-bytes-m.false i.invariant c.size_at-n.result c.loop-i-test.true c.size_at-n.ensures.0 (omega arith)
 
 pub loop-i-preserved : goal.loop-i-preserved
 loop-i-preserved c =
     let a = c.args in
     let i = c.loop-i in
     rw (to_z_pos w32 c.size_at-n.result (omega arith))
-    (sizing_next a.bytes.now a.m i.i i.values c.if-bytes-wanted.false i.invariant c.size_at-n.result c.loop-i-test.true c.size_at-n.ensures.0 c.requires (omega arith))
+    (sizing_next a.bytes.now a.m i.i i.values c.if-bytes-m.false i.invariant c.size_at-n.result c.loop-i-test.true c.size_at-n.ensures.0 c.requires (omega arith))
 
 pub returns : goal.returns
 returns c =
     let a = c.args in
     let i = c.loop-i in
-    sizing_done a.bytes.now a.m i.i i.values c.if-bytes-wanted.false i.invariant c.loop-i-test.false
+    sizing_done a.bytes.now a.m i.i i.values c.if-bytes-m.false i.invariant c.loop-i-test.false

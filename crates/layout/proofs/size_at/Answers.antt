@@ -8,5 +8,5 @@ pub returns : goal.returns
 returns c =
     let at = c.args.at in
     let e : at + 2 + 1 ≡ at + 3 = omega arith in
-    let high = rw e at c.two_bytes-high.ensures in
-    (omega (arith, c.two_bytes-low.ensures.0, high.0), omega (arith, c.two_bytes-low.ensures.1, high.1))
+    let high = rw e at c.two_bytes-2.ensures in
+    (omega (arith, c.two_bytes.ensures.0, high.0), omega (arith, c.two_bytes.ensures.1, high.1))

@@ -3,10 +3,6 @@ use Prim.Native.Nat.{◌-◌, ◌≤◌}
 use Rattle.layout.proofs.FamilyTypes.{FamilyLeft}
 use Rattle.layout.proofs.takes_family.Given as goal
 
-abbrev pub invariant-loop-i : goal.invariant-loop-i
-invariant-loop-i l =
-    FamilyLeft l.bytes l.from l.to l.count l.at l.i × (l.from ≤ l.at)
-
-abbrev pub decreases-loop-i : goal.decreases-loop-i
-decreases-loop-i l =
-    l.count - l.i
+abbrev pub invariant-loop : goal.invariant-loop
+invariant-loop l =
+    FamilyLeft l.bytes l.from l.to l.count l.at l.counter × (l.from ≤ l.at)

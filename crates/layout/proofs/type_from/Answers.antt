@@ -1,42 +1,38 @@
 -- `layout::type_from` meets its contract. Assumes nothing.
+use native.Mathlib.Omega.{arith}
 use lib.ListN.{take}
 use lib.Seq.{slice}
+use Rattle.std.proofs.lemmas.Result.{err_from_is_err_and}
 use Rattle.language.proofs.Integers.{range_back}
 use Rattle.indexes.proofs.Operations.{index_ranged}
-use Rattle.layout.proofs.Parameters.{type_wire, type_other, type_over, type_stuck, type_sized}
+use Rattle.layout.proofs.Parameters.{type_wire, type_other, type_fault, type_sized}
 use Rattle.layout.proofs.type_from.Goals as goal
 
-pub returns-then-tag-eq-QBIT : goal.returns-then-tag-eq-QBIT
-returns-then-tag-eq-QBIT c =
+pub returns-in-16 : goal.returns-in-16
+returns-in-16 c =
     let a = c.args in
-    type_wire a.tag (slice a.from a.to a.bytes.now) (take a.many a.values.now) a.next _ c.if-tag-eq-QBIT.true c.wire_from.ensures
+    type_wire a.tag (slice a.from a.to a.bytes.now) (take a.many a.values.now) a.next _ c.in-16.is c.wire_from.ensures
 
-pub returns-then-tag-ne-QBITS : goal.returns-then-tag-ne-QBITS
-returns-then-tag-ne-QBITS c =
+pub returns-in_err-z-in-17 : goal.returns-in_err-z-in-17
+returns-in_err-z-in-17 c =
     let a = c.args in
-    type_other a.tag (slice a.from a.to a.bytes.now) (take a.many a.values.now) a.next c.if-tag-eq-QBIT.false c.if-tag-ne-QBITS.true
+    let r = err_from_is_err_and c.from_residual.result c.from_residual.ensures.1 in
+    rw (r.1, r.2) (type_fault a.tag (slice a.from a.to a.bytes.now) (take a.many a.values.now) a.next c.in-17.is _ (rw c.in_err-z-in-17.was at c.index_at.ensures))
 
-pub register_from-requires : goal.register_from-requires
-register_from-requires c =
+pub register_from-requires-clause-z_value : goal.register_from-requires-clause-z_value
+register_from-requires-clause-z_value c =
     let a = c.args in
-    let r = index_ranged (slice a.from a.to a.bytes.now) 0 (take a.many a.values.now) _ (rw c.in-Is.is at c.index_at.ensures) in
-    record {
-      z_value = rw (range_back r) (r);
-      next_le_most_wires = c.requires.many_le_most_values.1;
-    }
+    let r = index_ranged (slice a.from a.to a.bytes.now) 0 (take a.many a.values.now) c.in_ok-z-in-17.z (rw c.in_ok-z-in-17.was at c.index_at.ensures) in
+    rw (range_back r) r
 
-pub returns-in-Is : goal.returns-in-Is
-returns-in-Is c =
+pub returns-in_ok-z-in-17 : goal.returns-in_ok-z-in-17
+returns-in_ok-z-in-17 c =
     let a = c.args in
-    let r = index_ranged (slice a.from a.to a.bytes.now) 0 (take a.many a.values.now) _ (rw c.in-Is.is at c.index_at.ensures) in
-    type_sized a.tag (slice a.from a.to a.bytes.now) (take a.many a.values.now) a.next c.if-tag-ne-QBITS.false c.index_at.result c.index_at.ensures _ _ c.in-Is.is (rw (range_back r) at c.register_from.ensures)
+    let u = rw c.in_ok-z-in-17.was at c.index_at.ensures in
+    let r = index_ranged (slice a.from a.to a.bytes.now) 0 (take a.many a.values.now) c.in_ok-z-in-17.z u in
+    type_sized a.tag (slice a.from a.to a.bytes.now) (take a.many a.values.now) a.next c.in-17.is _ u _ (rw (range_back r) at c.register_from.ensures)
 
-pub returns-in-Over : goal.returns-in-Over
-returns-in-Over c =
+pub returns-in_default : goal.returns-in_default
+returns-in_default c =
     let a = c.args in
-    type_over a.tag (slice a.from a.to a.bytes.now) (take a.many a.values.now) a.next c.if-tag-ne-QBITS.false c.index_at.result c.index_at.ensures c.in-Over.is
-
-pub returns-in-Stuck : goal.returns-in-Stuck
-returns-in-Stuck c =
-    let a = c.args in
-    type_stuck a.tag (slice a.from a.to a.bytes.now) (take a.many a.values.now) a.next c.if-tag-ne-QBITS.false c.index_at.result c.index_at.ensures c.in-Stuck.is
+    type_other a.tag (slice a.from a.to a.bytes.now) (take a.many a.values.now) a.next (λ z. omega arith) (λ z. omega arith)

@@ -1,21 +1,22 @@
 -- `metaqasm::checked` meets its contract. Assumes nothing.
 use mathlib.Core.Path.{sym, ap, ◌∙◌}
 use native.Mathlib.Omega.{arith}
+use Prim.Native.Nat.{ℕ}
+use Rattle.language.specs.Result.{turned_down}
 use Rattle.check_program.specs.Answers.{result_told}
-use Rattle.metaqasm.proofs.Places.{turned_small}
+use Rattle.metaqasm.proofs.Places.{refused_small}
 use Rattle.metaqasm.proofs.checked.Goals as goal
 
-pub overflow_cast-narrow : goal.overflow_cast-narrow
-overflow_cast-narrow c =
-    let h = turned_small c.check_program.result c.args.program.now c.check_program.ensures c.in-Turned.number c.in-Turned.place c.in-Turned.is in
+pub overflow_cast-number : goal.overflow_cast-number
+overflow_cast-number c =
+    let h = refused_small c.check_program.result c.args.program.now _ c.check_program.ensures c.in-Err.is in
     omega arith
 
-pub returns-in-Accepted : goal.returns-in-Accepted
+pub returns-in-Ok : goal.returns-in-Ok
 unfolding result_told
-returns-in-Accepted c =
-    sym (ap result_told c.in-Accepted.is) ∙ c.check_program.ensures
+returns-in-Ok c = sym (ap result_told c.in-Ok.is) ∙ c.check_program.ensures
 
-pub returns-in-Turned : goal.returns-in-Turned
+pub returns-in-Err : goal.returns-in-Err
 unfolding result_told
-returns-in-Turned c =
-    sym (ap result_told c.in-Turned.is) ∙ c.check_program.ensures
+returns-in-Err c =
+    ap (λ (n : ℕ). turned_down n c.in-Err.field-0.1) c.number.ensures ∙ sym (ap result_told c.in-Err.is) ∙ c.check_program.ensures

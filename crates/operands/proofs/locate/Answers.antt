@@ -1,12 +1,12 @@
 -- `operands::locate` meets its contract. Assumes nothing.
 use native.Mathlib.Omega.{arith}
 use mathlib.Core.Path.{◌∙◌, ap}
-use Rattle.operands.specs.declared.Location.TheVariants.{At}
+use Rattle.std.specs.Prelude.{Some}
 use Rattle.operands.proofs.Meanings.{location_past, location_high, location_at}
 use Rattle.operands.proofs.locate.Goals as goal
 
-pub returns-then-long-i : goal.returns-then-long-i
-returns-then-long-i c =
+pub returns-then-from-i : goal.returns-then-from-i
+returns-then-from-i c =
     let a = c.args in
     location_past a.first a.size a.i (omega arith)
 
@@ -18,4 +18,4 @@ returns-then-n-ge-LOCATIONS c =
 pub returns : goal.returns
 returns c =
     let a = c.args in
-    ap At (omega arith) ∙ location_at a.first a.size a.i (omega arith) (omega arith)
+    ap Some (omega arith) ∙ location_at a.first a.size a.i (omega arith) (omega arith)

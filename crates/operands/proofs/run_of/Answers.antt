@@ -10,12 +10,13 @@ use mir.ValLaws.{to_z-of_z}
 use Rattle.language.specs.Form.{in_range}
 use Rattle.language.specs.Machine.{wires, give}
 use Rattle.language.proofs.Integers.{range_back, sum_fits}
-use Rattle.operands.specs.Meanings.{meaning_told, clipped, the_wire}
+use Rattle.indexes.specs.Values.{fault_told}
+use Rattle.operands.specs.Meanings.{stood, meaning_told, clipped, the_wire}
 use Rattle.operands.proofs.Meanings.{natural_fits, natural_is, past_is, past_fits, ordered, run_low, run_short, run_high, run_at}
 use Rattle.operands.proofs.run_of.Goals as goal
 
 pub returns-then-x-lt0 : goal.returns-then-x-lt0
-unfolding meaning_told
+unfolding meaning_told fault_told stood
 returns-then-x-lt0 c =
     let a = c.args in
     let x = a.x in
@@ -32,7 +33,7 @@ overflow_add-past c =
     rw (range_back {z = y} c.requires.1) (sum_fits y (pos 1) c.requires.1 refl)
 
 pub returns-then-past-x : goal.returns-then-past-x
-unfolding meaning_told in_range
+unfolding meaning_told fault_told stood in_range
 returns-then-past-x c =
     let a = c.args in
     let x = a.x in
@@ -64,7 +65,7 @@ overflow_cast-to c =
     rw (range_back {z = y} c.requires.1, to_z-of_z w64 z f) (past_fits x y z refl c.requires.1 nonneg after)
 
 pub returns-then-room_of-to : goal.returns-then-room_of-to
-unfolding meaning_told in_range
+unfolding meaning_told fault_told stood in_range
 returns-then-room_of-to c =
     let a = c.args in
     let x = a.x in
@@ -122,7 +123,7 @@ overflow_cast-result c =
     record { fits = omega (arith, ap nat_abs (range_back {z = x} c.requires.0), room, high, low) }
 
 pub returns : goal.returns
-unfolding meaning_told in_range
+unfolding meaning_told fault_told stood in_range
 returns c =
     let a = c.args in
     let x = a.x in
@@ -134,6 +135,6 @@ returns c =
     let room : c.room_of.result ≡ clipped a.first.0 a.size = c.room_of.ensures in
     let high : nat_abs z ≤ c.room_of.result = rw (range_back {z = y} c.requires.1, to_z-of_z w64 z f) at c.if-room_of-to.false in
     let low : nat_abs x ≤ nat_abs z = ordered x z nonneg after in
-    let begin : c.long.result + nat_abs x ≡ a.first.0 + nat_abs x = omega (arith, c.long.ensures.0) in
-    let many : clipped (c.long.result + nat_abs x) (nat_abs z - nat_abs x) ≡ nat_abs z - nat_abs x = omega (arith, c.long.ensures.0, room, high, low) in
+    let begin : c.from.result + nat_abs x ≡ a.first.0 + nat_abs x = omega (arith, c.from.ensures) in
+    let many : clipped (c.from.result + nat_abs x) (nat_abs z - nat_abs x) ≡ nat_abs z - nat_abs x = omega (arith, c.from.ensures, room, high, low) in
     λ p. rw (range_back {z = x} c.requires.0, range_back {z = y} c.requires.1, to_z-of_z w64 z f) ((λ i. give (wires (the_wire (begin i)) (many i))) ∙ run_at a.first.0 (clipped a.first.0 a.size) x y (nat_abs z) (past_is x z nonneg after) (nat_abs x) (natural_is x nonneg) low (omega (arith, room, high)))

@@ -10,16 +10,6 @@ pub returns-then-not-are_forms : goal.returns-then-not-are_forms
 returns-then-not-are_forms c =
     sym (no_forms_lem _ _ _ _ _ (sym c.are_forms.ensures.value ∙ c.if-not-are_forms.true))
 
-pub show-s-requires : goal.show-s-requires
-show-s-requires c =
-    let a = c.are_forms.ensures.are_forms c.if-not-are_forms.false in
-    record {
-      kept = a.form;
-      loops_bound = a.few;
-      rows = a.low;
-      rows_2 = a.high;
-    }
-
 pub overflow_cast-through : goal.overflow_cast-through
 overflow_cast-through c =
     let few = (c.are_forms.ensures.are_forms c.if-not-are_forms.false).few in

@@ -1,20 +1,17 @@
 -- `showing::number` meets its contract. Assumes nothing.
-use mathlib.Core.Path.{sym, ap}
+use Rattle.std.proofs.Common.{rules}
 use Rattle.forms.specs.Flat.{shown_of}
 use Rattle.showing.specs.Answers.{number_of}
 use Rattle.showing.proofs.number.Goals as goal
 
-pub returns-in-Shown : goal.returns-in-Shown
+pub returns-in-Ok : goal.returns-in-Ok
 unfolding number_of shown_of
-returns-in-Shown c =
-    sym (ap (λ v. number_of (shown_of v)) c.in-Shown.is)
+returns-in-Ok c = search rules
 
-pub returns-in-NotShown : goal.returns-in-NotShown
+pub returns-in-Err-NotShown : goal.returns-in-Err-NotShown
 unfolding number_of shown_of
-returns-in-NotShown c =
-    sym (ap (λ v. number_of (shown_of v)) c.in-NotShown.is)
+returns-in-Err-NotShown c = search rules
 
-pub returns-in-OutOfRange : goal.returns-in-OutOfRange
+pub returns-in-Err-OutOfRange : goal.returns-in-Err-OutOfRange
 unfolding number_of shown_of
-returns-in-OutOfRange c =
-    sym (ap (λ v. number_of (shown_of v)) c.in-OutOfRange.is)
+returns-in-Err-OutOfRange c = search rules

@@ -3,7 +3,7 @@ use Prim.Native.Nat.{◌+◌}
 use mathlib.Core.Path.{◌≡◌, sym, ◌∙◌}
 use native.Mathlib.Omega.{arith}
 use lib.Seq.{slice}
-use Rattle.fields.specs.declared.Header.TheVariants.{Whole}
+use Rattle.std.specs.Prelude.{Ok}
 use Rattle.fields.specs.Header.{fields_at, header_of}
 use Rattle.gates.specs.Gates.{inner_of, StepTaken}
 use Rattle.unroller.proofs.Statements.{one_steps}
@@ -27,7 +27,7 @@ pub overflow_add-from : goal.overflow_add-from
 overflow_add-from c =
     let a = c.args in
     let i = c.loop-r in
-    let is : header_of i.r.from (fields_at a.bytes.now i.r.from a.to) ≡ Whole c.in-Whole.tag c.in-Whole.next = sym c.header_at.ensures ∙ c.in-Whole.is in
+    let is : header_of i.r.from (fields_at a.bytes.now i.r.from a.to) ≡ Ok (record { tag = c.in-Ok.header.tag; next = c.in-Ok.header.next }) = sym c.header_at.ensures ∙ c.in-Ok.is in
     let w = content a.bytes.now a.base a.to a.e i.r i.invariant c.loop-r-test.true _ _ is in
     omega (arith, w.low, w.near, w.few, w.deep)
 
@@ -35,7 +35,7 @@ pub overflow_add-place : goal.overflow_add-place
 overflow_add-place c =
     let a = c.args in
     let i = c.loop-r in
-    let is : header_of i.r.from (fields_at a.bytes.now i.r.from a.to) ≡ Whole c.in-Whole.tag c.in-Whole.next = sym c.header_at.ensures ∙ c.in-Whole.is in
+    let is : header_of i.r.from (fields_at a.bytes.now i.r.from a.to) ≡ Ok (record { tag = c.in-Ok.header.tag; next = c.in-Ok.header.next }) = sym c.header_at.ensures ∙ c.in-Ok.is in
     let w = content a.bytes.now a.base a.to a.e i.r i.invariant c.loop-r-test.true _ _ is in
     omega (arith, w.low, w.near, w.few, w.deep)
 
@@ -43,7 +43,7 @@ pub inner-mode-requires : goal.inner-mode-requires
 inner-mode-requires c =
     let a = c.args in
     let i = c.loop-r in
-    let is : header_of i.r.from (fields_at a.bytes.now i.r.from a.to) ≡ Whole c.in-Whole.tag c.in-Whole.next = sym c.header_at.ensures ∙ c.in-Whole.is in
+    let is : header_of i.r.from (fields_at a.bytes.now i.r.from a.to) ≡ Ok (record { tag = c.in-Ok.header.tag; next = c.in-Ok.header.next }) = sym c.header_at.ensures ∙ c.in-Ok.is in
     let w = content a.bytes.now a.base a.to a.e i.r i.invariant c.loop-r-test.true _ _ is in
     omega (arith, w.low, w.near, w.few, w.deep)
 
@@ -51,7 +51,7 @@ pub enter-requires : goal.enter-requires
 enter-requires c =
     let a = c.args in
     let i = c.loop-r in
-    let is : header_of i.r.from (fields_at a.bytes.now i.r.from a.to) ≡ Whole c.in-Whole.tag c.in-Whole.next = sym c.header_at.ensures ∙ c.in-Whole.is in
+    let is : header_of i.r.from (fields_at a.bytes.now i.r.from a.to) ≡ Ok (record { tag = c.in-Ok.header.tag; next = c.in-Ok.header.next }) = sym c.header_at.ensures ∙ c.in-Ok.is in
     let w = content a.bytes.now a.base a.to a.e i.r i.invariant c.loop-r-test.true _ _ is in
     record {
       from_le_to = (w.low, i.invariant.able.ready.within);
@@ -66,7 +66,7 @@ pub loop-r-smaller : goal.loop-r-smaller
 loop-r-smaller c =
     let a = c.args in
     let i = c.loop-r in
-    let is : header_of i.r.from (fields_at a.bytes.now i.r.from a.to) ≡ Whole c.in-Whole.tag c.in-Whole.next = sym c.header_at.ensures ∙ c.in-Whole.is in
+    let is : header_of i.r.from (fields_at a.bytes.now i.r.from a.to) ≡ Ok (record { tag = c.in-Ok.header.tag; next = c.in-Ok.header.next }) = sym c.header_at.ensures ∙ c.in-Ok.is in
     let w = content a.bytes.now a.base a.to a.e i.r i.invariant c.loop-r-test.true _ _ is in
     omega (arith, w.low)
 
@@ -74,11 +74,11 @@ pub loop-r-preserved : goal.loop-r-preserved
 loop-r-preserved c =
     let a = c.args in
     let i = c.loop-r in
-    let is : header_of i.r.from (fields_at a.bytes.now i.r.from a.to) ≡ Whole c.in-Whole.tag c.in-Whole.next = sym c.header_at.ensures ∙ c.in-Whole.is in
-    let s = c.in-Going.st in
+    let is : header_of i.r.from (fields_at a.bytes.now i.r.from a.to) ≡ Ok (record { tag = c.in-Ok.header.tag; next = c.in-Ok.header.next }) = sym c.header_at.ensures ∙ c.in-Ok.is in
+    let s = c.in-Ok-enter.st in
     let n = inner_of i.r.mode 37 in
     let held = slice (i.r.from + 3) a.to a.bytes.now in
-    let q : StepTaken n c.in-Whole.tag held i.r.st s = one_steps n c.in-Whole.tag held _ i.r.st s c.enter.result (rw c.inner-mode.ensures at c.enter.ensures) c.in-Going.is in
+    let q : StepTaken n c.in-Ok.header.tag held i.r.st s = one_steps n c.in-Ok.header.tag held _ i.r.st s c.enter.result (rw c.inner-mode.ensures at c.enter.ensures) c.in-Ok-enter.is in
     rw c.inner-mode.ensures (inside_more a.bytes.now a.base a.to a.e i.r i.invariant c.loop-r-test.true _ _ is (omega arith) (record { low = omega arith; high = omega arith }) s q)
 
 pub returns : goal.returns

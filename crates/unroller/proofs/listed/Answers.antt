@@ -6,4 +6,4 @@ use Rattle.unroller.proofs.listed.Goals as goal
 
 pub returns : goal.returns
 returns c =
-    c.long.ensures.0 ∙ ap (λ (i : ℕ). get_or c.args.table.now i 0) c.long-i.ensures.0
+    c.from.ensures ∙ ap (λ (i : ℕ). get_or c.args.table.now i 0) c.from-i.ensures
