@@ -37,10 +37,6 @@ module _ (next : Form → Built) where
 
 -- an operand of the kind k taken whole
 module _ (p : ℕ) (s : C.Scope) (f : Form) (l : List ℤ) (known : Known) (g : Formal) where
-  pub wire_good : good tt ≡ whole_fits p s (wanted_of known Wire l) (kind_in Qubit f g)
-  unfolding wanted_of whole_fits kind_in
-  wire_good = refl
-
   pub wire_bad : (k : K.Kind) → (k ≡ Qubit → ⊥) → refused 9 p ≡ whole_fits p s (wanted_of known Wire l) (kind_in k f g)
   unfolding wanted_of whole_fits kind_in
   wire_bad Qubit h = absurd (h refl)
@@ -68,20 +64,12 @@ module _ (p : ℕ) (s : C.Scope) (f : Form) (l : List ℤ) (known : Known) (g : 
 
 -- the kind k of an operand whose element is due
 module _ (p : ℕ) (f : Form) (l : List ℤ) (known : Known) (g : Formal) where
-  pub element_wire : good f ≡ element_size p (wanted_of known Wire l) (kind_in Quantum f g)
-  unfolding wanted_of element_size kind_in
-  element_wire = refl
-
   pub element_no_wire : (k : K.Kind) → (k ≡ Quantum → ⊥) → refused 9 p ≡ element_size p (wanted_of known Wire l) (kind_in k f g)
   unfolding wanted_of element_size kind_in
   element_no_wire Qubit h = refl
   element_no_wire Quantum h = absurd (h refl)
   element_no_wire Classical h = refl
   element_no_wire Family h = refl
-
-  pub element_bit : good f ≡ element_size p (wanted_of known Bit l) (kind_in Classical f g)
-  unfolding wanted_of element_size kind_in
-  element_bit = refl
 
   pub element_no_bit : (k : K.Kind) → (k ≡ Classical → ⊥) → refused 9 p ≡ element_size p (wanted_of known Bit l) (kind_in k f g)
   unfolding wanted_of element_size kind_in

@@ -1,23 +1,21 @@
 -- `check_operand::element` meets its contract. Assumes nothing.
-use mathlib.Core.Path.{◌≡◌, ap, ◌∙◌}
-use mathlib.Core.List.{List, []}
+use mathlib.Core.Path.{ap, ◌∙◌}
+use mathlib.Core.List.{[]}
 use Prim.Native.Nat.{ℕ, ◌+◌}
-use lib.IntN.{ℤ}
 use lib.ListN.{get_or}
 use lib.Seq.{slice}
 use Rattle.refusals.proofs.Handed.{handed}
 use Rattle.language.specs.Read.{read_element}
-use Rattle.language.specs.Check.{element_size, check_within, Due, Scope}
+use Rattle.language.specs.Check.{element_size, check_within, Scope}
 use Rattle.kinds.specs.declared.Kind.{Kind}
 use Rattle.forms.specs.Flat.{widened, as_form}
 use Rattle.check_index.specs.Answers.{checked_part}
-use Rattle.check_operand.specs.Tables.{Known, kind_in, tabulated, size_of_row, kind_at, kinds_at}
+use Rattle.check_operand.specs.Tables.{kind_in, tabulated, size_of_row, kind_at, kinds_at}
 use Rattle.check_operand.specs.Scopes.{scope_at}
 use Rattle.check_operand.specs.Operands.{wanted_of}
 use Rattle.check_operand.proofs.Operands.{kind_stops, kind_goes}
 use Rattle.check_operand.proofs.Rows.{ranges_scope, row_element_stops, row_element_long, row_element, row_form}
 use Rattle.check_operand.proofs.Wires.{leaves_form}
-use Rattle.language.specs.Check as C
 use Rattle.check_operand.proofs.element.Goals as goal
 
 pub returns-in_err-row : goal.returns-in_err-row

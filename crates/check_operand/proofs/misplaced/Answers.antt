@@ -48,4 +48,4 @@ returns-clause-result_value c =
     let v = c.two_bytes-n.ensures.0 in
     let n = two_bytes (get_or a.program.now from 0) (get_or a.program.now (from + 1) 0) in
     λ k l. unwanted k a.wanted l a.at _ _ _ _ e c.requires.answerable (k.declared (0 + n))
-        ∙ passed_good (scope_at k a.scope.now) (wanted_of k a.wanted l) a.at _ _ _ _ e (k.declared (0 + n)) (row_get k.declared a.scope.now.visible.families 0 n (omega arith)) (slice_none (from + 2) a.next a.program.now (omega arith))
+    ∙ passed_good (scope_at k a.scope.now) (wanted_of k a.wanted l) a.at _ _ _ _ e (k.declared (0 + n)) (row_get k.declared a.scope.now.visible.families 0 n (omega arith)) (slice_none (from + 2) a.next a.program.now (omega arith))

@@ -1,5 +1,5 @@
 -- `check_operand::part` meets its contract. Assumes nothing.
-use mathlib.Core.Path.{◌≡◌, ap, ◌∙◌}
+use mathlib.Core.Path.{ap, ◌∙◌}
 use mathlib.Core.List.{[]}
 use lib.ListN.{get_or}
 use Rattle.refusals.proofs.Handed.{handed}

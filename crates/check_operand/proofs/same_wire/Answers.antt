@@ -1,6 +1,5 @@
 -- `check_operand::same_wire` meets its contract. Assumes nothing.
 use mathlib.Core.Path.{sym, ◌∙◌}
-use native.Mathlib.Omega.{arith}
 use Rattle.check_operand.proofs.Wires.{other_tags, other_numbers, both_whole, by_forms}
 use Rattle.check_operand.proofs.same_wire.Goals as goal
 

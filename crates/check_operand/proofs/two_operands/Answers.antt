@@ -1,12 +1,10 @@
 -- `check_operand::two_operands` meets its contract. Assumes nothing.
-use mathlib.Core.Path.{refl, sym, ap, ◌∙◌}
-use mathlib.Core.Bool.{Bool, not}
+use mathlib.Core.Path.{refl, sym, ◌∙◌}
 use lib.IntN.{pos}
 use lib.ListN.{replicate}
 use Rattle.refusals.proofs.Handed.{handed}
-use Rattle.language.specs.Check.{require, Due, Scope}
+use Rattle.language.specs.Check.{require}
 use Rattle.check_index.specs.Answers.{checked_part}
-use Rattle.check_operand.specs.Tables.{Known}
 use Rattle.check_operand.specs.Scopes.{scope_at}
 use Rattle.check_operand.specs.Operands.{wanted_of}
 use Rattle.check_operand.proofs.Wires.{second_wire, second_other, nothing_known}
