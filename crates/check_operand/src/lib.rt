@@ -5,13 +5,13 @@ ghost use Rattle.std.specs.Prelude.{◌≡◌, true, OnOk, List, ℕ, ◌+◌, �
 ghost use Rattle.std.proofs.Math.Seq.{slice};
 ghost use Rattle.language.specs.Tree.{Place, Operand, bad_operand};
 ghost use Rattle.language.specs.Read.{due, read_operand, read_whole, read_element, read_slice, read_passed};
-ghost use Rattle.language.specs.Form.{Form, built, difference_of, ◌then_build◌, shown, showing};
+ghost use Rattle.language.specs.Form.{Form, Loop, built, difference_of, ◌then_build◌, shown, showing};
 ghost use Rattle.language.specs.Check.{Formal, Kind, Signature, size_scope, element_size, room_after, by_showing, must_show, wire, whole_fits, check_within, slice_size, check_slice, slice_fits, check_operand};
 ghost use Rattle.language.specs.Limits.{most_variables, all_variables};
 ghost use Rattle.fields.specs.Header.{fields_at};
 ghost use Rattle.forms.specs.Flat.{form_numbers, Kept, Short, widened, as_form, built_of, shown_of};
 ghost use Rattle.forms.specs.Ranges.{all_loops};
-ghost use Rattle.check_operand.specs.Tables.{Known, kind_in, kind_of_row, size_of_row, scope_with};
+ghost use Rattle.check_operand.specs.Tables.{Known, kind_in, kind_of_row, size_of_row, tabulated, scope_with};
 ghost use Rattle.check_operand.specs.Scopes.{scope_at, Names};
 ghost use Rattle.check_operand.specs.Operands.{checked_size, shown_form, wanted_of, SizeRight, Answerable, one_wire, two_operands, Leaves, Comparable, same_by};
 ghost use Rattle.check_index.specs.Answers.{checked_part, EndsAt, Passes};
@@ -346,7 +346,7 @@ fn misplaced(
 ) -> Result<usize, Refusal>
     requires at_bound { (at + 3 ≤ next) × (next ≤ length program.now) }
     requires answerable { Answerable wanted (read_passed at (slice (at + 3) next program.now)) }
-    ensures result_value { (k : Known) (l : List ℤ) → checked_part result ≡ check_operand (scope_at k scope.now) (wanted_of k wanted l) (read_passed at (slice (at + 3) next program.now)) }
+    ensures result_value { (k : Known) (l : List ℤ) (ks : List Kind) (m : ℕ) (ls : List Loop) → checked_part result ≡ check_operand (scope_with (tabulated k.declared scope.now.visible.families 0) ks m ls) (wanted_of k wanted l) (read_passed at (slice (at + 3) next program.now)) }
     ensures ends_at { EndsAt next result }
 {
     let from = at + 3;

@@ -98,7 +98,7 @@ returns-in-51 c =
     let h = c.in-Ok.header in
     let w = field_whole a.program.now a.at a.to c.requires.to_in_bounds c.header_at.ensures c.in-Ok.is in
     record {
-      result_value = λ fs. c.misplaced.ensures.result_value fs a.size.now ∙ operand_passed (scope_at fs a.scope.now) (wanted_of fs a.wanted a.size.now) a.program.now a.at a.to a.parent h.tag h.next w c.in-51.is;
+      result_value = λ fs. c.misplaced.ensures.result_value fs a.size.now _ _ _ ∙ operand_passed (scope_at fs a.scope.now) (wanted_of fs a.wanted a.size.now) a.program.now a.at a.to a.parent h.tag h.next w c.in-51.is;
       passes = ends_passes a.program.now a.at a.to h.tag h.next c.misplaced.result w c.misplaced.ensures.ends_at;
       leaves = λ fs. left_passed (scope_at fs a.scope.now) a.program.now a.at a.to a.parent h.tag h.next w c.misplaced.result a.form.now c.in-51.is;
     }
