@@ -7,34 +7,26 @@ use lib.Dec.{leb}
 use lib.ListN.{drop}
 use lib.Seq.{slice}
 use borrow.Author.Tests.{ne_eqb, le-leb, lt-leb}
-use types.Run.{OneOf}
-use denote.Enum.Declared.{tag_of}
 use Rattle.language.specs.Tree.{bad_operand}
 use Rattle.language.specs.Read.{Field, field, choose, due, read_operand, read_statement, statements_by, read_if, if_of, read_top, measure_of, reset_of}
 use Rattle.language.specs.Check.{Checked, good, refused, ◌>>◌, require, check_operand, check_statement, check_statements, Declared, top_scope, check_top, check_top_by}
 use Rattle.fields.specs.Header.{fields_at}
-use Rattle.check_index.specs.contracts.Read.{the_type}
 use Rattle.check_index.specs.Answers.{checked_part}
 use Rattle.check_operand.specs.Operands.{one_wire, two_operands}
 use Rattle.check_statement.specs.Statements.{checked_declared}
-use Rattle.check_index.specs.declared.Read.{Read}
-use Rattle.check_index.specs.declared.Read.TheVariants.{Upto, Refused}
-use Rattle.check_index.proofs.Answers.{not_first}
+use Rattle.std.specs.Prelude.{Result, Ok, Err}
+use Rattle.refusals.specs.declared.Refusal.{Refusal}
 use Rattle.language.specs.Check as C
 
-pub kept_is : (r : Read) (d : Declared) → checked_declared r d ≡ (checked_part r >> good d)
+pub kept_is : (r : Result ℕ Refusal) (d : Declared) → checked_declared r d ≡ (checked_part r >> good d)
 unfolding checked_declared checked_part ◌>>◌
-kept_is (Upto n) d = refl
-kept_is (Refused n p) d = refl
+kept_is (Ok n) d = refl
+kept_is (Err e) d = refl
 
 -- an answer for the first part of a top field
-pub kept_stops : (r : Read) (d : Declared) (x : Checked (Unit {0})) (next : Checked Declared) → checked_part r ≡ x → OneOf (1 ∷ []) (tag_of the_type r) → checked_declared r d ≡ (x >> next)
+pub kept_stops : (r : Result ℕ Refusal) (d : Declared) (x : Checked (Unit {0})) (next : Checked Declared) → checked_part r ≡ x → {q : Refusal} → r ≡ Err q → checked_declared (Err q) d ≡ (x >> next)
 unfolding checked_declared checked_part ◌>>◌
-kept_stops r d x next e h = by r h ∙ ap (λ (c : Checked (Unit {0})). c >> next) e
-  where
-    by : (r : Read) → OneOf (1 ∷ []) (tag_of the_type r) → checked_declared r d ≡ (checked_part r >> next)
-    by (Upto n) h = not_first h
-    by (Refused n p) h = refl
+kept_stops r d x next e h = sym (ap (λ (y : Result ℕ Refusal). checked_part y >> next) h) ∙ ap (λ (c : Checked (Unit {0})). c >> next) e
 
 module _ (d : Declared) (at next tag : ℕ) (program : List ℕ) where
   abbrev pub topped : Checked Declared

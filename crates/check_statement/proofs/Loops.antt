@@ -9,8 +9,6 @@ use lib.IntN.{ℤ}
 use lib.ListN.{length, drop, set}
 use lib.Seq.{get_or-set_same, get_or-set_other}
 use borrow.Author.Tests.{lt-ltb, le-ltb}
-use types.Run.{OneOf}
-use denote.Enum.Declared.{tag_of}
 use Rattle.language.specs.Tree.{Statement}
 use Rattle.language.specs.Read.{Field, statements_by, for_of}
 use Rattle.language.specs.Form.{Loop}
@@ -18,11 +16,10 @@ use Rattle.language.specs.Check.{Checked, refused, ◌>>=◌, ◌>>◌, check_st
 use Rattle.fields.specs.Header.{fields_at}
 use Rattle.forms.specs.Flat.{as_form}
 use Rattle.forms.specs.Rows.{loops_of, loop_at}
-use Rattle.check_index.specs.contracts.Read.{the_type}
 use Rattle.check_index.specs.Answers.{checked_part, Beyond}
 use Rattle.check_index.specs.Bounds.{checked_bounds, bounds_due}
-use Rattle.check_index.specs.declared.Read.{Read}
-use Rattle.check_index.specs.declared.Read.TheVariants.{Upto}
+use Rattle.std.specs.Prelude.{Result, Ok, Err}
+use Rattle.refusals.specs.declared.Refusal.{Refusal}
 use Rattle.check_index.proofs.TwoBounds.{bounds_end, bounds_then}
 use Rattle.language.specs.Check as C
 
@@ -38,15 +35,15 @@ module _ (part : Field → Statement) (s : C.Scope) (program : List ℕ) (at fro
   unfolding C.require ◌>>◌
   for_many h = sym (for_is ∙ rw (le-ltb (length s.loops) 8 h))
 
-  module _ (few : length s.loops < 8) (r : Read) (l h : List ℤ) (e : checked_bounds r l h ≡ bounds_due s at (fields_at program from to)) where
+  module _ (few : length s.loops < 8) (r : Result ℕ Refusal) (l h : List ℤ) (e : checked_bounds r l h ≡ bounds_due s at (fields_at program from to)) where
     for_few : check_statement (for_of part at (fields_at program from to)) s ≡ (checked_bounds r l h >>= in_body)
     unfolding C.require ◌>>◌
     for_few = for_is ∙ rw (lt-ltb (length s.loops) 8 few) (ap (λ (c : Checked Loop). c >>= in_body) (sym e))
 
-    pub for_stops : OneOf (1 ∷ []) (tag_of the_type r) → checked_part r ≡ check_statement (for_of part at (fields_at program from to)) s
+    pub for_stops : {q : Refusal} → r ≡ Err q → checked_part (Err q) ≡ check_statement (for_of part at (fields_at program from to)) s
     for_stops q = bounds_end r l h in_body q ∙ sym for_few
 
-    pub for_good : (mid : ℕ) → r ≡ Upto mid → Beyond program from to 2 mid → check_statements (statements_by part (fields_at program mid to)) (C.in_loop s (record { low = as_form l; high = as_form h })) ≡ check_statement (for_of part at (fields_at program from to)) s
+    pub for_good : (mid : ℕ) → r ≡ Ok mid → Beyond program from to 2 mid → check_statements (statements_by part (fields_at program mid to)) (C.in_loop s (record { low = as_form l; high = as_form h })) ≡ check_statement (for_of part at (fields_at program from to)) s
     for_good mid u b =
         sym (for_few ∙ bounds_then r l h mid in_body u
         ∙ ap (λ (fs : List Field). check_statements (statements_by part fs) (C.in_loop s (record { low = as_form l; high = as_form h }))) b.rest)

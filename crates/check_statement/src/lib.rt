@@ -14,7 +14,7 @@ ghost use Rattle.check_call.specs.Scopes.{scope_full};
 
 use check_call::{FullScope, call};
 use check_operand::{Scope, Visible, Wanted, one_wire, two_wires};
-use fields::{Header, NoHeader};
+use fields::NoHeader;
 use forms::FORM_NUMBERS;
 use limits::{DEEPEST, MOST_LOOPS};
 use refusals::{Reason, Refusal};
@@ -110,9 +110,9 @@ pub fn list(
         match fields::header_at(program, at, to) {
             Err(NoHeader::End) => return Ok(to),
             Err(NoHeader::Cut) => return Err(Refusal(Reason::BadHeader, at)),
-            Ok(Header { tag, next }) => {
-                one_statement(program, at, next, tag, levels, full)?;
-                at = next;
+            Ok(header) => {
+                one_statement(program, at, header.next, header.tag, levels, full)?;
+                at = header.next;
             }
         }
     }

@@ -1,9 +1,10 @@
 -- What a `?` answers whose error is how a fault stops the run. Assumes nothing.
-use mathlib.Core.Path.{◌≡◌, refl, sym, ◌∙◌}
+use mathlib.Core.Path.{◌≡◌, refl, sym, ap, ◌∙◌}
 use Rattle.std.specs.Prelude.{Result, Ok, Err, IsErrAnd}
 use Rattle.std.specs.Result.{MatchResult}
 use Rattle.language.specs.Tree.{Place}
 use Rattle.indexes.specs.declared.Fault.{Fault}
+use Rattle.refusals.proofs.Handed.{handed}
 use Rattle.records.specs.declared.State.{State}
 use Rattle.records.specs.declared.Stop.{Stop}
 use Rattle.gates.specs.Gates.{stop_of}
@@ -27,3 +28,7 @@ pub unstopped : {A : Type 0} (P : Fault → Stop → Type 0) (r : Result A Fault
 unstopped P (Ok y) q x m e = cc
 unstopped P (Err f) (Ok y) x m e = absurd m
 unstopped P (Err f) (Err z) x m e = absurd (clash (sym e))
+
+-- what the exit of the `?` returns
+pub said : {A B : Type 0} {r : Result A Fault} {p : Place} {st : State} {s : Stop} (k : Stopped r p st s) (q : Result B Stop) → IsErrAnd q (λ z. z ≡ s) → q ≡ Err (stop_of k.fault p st)
+said k q h = handed q h ∙ ap Err k.stops

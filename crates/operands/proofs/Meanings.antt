@@ -26,7 +26,7 @@ use Rattle.operands.specs.declared.Operand.{Operand}
 use Rattle.operands.specs.declared.Operand.TheVariants.{Single, Register, Family}
 use Rattle.operands.specs.declared.Parameter.{Parameter}
 use Rattle.std.specs.Prelude.{Result, Ok, Err}
-use Rattle.core.specs.Option.{ok_or}
+use Rattle.std.specs.Option.{ok_or}
 use Rattle.std.specs.Prelude as prelude
 use Rattle.operands.specs.declared.Meaning as code
 use Rattle.operands.specs.declared.Meaning.TheVariants.{Wire as m_wire, Bit as m_bit, Wires, Bits, Family as m_family}

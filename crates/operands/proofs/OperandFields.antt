@@ -16,7 +16,7 @@ use Rattle.language.specs.Read.{field, fields, two_bytes, due, choose, read_oper
 use Rattle.language.specs.Machine.{Meaning, the_family, Run, ended, going, stuck, begin, give, end_at, no_meaning, found, after, ◌>>=◌, element_at, slice_at, run_bounds, meaning_of, evaluate, Direction, Condition, wire_of, as_wire, bit_of, as_bit, as_family}
 use Rattle.std.specs.Prelude.{Result, Ok, Err}
 use Rattle.std.specs.Prelude as prelude
-use Rattle.core.specs.Result.{result_ok}
+use Rattle.std.specs.Result.{result_ok}
 use Rattle.fields.specs.declared.NoHeader.{NoHeader}
 use Rattle.fields.specs.declared.NoHeader.TheVariants.{End, Cut}
 use Rattle.indexes.specs.declared.Fault.{Fault}

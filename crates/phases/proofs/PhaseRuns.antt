@@ -13,7 +13,7 @@ use lib.Signed.{lt_z}
 use Rattle.std.specs.Prelude.{Result, Ok, Err}
 use Rattle.language.specs.Tree.{Place, bad_index, bad_operand}
 use Rattle.language.specs.Read.{Field, fields, due, operand_due, read_operand, outer_index}
-use Rattle.language.specs.Machine.{Run, Frame, Direction, written, do_cx, end_at, no_meaning, after, ◌>>=◌, evaluate, natural_of, halvings, do_phase, do_cphase, run_phase, run_cphase}
+use Rattle.language.specs.Machine.{Run, Frame, Direction, written, do_cx, no_meaning, after, ◌>>=◌, evaluate, natural_of, halvings, do_phase, do_cphase, run_phase, run_cphase}
 use Rattle.language.specs.Result.{op, first_number, second_number, halvings_of}
 use Rattle.language.proofs.Integers.{integers}
 use Rattle.fields.specs.declared.NoHeader.{NoHeader}
@@ -25,8 +25,6 @@ use Rattle.indexes.proofs.Operations.{part_none}
 use Rattle.operands.specs.Meanings.{the_wire}
 use Rattle.records.specs.declared.State.{State}
 use Rattle.records.specs.declared.Stop.{Stop}
-use Rattle.records.specs.declared.Op.{Op}
-use Rattle.records.specs.declared.Op.TheVariants.{Cx}
 use Rattle.records.specs.Outcomes.{op_number, Does, ActionNumbers}
 use Rattle.gates.specs.declared.Mode.{Mode}
 use Rattle.gates.specs.Gates.{direction_of, gate_for, code_of, on_wire, on_two_wires, OnWires, gate_by}
@@ -187,11 +185,10 @@ module _ (tag : ℕ) (l : List ℕ) (from to : ℕ) (values : List ℤ) (reverse
 -- what is written on the wires of its parts is what it does
 pub parts_do : (o : List ℕ) (st : State) (o' : List ℕ) (r : Result State Stop) (mode : Mode) (tag : ℕ) (p : Place) (l : List ℕ) (from to : ℕ) (f : Frame) (q : Parts)
     → Parted mode (length o) tag p l from to f (Ok q) → OnWires q.single o st o' r mode p (slice q.next to l) f (op_number q.op) q.k → Does o st o' r (action_at mode (length o) tag p (slice from to l) f)
-unfolding Parted
+unfolding Parted PartedOn OnWires
 parts_do o st o' r mode tag p l from to f q h w = go q.single h w
   where
     go : (single : Bool) → PartedOn single mode (length o) tag p l from to f (op_number q.op) q.k q.next → OnWires single o st o' r mode p (slice q.next to l) f (op_number q.op) q.k
         → Does o st o' r (action_at mode (length o) tag p (slice from to l) f)
-    unfolding PartedOn OnWires
     go true h w = does_as o st o' r _ (action_at mode (length o) tag p (slice from to l) f) h.is (w h.place h.action h.numbers)
     go false h w = does_as o st o' r _ (action_at mode (length o) tag p (slice from to l) f) h.is (w h.place h.action h.numbers)

@@ -49,9 +49,10 @@ fn phase_op(reversed: bool) -> Op
     ensures { op_number result ≡ phase_op reversed }
 {
     if reversed {
-        return Op::PhaseInverse;
+        Op::PhaseInverse
+    } else {
+        Op::Phase
     }
-    Op::Phase
 }
 
 // The op of a cphase in a direction.
@@ -59,9 +60,10 @@ fn cphase_op(reversed: bool) -> Op
     ensures { op_number result ≡ cphase_op reversed }
 {
     if reversed {
-        return Op::CphaseInverse;
+        Op::CphaseInverse
+    } else {
+        Op::Cphase
     }
-    Op::Cphase
 }
 
 // What a gate or a phase writes, and on what: whether on a single wire, its op, its k, or 0 for it, and where its operands begin.
@@ -87,30 +89,36 @@ fn parts_of(
     requires many_le_most_values { many ≤ most_values }
     ensures { PartsOf tag bytes.now from to (take many vars.now) reversed result }
 {
-    if tag < fields::CALL {
-        let single = tag != fields::CX;
+    if tag == fields::CX {
         return Ok(Parts {
-            single,
-            op: if single {
-                gates::code(tag, reversed)
-            } else {
-                Op::Cx
-            },
+            single: false,
+            op: Op::Cx,
             k: 0,
             next: from,
         });
     }
-    let halvings = halvings_of(bytes, from, to, vars, many)?;
-    let single = tag == fields::PHASE;
+    if tag < fields::CALL {
+        return Ok(Parts {
+            single: true,
+            op: gates::code(tag, reversed),
+            k: 0,
+            next: from,
+        });
+    }
+    let Halvings { k, next } = halvings_of(bytes, from, to, vars, many)?;
+    if tag == fields::PHASE {
+        return Ok(Parts {
+            single: true,
+            op: phase_op(reversed),
+            k,
+            next,
+        });
+    }
     Ok(Parts {
-        single,
-        op: if single {
-            phase_op(reversed)
-        } else {
-            cphase_op(reversed)
-        },
-        k: halvings.k,
-        next: halvings.next,
+        single: false,
+        op: cphase_op(reversed),
+        k,
+        next,
     })
 }
 

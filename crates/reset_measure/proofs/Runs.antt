@@ -8,7 +8,7 @@ use lib.IntN.{ℤ}
 use Rattle.std.specs.Prelude.{Result, Ok, Err}
 use Rattle.language.specs.Tree.{Place, bad_operand}
 use Rattle.language.specs.Read.{fields, due, read_operand, operand_due}
-use Rattle.language.specs.Machine.{Meaning, Run, Direction, Condition, end_at, no_meaning, after, ◌>>=◌, write}
+use Rattle.language.specs.Machine.{Meaning, Run, Direction, Condition, no_meaning, after, ◌>>=◌, write}
 use Rattle.fields.specs.declared.NoHeader.{NoHeader}
 use Rattle.indexes.specs.declared.Fault.{Fault}
 use Rattle.indexes.specs.Values.{fault_told}
@@ -34,9 +34,9 @@ module _ (mode : Mode) (room : ℕ) (p : Place) (l : List ℕ) (from to : ℕ) (
   unfolding few_halvings ◌>>◌ wire_told ◌>>=◌ after
   reset_wire r w h e = reset_is r h ∙ rw e
 
-  pub reset_fault : {e : Fault} → WireAt (slice from to l) 0 values ms (Err e) → reset_at mode room p (slice from to l) (frame_of d c values ms) ≡ fault_told p e
+  pub reset_fault : (e : Fault) → WireAt (slice from to l) 0 values ms (Err e) → reset_at mode room p (slice from to l) (frame_of d c values ms) ≡ fault_told p e
   unfolding wire_told
-  reset_fault {e} h = reset_is (Err e) h ∙ fault_on p e _
+  reset_fault e h = reset_is (Err e) h ∙ fault_on p e _
 
   pub measure_none : {k : NoHeader} → look_in l from to ≡ Err k → measure_at mode room p (slice from to l) (frame_of d c values ms) ≡ no_meaning
   unfolding run_measure wire_told fault_told ◌>>=◌ after

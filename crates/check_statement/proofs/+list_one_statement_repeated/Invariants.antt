@@ -4,7 +4,7 @@ use mathlib.Core.Path.{◌≡◌}
 use Rattle.language.specs.Read.{read_statement, statements_by}
 use Rattle.language.specs.Check.{check_statements}
 use Rattle.fields.specs.Header.{fields_at}
-use Rattle.check_call.specs.Calls.{scope_full}
+use Rattle.check_call.specs.Scopes.{scope_full}
 use Rattle.check_statement.proofs.+list_one_statement_repeated.Given as goal
 
 abbrev pub decreases-list : goal.decreases-list
@@ -19,10 +19,10 @@ abbrev pub decreases-repeated : goal.decreases-repeated
 decreases-repeated l =
     4 * l.levels + 2
 
-abbrev pub invariant-list-loop-tag : goal.invariant-list-loop-tag
-invariant-list-loop-tag l =
-    check_statements (statements_by (read_statement l.levels) (fields_at l.program l.from l.to)) (scope_full l.s l.families l.kinds l.sizes l.lows l.highs) ≡ check_statements (statements_by (read_statement l.levels) (fields_at l.program l.at l.to)) (scope_full l.s l.families l.kinds l.sizes l.lows l.highs)
+abbrev pub invariant-list-loop-header : goal.invariant-list-loop-header
+invariant-list-loop-header l =
+    check_statements (statements_by (read_statement l.levels) (fields_at l.program l.from l.to)) (scope_full l.full) ≡ check_statements (statements_by (read_statement l.levels) (fields_at l.program l.at l.to)) (scope_full l.full)
 
-abbrev pub decreases-list-loop-tag : goal.decreases-list-loop-tag
-decreases-list-loop-tag l =
+abbrev pub decreases-list-loop-header : goal.decreases-list-loop-header
+decreases-list-loop-header l =
     l.to - l.at

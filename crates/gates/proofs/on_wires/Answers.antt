@@ -1,7 +1,5 @@
 -- `gates::on_wires` meets its contract. Assumes nothing.
-use Prim.Native.Nat.{ℕ}
-use mathlib.Core.Path.{refl, ap, ◌∙◌, sym}
-use native.Mathlib.Omega.{arith}
+use mathlib.Core.Path.{refl, ◌∙◌, sym}
 use Rattle.std.proofs.Common.{rules}
 use Rattle.std.specs.Prelude.{Err}
 use lib.ListN.{length, take}
@@ -9,12 +7,11 @@ use lib.Seq.{slice}
 use Rattle.language.specs.Read.{fields}
 use Rattle.operands.specs.Meanings.{operands_of, the_wire, WireAt}
 use Rattle.refusals.specs.declared.Reason.TheVariants.{OneWireTwice}
-use Rattle.refusals.proofs.Handed.{handed}
 use Rattle.records.specs.Outcomes.{op_number}
 use Rattle.records.proofs.Sequences.{does_end, does_stuck}
 use Rattle.gates.specs.Gates.{on_wire, on_two_wires, frame_in}
 use Rattle.gates.proofs.GateRuns.{does_as, wire_ends, one_wire_lem, two_none, second_told, two_same, two_wires, on_single, on_pair, on_none}
-use Rattle.gates.proofs.Stops.{stopped, unstopped}
+use Rattle.gates.proofs.Stops.{stopped, unstopped, said}
 use Rattle.gates.proofs.on_wires.Goals as goal
 
 pub returns-in_err-x : goal.returns-in_err-x
@@ -22,7 +19,7 @@ returns-in_err-x c =
     let a = c.args in
     let k = stopped _ a.place a.st c.wire_at.result c.map_err.result _ (λ f z h. search rules) c.map_err.ensures.cases c.in_err-x.was in
     let u : WireAt (slice a.from a.to a.bytes.now) 0 (take a.mode.variables a.vars.now) (operands_of a.scope a.regs.now) (Err k.fault) = rw (c.from-many.ensures, k.was) at c.wire_at.ensures in
-    rw (handed c.from_residual.result c.from_residual.ensures.1 ∙ ap Err k.stops) (on_none a.single a.out.now a.st a.mode a.place a.bytes.now a.from a.to _ _ _ _ k.fault u (op_number a.op) a.k)
+    rw (said k c.from_residual.result c.from_residual.ensures.1) (on_none a.single a.out.now a.st a.mode a.place a.bytes.now a.from a.to _ _ _ _ k.fault u (op_number a.op) a.k)
 
 pub returns-then-single : goal.returns-then-single
 returns-then-single c =
@@ -64,7 +61,7 @@ returns-in_err-y c =
     let w : WireAt (slice mid a.to l) 0 v ms c.wire_at-2.result = rw c.from-many.ensures at c.wire_at-2.ensures in
     let h = sym c.header_at.ensures ∙ c.in-Ok.is in
     let k = stopped _ a.place a.st c.wire_at-2.result c.map_err-2.result _ (λ f z h. search rules) c.map_err-2.ensures.cases c.in_err-y.was in
-    rw (handed c.from_residual-in_err-y.result c.from_residual-in_err-y.ensures.1 ∙ ap Err k.stops)
+    rw (said k c.from_residual-in_err-y.result c.from_residual-in_err-y.ensures.1)
     (on_pair a.single o a.st _ _ a.mode a.place s f (op_number a.op) a.k c.if-single.false (λ t act acts. does_as _ _ _ _ _ (on_two_wires a.mode (length o) a.place (fields t s) f a.k act)
     (second_told a.mode (length o) a.place l a.from a.to _ _ v ms _ u t a.k act _ mid h x e (Err k.fault) (rw k.was at w)) (wire_ends o a.st k.fault a.place _)))
 

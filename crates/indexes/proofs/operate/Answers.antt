@@ -1,4 +1,5 @@
 -- `indexes::operate` meets its contract. Assumes nothing.
+use native.Mathlib.Omega.{arith}
 use borrow.Author.Rules.{rules}
 use mir.Syntax.{w64}
 use mir.ValLaws.{to_z-of_z}
@@ -55,8 +56,5 @@ returns-in-68 c =
     rw c.in-68.is (operated 68 product a.x a.y c.inside-in-68.result tag_product i)
 
 pub returns-in_default : goal.returns-in_default
-unfolding operate
 returns-in_default c =
-    let a = c.args in
-    let r = c.in_default.in_default-own.rest in
-    not_operated a.tag _ _ r.0.0.1 r.0.1 r.1
+    not_operated c.args.tag _ _ (λ z. omega arith) (λ z. omega arith) (λ z. omega arith)
