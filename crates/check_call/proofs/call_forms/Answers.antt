@@ -26,12 +26,6 @@ loop-i-init c =
     let a = c.args in
     (omega arith, c.requires.rows, beyond_none a.program.now a.at a.to, (λ fs ks. let z : a.m - 0 ≡ a.m = omega arith in rw z (no_forms_lem _ a.forms.now)))
 
-pub index-requires : goal.index-requires
-index-requires c =
-    record {
-      to_in_bounds = c.requires.to_in_bounds;
-      variables_le_all_variables = omega (arith, c.args.scope.now.right.few, c.args.scope.now.right.nested);
-    }
 
 pub returns-in_err-next : goal.returns-in_err-next
 returns-in_err-next c =
@@ -53,10 +47,6 @@ returns-in_err-next c =
       passes_count = tt;
       rows_2 = i.invariant.1;
     })
-
-pub must_show-requires : goal.must_show-requires
-must_show-requires c =
-    record { kept = (form_passes_upto c.args.program.now c.loop-i.from c.args.to c.index.result c.index.new.f c.in_ok-next.next c.in_ok-next.was c.index.ensures.form_passes).1 }
 
 pub returns-in_err-must_show : goal.returns-in_err-must_show
 returns-in_err-must_show c =

@@ -21,14 +21,6 @@ returns-then-full-n c =
     let s = scope_full full in
     call_beyond s a.at a.n (fields_at a.program.now a.from a.next) (row_none declared v.families 0 a.n c.if-full-n.true)
 
-pub call_fits-requires : goal.call_fits-requires
-call_fits-requires c =
-    let h = c.if-full-n.false in
-    record {
-      next_in_bounds = c.requires.next_in_bounds;
-      row_in_bounds = omega (arith, c.args.full.now.families_right.few, c.args.full.now.families_right.rows.enough);
-    }
-
 pub returns : goal.returns
 returns c =
     let a = c.args in

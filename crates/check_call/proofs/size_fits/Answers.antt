@@ -35,14 +35,6 @@ returns-in_default-kind_by c =
       ends_at = refl;
     }
 
-pub at_least-requires : goal.at_least-requires
-at_least-requires c =
-    record {
-      short = c.requires.short_rows.each c.size_by-wanted.result (omega (arith, c.size_by-wanted.ensures, c.requires.formal_in_bounds.0));
-      short_2 = c.requires.short_rows.each c.size_by-given.result (omega (arith, c.size_by-given.ensures, c.requires.formal_in_bounds.1));
-      m_le_most_variables = c.requires.m_le_most_variables;
-    }
-
 pub returns : goal.returns
 returns c =
     let a = c.args in
