@@ -2,13 +2,24 @@
 use mathlib.Core.Path.{◌≡◌, sym, ◌∙◌}
 use mathlib.Core.List.{List, [], ◌∷◌}
 use mathlib.Core.Bool.{◌&&◌}
-use Prim.Native.Nat.{ℕ, ◌≤◌, ◌<◌}
+use Prim.Native.Nat.{ℕ, ◌+◌, ◌≤◌, ◌<◌}
 use native.Mathlib.Omega.{arith}
 use lib.Dec.{leb}
+use lib.ListN.{length, get_or}
+use lib.Seq.{slice}
 use borrow.Author.Tests.{le-leb, lt-leb}
 use Rattle.language.specs.Limits.{most_variables, most_parameters}
 use Rattle.language.specs.Check.{good, refused, ◌>>=◌, ◌>>◌, require, check_number, check_counts}
+use Rattle.fields.proofs.Headers.{one_byte}
 use Rattle.check_declaration.specs.Families.{first_in, second_in, counts_in}
+
+-- the numbers are the first two bytes of the content
+module _ (program : List ℕ) (at next : ℕ) (k : next ≤ length program) where
+  pub first_byte : (m : ℕ) → at + 3 < next → m ≡ get_or program (at + 3) 0 → slice (at + 3) next program ≡ (m ∷ slice (at + 4) next program)
+  first_byte m h e = let x : at + 3 + 1 ≡ at + 4 = omega arith in one_byte (at + 3) next program h k ∙ (λ i. sym e i ∷ slice (x i) next program)
+
+  pub second_byte : (n : ℕ) → at + 4 < next → n ≡ get_or program (at + 4) 0 → slice (at + 4) next program ≡ (n ∷ slice (at + 5) next program)
+  second_byte n h e = let x : at + 4 + 1 ≡ at + 5 = omega arith in one_byte (at + 4) next program h k ∙ (λ i. sym e i ∷ slice (x i) next program)
 
 module _ (q : ℕ) (content : List ℕ) where
   pub counts_none : content ≡ [] → refused 4 q ≡ counts_in q content

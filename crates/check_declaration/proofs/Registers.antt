@@ -5,7 +5,9 @@ use mathlib.Core.Bool.{Bool, true, false}
 use Prim.Native.Nat.{ℕ, ◌+◌, ◌≤◌, ◌<◌}
 use native.Mathlib.Omega.{arith}
 use lib.Dec.{leb, ltb}
-use lib.ListN.{length}
+use lib.ListN.{length, get_or}
+use lib.Seq.{slice}
+use Rattle.fields.proofs.Headers.{one_byte}
 use lib.IntN.{ℤ}
 use borrow.Author.Tests.{le-leb, lt-leb, le-ltb, lt-ltb, leb-true, ltb-true}
 use native.Mathlib.Decide.{dec_lt}
@@ -18,6 +20,10 @@ use Rattle.std.specs.Prelude.{Result, Ok, Err}
 use Rattle.refusals.specs.Reasons.{number_of}
 use Rattle.refusals.specs.declared.Refusal.{Refusal}
 use Rattle.language.specs.Check as C
+
+-- the content of a register, from its size on
+pub size_bytes : (program : List ℕ) (from next : ℕ) → from + 2 ≤ next → next ≤ length program → slice from next program ≡ (get_or program from 0 ∷ get_or program (from + 1) 0 ∷ slice (from + 1 + 1) next program)
+size_bytes program from next h k = one_byte from next program (omega arith) k ∙ ap (λ (l : List ℕ). get_or program from 0 ∷ l) (one_byte (from + 1) next program (omega arith) k)
 
 module _ (p count total most : ℕ) (content : List ℕ) where
   pub size_many_registers : most_registers ≤ count → refused 6 p ≡ register_in p count total most content

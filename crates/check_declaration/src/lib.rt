@@ -190,8 +190,7 @@ fn plain_rows(
     let mut from = at;
     for j in 0..count {
         let row = first + j;
-        let next = plain_row(program, from, to, parent, m, row, registers, kinds, sizes)?;
-        from = next;
+        from = plain_row(program, from, to, parent, m, row, registers, kinds, sizes)?;
     }
     Ok(from)
 }
@@ -309,10 +308,9 @@ pub fn parameter_types(
     let mut from = at;
     for j in 0..count {
         let row = first + j;
-        let next = typed_row(
+        from = typed_row(
             program, from, to, parent, m, row, registers, families, kinds, sizes,
         )?;
-        from = next;
     }
     Ok(from)
 }

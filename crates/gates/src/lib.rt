@@ -111,10 +111,7 @@ fn tally(x: i64, y: i64) -> usize
 fn first_value(reversed: bool, x: i64, y: i64) -> i64
     ensures { result ≡ start_of (direction_of reversed) x y }
 {
-    if reversed {
-        return y;
-    }
-    x
+    if reversed { y } else { x }
 }
 
 // How a body runs: from which value on, how often, and where it begins.

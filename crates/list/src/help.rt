@@ -1,5 +1,5 @@
 // What the program says of itself.
-use crate::output;
+use std::io::{Print, Result};
 
 // Says how the program is called, on standard error.
 pub fn print_usage(rt: &HostRuntime) {
@@ -8,7 +8,7 @@ pub fn print_usage(rt: &HostRuntime) {
 }
 
 // Says what the program does.
-pub fn print_help(rt: &HostRuntime) {
+pub fn print_help(rt: &HostRuntime) -> Result<()> {
     let text = b"usage: list < PROGRAM
        list FAMILY [SIZE ..] < PROGRAM
        list --help
@@ -28,5 +28,5 @@ There is no exit status: a list is whole where its last line begins with
 `end 0 ` and has its line end. Where reading or writing fails, there is no such
 line, and a message is on standard error.
 ";
-    output::write_all(rt, text);
+    Print::write_all(rt, text)
 }

@@ -49,9 +49,10 @@ fn phase_op(reversed: bool) -> Op
     ensures { op_number result ≡ phase_op reversed }
 {
     if reversed {
-        return Op::PhaseInverse;
+        Op::PhaseInverse
+    } else {
+        Op::Phase
     }
-    Op::Phase
 }
 
 // The op of a cphase in a direction.
@@ -59,9 +60,10 @@ fn cphase_op(reversed: bool) -> Op
     ensures { op_number result ≡ cphase_op reversed }
 {
     if reversed {
-        return Op::CphaseInverse;
+        Op::CphaseInverse
+    } else {
+        Op::Cphase
     }
-    Op::Cphase
 }
 
 // What a gate or a phase writes, and on what: whether on a single wire, its op, its k, or 0 for it, and where its operands begin.

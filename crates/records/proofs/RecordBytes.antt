@@ -1,9 +1,9 @@
 -- A record's bytes, and what writing one does. Assumes nothing.
-use Prim.Native.Nat.{ℕ, suc, ◌+◌, ◌*◌, ◌<◌, ◌≤◌}
+use Prim.Native.Nat.{ℕ, suc, ◌+◌, ◌-◌, ◌*◌, ◌<◌, ◌≤◌}
 use mathlib.Core.Path.{◌≡◌, refl, sym, ap, ◌∙◌}
 use mathlib.Core.List.{List, [], ◌∷◌, ◌++◌, append_assoc, append-nil}
 use native.Mathlib.Omega.{arith}
-use native.Mathlib.Numerals.{towards_suc}
+use borrow.Rule.Slice.PartMut.{put_mid}
 use borrow.Author.Tests.{le-leb, lt-leb}
 use lib.ListN.{length, take, drop, set, length-append}
 use lib.Seq.{sets, sets-eq, take_at, drop-append-add, drop-drop}
@@ -19,13 +19,11 @@ use Rattle.std.specs.Prelude.{Ok, Err}
 use Rattle.records.specs.declared.Condition.{Condition}
 use Rattle.records.specs.Outcomes.{answer_told, flat_outcome, Does, condition_of, number_bytes, bytes_by, ActionNumbers}
 
-pub stores : (l : List ℕ) (at a b c d e f g h : ℕ) →
-    set (set (set (set (set (set (set (set l at a) (at + 1) b) (at + 2) c) (at + 3) d) (at + 4) e) (at + 5) f) (at + 6) g) (at + 7) h
-    ≡ sets l at (a ∷ b ∷ c ∷ d ∷ e ∷ f ∷ g ∷ h ∷ [])
-stores l at a b c d e f g h = simp towards_suc
-
-pub four_stores : (l : List ℕ) (at a b c d : ℕ) → set (set (set (set l at a) (at + 1) b) (at + 2) c) (at + 3) d ≡ sets l at (a ∷ b ∷ c ∷ d ∷ [])
-four_stores l at a b c d = simp towards_suc
+-- bytes copied into a part of the output
+pub put_part : (buffer word after : List ℕ) (from : ℕ) → from + length word ≤ length buffer → after ≡ word → put_mid from (from + length word - from) buffer after ≡ sets buffer from word
+put_part buffer word after from h e =
+    let n : from + length word - from ≡ length word = omega arith in
+    rw (n, e, drop-drop, sets-eq word buffer from h, append_assoc) refl
 
 -- the first eight bytes, and those after them
 pub both_stores : (l : List ℕ) (at op kind a b c : ℕ) (rest : List ℕ) → sets (sets l at (number_bytes op kind a b c [])) (at + 8) rest ≡ sets l at (number_bytes op kind a b c rest)

@@ -95,14 +95,8 @@ fn put_numbers(out: &mut [u8], at: usize, op: u8, kind: u8, a: u16, b: u16, c: u
     requires { at + record_size ≤ length out.old }
     ensures { out.new ≡ sets out.old at (number_bytes op kind a b c []) }
 {
-    out[at] = op;
-    out[at + 1] = kind;
-    out[at + 2] = low(a);
-    out[at + 3] = high(a);
-    out[at + 4] = low(b);
-    out[at + 5] = high(b);
-    out[at + 6] = low(c);
-    out[at + 7] = high(c);
+    let bytes = [op, kind, low(a), high(a), low(b), high(b), low(c), high(c)];
+    out[at..at + 8].copy_from_slice(&bytes);
 }
 
 // Puts the last bytes of a record: k, and two zero bytes.
@@ -110,10 +104,7 @@ fn put_halvings(out: &mut [u8], at: usize, k: u16)
     requires { at + 4 ≤ length out.old }
     ensures { out.new ≡ sets out.old at (halving_bytes k) }
 {
-    out[at] = low(k);
-    out[at + 1] = high(k);
-    out[at + 2] = 0;
-    out[at + 3] = 0;
+    out[at..at + 4].copy_from_slice(&[low(k), high(k), 0, 0]);
 }
 
 fn numbers(c: Condition) -> ConditionNumbers

@@ -1,18 +1,17 @@
 -- Forms in range one after another, the number of loop variables gone through, and what is answered. Assumes nothing.
-use mathlib.Core.Path.{◌≡◌, refl, ap, subst}
+use mathlib.Core.Path.{◌≡◌, refl, ap}
 use mathlib.Core.List.{List, [], ◌∷◌}
 use mathlib.Core.Bool.{Bool, true, false, ◌&&◌}
 use Prim.Native.Nat.{ℕ, zero, suc, ◌+◌, ◌≤◌, ◌<◌}
 use native.Mathlib.Omega.{arith}
-use borrow.Author.Tests.{ltb-true, ltb-false, le-leb, lt-leb}
-use lib.Dec.{ltb}
+use borrow.Author.Tests.{le-leb, lt-leb}
 use lib.IntN.{ℤ}
 use lib.ListN.{length, get_or}
 use Rattle.language.specs.Limits.{all_variables}
 use Rattle.language.specs.Form.{built, all_in_range, showing}
 use Rattle.form_laws.specs.Settled.{gone_through}
 use Rattle.form_laws.specs.Trials.{trials_made}
-use Rattle.forms.specs.Flat.{Kept, as_form}
+use Rattle.forms.specs.Flat.{as_form}
 use Rattle.forms.specs.Rows.{Rows, loops_of}
 use Rattle.forms.proofs.Laws.{and_no}
 use Rattle.showing.specs.Answers.{forms_in_range, are_forms, number_of, no_forms, answer}

@@ -17,33 +17,6 @@ use Rattle.check_declaration.proofs.Formals.{within_upto, plain_upto, stays_none
 use Rattle.refusals.proofs.Handed.{handed}
 use Rattle.check_declaration.proofs.family_row.Goals as goal
 
-pub plain_rows-requires : goal.plain_rows-requires
-plain_rows-requires c =
-    let a = c.args in
-    let program = a.program.now in
-    let bytes = length program in
-    let families = a.families.now in
-    let kinds = a.kinds.now in
-    let used = c.requires.in_use in
-    let t = c.requires.operand_table in
-    let half : a.row < length kinds / 2 = omega (arith, used.few, t.kinds_long, c.requires.at_bound.0, c.requires.at_bound.1) in
-    let counts = c.in_ok-counts.counts in
-    let m = counts.variables in
-    let count = counts.parameters in
-    let w = both_right a.at a.next c.two_counts.result counts c.in_ok-counts.was c.two_counts.ensures.both_right in
-    let few = w.0 in
-    let one = w.1 in
-    let most = w.2 in
-    let five = w.3 in
-    record {
-      to_in_bounds = c.requires.at_bound.1;
-      m_le_most_variables = few;
-      at_le_to = (five, c.requires.program_len_bound.0);
-      count_in_bounds = omega (arith, t.kinds_long, c.requires.at_bound.0, c.requires.at_bound.1);
-      in_use = in_use_later a.row 0 a.registers a.at (a.at + 5) kinds used (omega arith) (omega arith);
-      operand_table = t;
-    }
-
 pub returns-in_err-end : goal.returns-in_err-end
 returns-in_err-end c =
     let a = c.args in

@@ -22,26 +22,8 @@ loop-j-init c =
     let a = c.args in
     (omega arith, stays_none (length a.program.now) a.first a.at a.registers a.families.now a.kinds.now a.sizes.now c.requires.operand_table, beyond_none a.program.now a.at a.to, in_use_later a.first (a.first + 0) a.registers a.at a.at a.kinds.now c.requires.in_use (omega arith) (omega (arith, c.requires.in_use.few)), c.requires.at_le_to.0, c.requires.formals_in, (λ fs ks. let z : a.count - 0 ≡ a.count = omega arith in rw z (no_kinds (formal_at a.families.now a.kinds.now a.sizes.now) _ a.first a.kinds.now a.sizes.now)))
 
-pub typed_row-requires : goal.typed_row-requires
-typed_row-requires c =
-    let i = c.loop-j in
-    let k = i.invariant.1.kinds_same in
-    let s = i.invariant.1.sizes_same in
-    let f = i.invariant.1.families_same in
-    let wide = c.requires.at_le_to.2 in
-    let table = c.requires.family_table in
-    record {
-      at_le_to = (i.invariant.4, c.requires.to_in_bounds);
-      m_le_most_variables = c.requires.m_le_most_variables;
-      program_len_bound = (c.requires.at_le_to.1, omega arith);
-      in_use = i.invariant.3;
-      operand_table = i.invariant.1.table;
-      family_table = omega arith;
-      formals_in = i.invariant.5;
-    }
-
-pub returns-in_err-next : goal.returns-in_err-next
-returns-in_err-next c =
+pub returns-in_err-from : goal.returns-in_err-from
+returns-in_err-from c =
     let a = c.args in
     let program = a.program.now in
     let i = c.loop-j in
@@ -54,7 +36,7 @@ returns-in_err-next c =
     let sofar : List Kind → Checked (List Kind) = λ rest. good (kinds_at before i.j a.first i.kinds i.sizes ++ rest) in
     let along = i.invariant.2.low in rw (handed c.from_residual.result c.from_residual.ensures.1) (record {
       sizes_after = λ fs ks. rows_stop g _ a.count a.first kinds sizes sofar
-          ∙ ap (λ (c : Checked (List Kind)). c >>= sofar) (types_stop (type_level (scope_with fs ks a.m []) a.parent) (a.count - (i.j + 1)) program i.from a.to g c.typed_row.result (a.first + i.j) kinds sizes (c.typed_row.ensures.sizes_after fs ks) a.count a.first c.in_err-next.was
+          ∙ ap (λ (c : Checked (List Kind)). c >>= sofar) (types_stop (type_level (scope_with fs ks a.m []) a.parent) (a.count - (i.j + 1)) program i.from a.to g c.typed_row.result (a.first + i.j) kinds sizes (c.typed_row.ensures.sizes_after fs ks) a.count a.first c.in_err-from.was
           ∙ ap (λ (n : ℕ). kinds_of (scope_with fs ks a.m []) (types_of a.parent n (fields_at program i.from a.to))) (sym e))
           ∙ sym (i.invariant.6 fs ks);
       passes_count = tt;
@@ -76,19 +58,19 @@ loop-j-preserved c =
     let before = formal_at i.families i.kinds i.sizes in
     let sofar : List Kind → Checked (List Kind) = λ rest. good (kinds_at before i.j a.first i.kinds i.sizes ++ rest) in
     let along = i.invariant.2.low in
-    let next = c.in_ok-next.next in
-    let v = passes_upto program i.from a.to c.typed_row.result next c.in_ok-next.was c.typed_row.ensures.passes in
-    let used = in_use_upto (a.first + i.j + 1) a.registers next c.typed_row.result kinds c.in_ok-next.was c.typed_row.ensures.in_use_after in
+    let next = c.in_ok-from.from in
+    let v = passes_upto program i.from a.to c.typed_row.result next c.in_ok-from.was c.typed_row.ensures.passes in
+    let used = in_use_upto (a.first + i.j + 1) a.registers next c.typed_row.result kinds c.in_ok-from.was c.typed_row.ensures.in_use_after in
     let h = c.loop-j-test.true in (
       omega arith,
       stays_more (length program) a.first a.at i.from a.registers i.j along i.invariant.1 c.typed_row.ensures.stays,
       beyond_more program a.at a.to i.j i.from next i.invariant.2 v,
       in_use_later (a.first + i.j + 1) (a.first + (i.j + 1)) a.registers next next kinds used (omega arith) (omega (arith, used.few)),
       v.high,
-      formals_upto next c.typed_row.result families kinds c.in_ok-next.was c.typed_row.ensures.formals_after,
+      formals_upto next c.typed_row.result families kinds c.in_ok-from.was c.typed_row.ensures.formals_after,
       (λ fs ks. i.invariant.6 fs ks
           ∙ ap (λ (n : ℕ). kinds_of (scope_with fs ks a.m []) (types_of a.parent n (fields_at program i.from a.to)) >>= sofar) e
-          ∙ ap (λ (c : Checked (List Kind)). c >>= sofar) (types_go (type_level (scope_with fs ks a.m []) a.parent) (a.count - (i.j + 1)) program i.from a.to g c.typed_row.result (a.first + i.j) kinds sizes (c.typed_row.ensures.sizes_after fs ks) next c.in_ok-next.was v)
+          ∙ ap (λ (c : Checked (List Kind)). c >>= sofar) (types_go (type_level (scope_with fs ks a.m []) a.parent) (a.count - (i.j + 1)) program i.from a.to g c.typed_row.result (a.first + i.j) kinds sizes (c.typed_row.ensures.sizes_after fs ks) next c.in_ok-from.was v)
           ∙ more_kinds (kinds_of (scope_with fs ks a.m []) (types_of a.parent (a.count - (i.j + 1)) (fields_at program next a.to))) a.first i.j before g i.kinds i.sizes kinds sizes (kinds_stay (length program) (a.first + i.j) (a.first + i.j) i.from a.registers i.j a.first i.invariant.3 c.typed_row.ensures.stays (omega arith))),
     )
 

@@ -22,21 +22,8 @@ loop-j-init c =
     let a = c.args in
     (omega arith, apart_none (length a.program.now) a.first a.count a.kinds.now a.sizes.now c.requires.operand_table, beyond_none a.program.now a.at a.to, c.requires.in_use, c.requires.at_le_to.0, omega arith, no_plain a.first a.kinds.now, (λ fs ks g. let z : a.count - 0 ≡ a.count = omega arith in rw z (no_kinds g _ a.first a.kinds.now a.sizes.now)))
 
-pub plain_row-requires : goal.plain_row-requires
-plain_row-requires c =
-    let h = c.loop-j-test.true in
-    let r = c.requires.count_in_bounds in
-    record {
-      to_in_bounds = c.requires.to_in_bounds;
-      m_le_most_variables = c.requires.m_le_most_variables;
-      program_len_bound = c.requires.at_le_to.1;
-      row_in_bounds = omega (arith, c.loop-j.invariant.1.kinds_same);
-      in_use = c.loop-j.invariant.3;
-      operand_table = c.loop-j.invariant.1.table;
-    }
-
-pub returns-in_err-next : goal.returns-in_err-next
-returns-in_err-next c =
+pub returns-in_err-from : goal.returns-in_err-from
+returns-in_err-from c =
     let a = c.args in
     let program = a.program.now in
     let i = c.loop-j in
@@ -46,7 +33,7 @@ returns-in_err-next c =
     let sofar : Formals → List Kind → Checked (List Kind) = λ g rest. good (kinds_at g i.j a.first i.kinds i.sizes ++ rest) in
     let last = apart_more (length program) a.first a.count i.j c.loop-j-test.true i.invariant.1 c.plain_row.ensures.apart in rw (handed c.from_residual.result c.from_residual.ensures.1) (record {
       sizes_after = λ fs ks g. rows_stop g _ a.count a.first kinds sizes (sofar g)
-          ∙ ap (λ (c : Checked (List Kind)). c >>= sofar g) (types_stop (plain_level (scope_with fs ks a.m []) a.parent) (a.count - (i.j + 1)) program i.from a.to g c.plain_row.result (a.first + i.j) kinds sizes (c.plain_row.ensures.sizes_after fs ks g) a.count a.first c.in_err-next.was
+          ∙ ap (λ (c : Checked (List Kind)). c >>= sofar g) (types_stop (plain_level (scope_with fs ks a.m []) a.parent) (a.count - (i.j + 1)) program i.from a.to g c.plain_row.result (a.first + i.j) kinds sizes (c.plain_row.ensures.sizes_after fs ks g) a.count a.first c.in_err-from.was
           ∙ ap (λ (n : ℕ). plain_kinds (scope_with fs ks a.m []) (parts_of read_plain (bad_type 4 a.parent) n (fields_at program i.from a.to))) (sym e))
           ∙ sym (i.invariant.7 fs ks g);
       passes_count = tt;
@@ -65,10 +52,10 @@ loop-j-preserved c =
     let sizes = c.plain_row.new.sizes in
     let e : a.count - i.j ≡ suc (a.count - (i.j + 1)) = (let h = c.loop-j-test.true in omega arith) in
     let sofar : Formals → List Kind → Checked (List Kind) = λ g rest. good (kinds_at g i.j a.first i.kinds i.sizes ++ rest) in
-    let next = c.in_ok-next.next in
-    let v = passes_upto program i.from a.to c.plain_row.result next c.in_ok-next.was c.plain_row.ensures.passes in
-    let used = in_use_upto 0 a.registers next c.plain_row.result kinds c.in_ok-next.was c.plain_row.ensures.in_use_after in
-    let one = plain_upto c.plain_row.result next 1 (a.first + i.j) kinds c.in_ok-next.was c.plain_row.ensures.plain_after in
+    let next = c.in_ok-from.from in
+    let v = passes_upto program i.from a.to c.plain_row.result next c.in_ok-from.was c.plain_row.ensures.passes in
+    let used = in_use_upto 0 a.registers next c.plain_row.result kinds c.in_ok-from.was c.plain_row.ensures.in_use_after in
+    let one = plain_upto c.plain_row.result next 1 (a.first + i.j) kinds c.in_ok-from.was c.plain_row.ensures.plain_after in
     let h = c.loop-j-test.true in
     let low = i.invariant.5 in (
       omega arith,
@@ -80,7 +67,7 @@ loop-j-preserved c =
       more_plain (length program) a.first i.j i.kinds kinds i.sizes sizes i.invariant.6 c.plain_row.ensures.apart one,
       (λ fs ks g. i.invariant.7 fs ks g
           ∙ ap (λ (n : ℕ). plain_kinds (scope_with fs ks a.m []) (parts_of read_plain (bad_type 4 a.parent) n (fields_at program i.from a.to)) >>= sofar g) e
-          ∙ ap (λ (c : Checked (List Kind)). c >>= sofar g) (types_go (plain_level (scope_with fs ks a.m []) a.parent) (a.count - (i.j + 1)) program i.from a.to g c.plain_row.result (a.first + i.j) kinds sizes (c.plain_row.ensures.sizes_after fs ks g) next c.in_ok-next.was v)
+          ∙ ap (λ (c : Checked (List Kind)). c >>= sofar g) (types_go (plain_level (scope_with fs ks a.m []) a.parent) (a.count - (i.j + 1)) program i.from a.to g c.plain_row.result (a.first + i.j) kinds sizes (c.plain_row.ensures.sizes_after fs ks g) next c.in_ok-from.was v)
           ∙ more_kinds (plain_kinds (scope_with fs ks a.m []) (parts_of read_plain (bad_type 4 a.parent) (a.count - (i.j + 1)) (fields_at program next a.to))) a.first i.j g g i.kinds i.sizes kinds sizes (rows_below (length program) (a.first + i.j) 1 i.j a.first c.plain_row.ensures.apart (omega arith) g)),
     )
 

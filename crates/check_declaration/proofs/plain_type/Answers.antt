@@ -14,14 +14,15 @@ use Rattle.check_declaration.proofs.plain_type.Goals as goal
 pub overflow_add-from : goal.overflow_add-from
 overflow_add-from c =
     let a = c.args in
-    let program = a.program.now in
-    let tag = c.in-Ok.header.tag in
-    let next = c.in-Ok.header.next in
-    let w = when_whole program a.at a.to tag next c.requires.to_in_bounds (sym c.header_at.ensures ∙ c.in-Ok.is) in
-    let h = w.high in
+    let w = when_whole a.program.now a.at a.to c.in-Ok.header.tag c.in-Ok.header.next c.requires.to_in_bounds (sym c.header_at.ensures ∙ c.in-Ok.is) in
     let j = w.low in
-    let k = c.requires.to_in_bounds in
-    omega arith
+    omega (arith, w.high)
+
+pub sized_type-requires-clause-at_bound : goal.sized_type-requires-clause-at_bound
+sized_type-requires-clause-at_bound c =
+    let a = c.args in
+    let w = when_whole a.program.now a.at a.to c.in-Ok.header.tag c.in-Ok.header.next c.requires.to_in_bounds (sym c.header_at.ensures ∙ c.in-Ok.is) in
+    (w.low, omega (arith, w.high))
 
 pub returns-then-from-next : goal.returns-then-from-next
 unfolding checked_type
@@ -37,21 +38,6 @@ returns-then-from-next c =
     record {
       f_after = λ fs ks. type_more (scope_with fs ks a.m []) program a.at a.to a.parent tag next w c.in-16.is c.if-from-next.true (omega arith);
       type_passes = tt;
-    }
-
-pub sized_type-requires : goal.sized_type-requires
-sized_type-requires c =
-    let a = c.args in
-    let program = a.program.now in
-    let tag = c.in-Ok.header.tag in
-    let next = c.in-Ok.header.next in
-    let w = when_whole program a.at a.to tag next c.requires.to_in_bounds (sym c.header_at.ensures ∙ c.in-Ok.is) in
-    let h = w.high in
-    let j = w.low in
-    let k = c.requires.to_in_bounds in
-    record {
-      at_bound = (w.low, omega arith);
-      m_le_most_variables = c.requires.m_le_most_variables;
     }
 
 pub returns-in-Err-End : goal.returns-in-Err-End
@@ -136,6 +122,6 @@ returns-in_default c =
     let j = w.low in
     let k = c.requires.to_in_bounds in
     record {
-      f_after = λ fs ks. type_other (scope_with fs ks a.m []) program a.at a.to a.parent tag next w c.in_default.in_default-own.rest.0.1 c.in_default.in_default-own.rest.1;
+      f_after = λ fs ks. type_other (scope_with fs ks a.m []) program a.at a.to a.parent tag next w (omega arith) (omega arith);
       type_passes = tt;
     }

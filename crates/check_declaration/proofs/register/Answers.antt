@@ -28,14 +28,9 @@ returns-in_err-size c =
 pub overflow_cast-size : goal.overflow_cast-size
 overflow_cast-size c =
     let a = c.args in
-    let program = a.program.now in
-    let content = slice (a.at + 3) a.next program in
-    let n = c.in_ok-size.size in
-    let f = size_fits_lem c.register_size.result n a.at a.count a.total a.most content c.in_ok-size.was c.register_size.ensures in
-    let room = f.room in
+    let content = slice (a.at + 3) a.next a.program.now in
+    let f = size_fits_lem c.register_size.result c.in_ok-size.size a.at a.count a.total a.most content c.in_ok-size.was c.register_size.ensures in
     let fits = f.fits in
-    let before = c.requires.in_use in
-    let long = c.requires.program_len_bound in
     search rules
 
 pub set_constant-requires : goal.set_constant-requires
@@ -60,93 +55,6 @@ store-requires c =
       kept = c.set_constant.ensures.kept;
       f_value = constant_narrow c.set_constant.new.f _ c.set_constant.ensures.f_after c.set_constant.ensures.kept;
     }
-
-pub size_row-own-requires : goal.size_row-own-requires
-size_row-own-requires c =
-    let a = c.args in
-    let program = a.program.now in
-    let content = slice (a.at + 3) a.next program in
-    let n = c.in_ok-size.size in
-    let f = size_fits_lem c.register_size.result n a.at a.count a.total a.most content c.in_ok-size.was c.register_size.ensures in
-    let room = f.room in
-    let fits = f.fits in
-    let before = c.requires.in_use in
-    let long = c.requires.program_len_bound in
-    record {
-      at_le_longest_program = omega (arith, c.requires.at_bound.0, c.requires.at_bound.1);
-      registers_le_most_registers = omega arith;
-    }
-
-pub row_number-requires : goal.row_number-requires
-row_number-requires c =
-    let a = c.args in
-    let program = a.program.now in
-    let content = slice (a.at + 3) a.next program in
-    let n = c.in_ok-size.size in
-    let f = size_fits_lem c.register_size.result n a.at a.count a.total a.most content c.in_ok-size.was c.register_size.ensures in
-    let room = f.room in
-    let fits = f.fits in
-    let before = c.requires.in_use in
-    let long = c.requires.program_len_bound in
-    omega (arith, c.size_row-own.ensures, c.requires.at_bound.0, c.requires.at_bound.1)
-
-pub offset_bounds-kinds-count : goal.offset_bounds-kinds-count
-offset_bounds-kinds-count c =
-    let a = c.args in
-    let program = a.program.now in
-    let content = slice (a.at + 3) a.next program in
-    let n = c.in_ok-size.size in
-    let f = size_fits_lem c.register_size.result n a.at a.count a.total a.most content c.in_ok-size.was c.register_size.ensures in
-    let room = f.room in
-    let fits = f.fits in
-    let before = c.requires.in_use in
-    let long = c.requires.program_len_bound in
-    omega (arith, c.requires.operand_table.kinds_long, c.well_formed)
-
-pub bounds-kinds-count : goal.bounds-kinds-count
-bounds-kinds-count c =
-    let a = c.args in
-    let program = a.program.now in
-    let content = slice (a.at + 3) a.next program in
-    let n = c.in_ok-size.size in
-    let f = size_fits_lem c.register_size.result n a.at a.count a.total a.most content c.in_ok-size.was c.register_size.ensures in
-    let room = f.room in
-    let fits = f.fits in
-    let before = c.requires.in_use in
-    let long = c.requires.program_len_bound in
-    omega (arith, c.requires.operand_table.kinds_long, c.well_formed)
-
-pub offset_bounds-sizes-own : goal.offset_bounds-sizes-own
-offset_bounds-sizes-own c =
-    let a = c.args in
-    let program = a.program.now in
-    let content = slice (a.at + 3) a.next program in
-    let n = c.in_ok-size.size in
-    let f = size_fits_lem c.register_size.result n a.at a.count a.total a.most content c.in_ok-size.was c.register_size.ensures in
-    let room = f.room in
-    let fits = f.fits in
-    let before = c.requires.in_use in
-    let long = c.requires.program_len_bound in
-    let own = c.size_row-own.result in
-    let is : own ≡ size_row a.at a.count = c.size_row-own.ensures in
-    let inside : own < length a.sizes.now = omega (arith, c.requires.operand_table.sizes_long, c.requires.at_bound.0, c.requires.at_bound.1) in
-    omega (arith, c.well_formed)
-
-pub bounds-sizes-own : goal.bounds-sizes-own
-bounds-sizes-own c =
-    let a = c.args in
-    let program = a.program.now in
-    let content = slice (a.at + 3) a.next program in
-    let n = c.in_ok-size.size in
-    let f = size_fits_lem c.register_size.result n a.at a.count a.total a.most content c.in_ok-size.was c.register_size.ensures in
-    let room = f.room in
-    let fits = f.fits in
-    let before = c.requires.in_use in
-    let long = c.requires.program_len_bound in
-    let own = c.size_row-own.result in
-    let is : own ≡ size_row a.at a.count = c.size_row-own.ensures in
-    let inside : own < length a.sizes.now = omega (arith, c.requires.operand_table.sizes_long, c.requires.at_bound.0, c.requires.at_bound.1) in
-    omega (arith, c.well_formed)
 
 pub returns : goal.returns
 returns c =

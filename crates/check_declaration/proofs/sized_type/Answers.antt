@@ -32,15 +32,6 @@ returns-then-end-next c =
       form_ends_at = tt;
     }
 
-pub must_show-requires : goal.must_show-requires
-must_show-requires c =
-    let a = c.args in
-    let program = a.program.now in
-    let l = c.index.new.f in
-    let end = c.in_ok-end.end in
-    let v = form_passes_upto program (a.at + 3) a.next c.index.result l end c.in_ok-end.was c.index.ensures.form_passes in
-    record { kept = v.1 }
-
 pub returns-in_err-must_show : goal.returns-in_err-must_show
 unfolding loops_of
 returns-in_err-must_show c =

@@ -13,18 +13,11 @@ use Rattle.check_declaration.proofs.FamilyTypes.{type_family, type_plain}
 use Rattle.check_declaration.proofs.Formals.{stays_plain, plain_after, formals_after}
 use Rattle.check_declaration.proofs.typed_row.Goals as goal
 
-pub family_row-requires : goal.family_row-requires
-family_row-requires c =
+pub family_row-requires-clause-at_bound : goal.family_row-requires-clause-at_bound
+family_row-requires-clause-at_bound c =
     let a = c.args in
     let w = when_tagged a.program.now a.at a.to 18 c.in-Some.next c.requires.at_le_to.1 (sym c.with_tag.ensures ∙ c.in-Some.is) in
-    record {
-      at_bound = (w.low, let h = w.high in let k = c.requires.at_le_to.1 in omega arith);
-      program_len_bound = c.requires.program_len_bound;
-      in_use = c.requires.in_use;
-      operand_table = c.requires.operand_table;
-      family_table = c.requires.family_table;
-      formals_in = c.requires.formals_in;
-    }
+    (w.low, omega (arith, w.high))
 
 pub returns-in-Some : goal.returns-in-Some
 returns-in-Some c =
@@ -38,20 +31,6 @@ returns-in-Some c =
       in_use_after = c.family_row.ensures.in_use_after;
       formals_after = c.family_row.ensures.formals_after;
       stays = c.family_row.ensures.stays;
-    }
-
-pub plain_row-requires : goal.plain_row-requires
-plain_row-requires c =
-    let a = c.args in
-    let u = c.requires.in_use in
-    let t = c.requires.operand_table in
-    record {
-      to_in_bounds = c.requires.at_le_to.1;
-      m_le_most_variables = c.requires.m_le_most_variables;
-      program_len_bound = c.requires.program_len_bound.0;
-      row_in_bounds = omega (arith, u.few, t.kinds_long, c.requires.at_le_to.0, c.requires.at_le_to.1);
-      in_use = in_use_later a.row 0 a.registers a.at a.at a.kinds.now u (omega arith) (omega arith);
-      operand_table = t;
     }
 
 pub returns : goal.returns

@@ -10,17 +10,6 @@ use Rattle.check_program.proofs.Registers.{creg_stops, creg_goes, register_row, 
 use Rattle.refusals.proofs.Handed.{handed}
 use Rattle.check_program.proofs.classical_register.Goals as goal
 
-pub register-requires : goal.register-requires
-register-requires c =
-    record {
-      at_bound = c.requires.at_bound;
-      total_le_most = c.requires.declared_right.bits_fit;
-      most_le_furthest = omega arith;
-      program_len_bound = c.requires.declared_right.short;
-      in_use = in_use_later c.args.t.rows 0 c.args.t.registers c.args.at c.args.at c.args.kinds.now c.requires.declared_right.used (omega arith) (omega arith);
-      operand_table = c.requires.declared_right.table;
-    }
-
 pub returns-in_err-size : goal.returns-in_err-size
 returns-in_err-size c =
     let a = c.args in

@@ -22,27 +22,6 @@ returns-then-n-ge-MOST_FAMILIES c =
       step_right = tt;
     }
 
-pub family_body-requires : goal.family_body-requires
-family_body-requires c =
-    let a = c.args in
-    let program = a.program.now in
-    let bytes = length program in
-    let x = a.families.now in
-    let room = c.if-n-ge-MOST_FAMILIES.false in
-    let e = c.two_counts.ensures.result_value in
-    let counts = c.in_ok-counts.counts in
-    let m = counts.variables in
-    let p = counts.parameters in
-    let u = c.in_ok-counts.was in
-    let w = both_right a.at a.next c.two_counts.result counts u c.two_counts.ensures.both_right in
-    record {
-      at_bound = (w.3, c.requires.at_bound.1);
-      m_le_most_variables = w.0;
-      parameters_le_most_parameters = w.2;
-      families_lt_most_families = room;
-      declared_right = c.requires.declared_right;
-    }
-
 pub returns-in_err-counts : goal.returns-in_err-counts
 returns-in_err-counts c =
     let a = c.args in
@@ -56,23 +35,12 @@ returns-in_err-counts c =
 pub returns-in_err-family_body : goal.returns-in_err-family_body
 returns-in_err-family_body c =
     let a = c.args in
-    let program = a.program.now in
-    let bytes = length program in
-    let x = a.families.now in
-    let room = c.if-n-ge-MOST_FAMILIES.false in
-    let e = c.two_counts.ensures.result_value in
     let counts = c.in_ok-counts.counts in
-    let m = counts.variables in
-    let p = counts.parameters in
-    let u = c.in_ok-counts.was in
-    let w = both_right a.at a.next c.two_counts.result counts u c.two_counts.ensures.both_right in
     let families = c.family_body.new.families in
     let kinds = c.family_body.new.kinds in
     let sizes = c.family_body.new.sizes in
-    let g = formal_at families kinds sizes in
-    let b = c.family_body.ensures.sizes_after in
     rw (handed c.from_residual-in_err-family_body.result c.from_residual-in_err-family_body.ensures.1) (record {
-      sizes_after = family_stops a.t x a.kinds.now a.sizes.now program a.at a.next room c.two_counts.result e m p u g c.family_body.result kinds sizes b _ families kinds sizes c.in_err-family_body.was;
+      sizes_after = family_stops a.t a.families.now a.kinds.now a.sizes.now a.program.now a.at a.next c.if-n-ge-MOST_FAMILIES.false c.two_counts.result c.two_counts.ensures.result_value counts.variables counts.parameters c.in_ok-counts.was (formal_at families kinds sizes) c.family_body.result kinds sizes c.family_body.ensures.sizes_after _ families kinds sizes c.in_err-family_body.was;
       step_right = tt;
     })
 
@@ -80,22 +48,19 @@ pub returns : goal.returns
 unfolding checked_step
 returns c =
     let a = c.args in
-    let program = a.program.now in
-    let bytes = length program in
-    let x = a.families.now in
     let room = c.if-n-ge-MOST_FAMILIES.false in
-    let e = c.two_counts.ensures.result_value in
     let counts = c.in_ok-counts.counts in
     let m = counts.variables in
     let p = counts.parameters in
-    let u = c.in_ok-counts.was in
-    let w = both_right a.at a.next c.two_counts.result counts u c.two_counts.ensures.both_right in
+    let w = both_right a.at a.next c.two_counts.result counts c.in_ok-counts.was c.two_counts.ensures.both_right in
     let families = c.family_body.new.families in
     let kinds = c.family_body.new.kinds in
     let sizes = c.family_body.new.sizes in
-    let g = formal_at families kinds sizes in
-    let b = c.family_body.ensures.sizes_after in
+    let r = c.family_body.result in
+    let u = c.in_ok-family_body.was in
+    let stays = c.family_body.ensures.stays in
     record {
-      sizes_after = ap good (with_family_lem bytes a.at (a.at + 5) a.next a.t m p c.requires.declared_right (omega arith) c.family_body.ensures.stays room w.0) ∙ family_goes a.t x a.kinds.now a.sizes.now program a.at a.next room c.two_counts.result e m p u g c.family_body.result kinds sizes b _ c.in_ok-family_body.was;
-      step_right = holds_family bytes a.at (a.at + 5) a.next a.t m p c.requires.declared_right (omega arith) c.family_body.ensures.stays room w.0 (before_upto (a.t.rows + p) a.t.registers a.next _ c.family_body.result kinds c.in_ok-family_body.was c.family_body.ensures.in_use_before) (formals_upto a.next _ c.family_body.result families kinds c.in_ok-family_body.was c.family_body.ensures.formals_before) c.requires.at_bound.1;
+      sizes_after = ap good (with_family_lem (length a.program.now) a.at (a.at + 5) a.next a.t m p c.requires.declared_right (omega arith) stays room w.0)
+          ∙ family_goes a.t a.families.now a.kinds.now a.sizes.now a.program.now a.at a.next room c.two_counts.result c.two_counts.ensures.result_value m p c.in_ok-counts.was (formal_at families kinds sizes) r kinds sizes c.family_body.ensures.sizes_after _ u;
+      step_right = holds_family (length a.program.now) a.at (a.at + 5) a.next a.t m p c.requires.declared_right (omega arith) stays room w.0 (before_upto (a.t.rows + p) a.t.registers a.next _ r kinds u c.family_body.ensures.in_use_before) (formals_upto a.next _ r families kinds u c.family_body.ensures.formals_before) c.requires.at_bound.1;
     }

@@ -17,24 +17,6 @@ use Rattle.check_declaration.proofs.Formals.{formals_later}
 use Rattle.refusals.proofs.Handed.{handed}
 use Rattle.check_program.proofs.family_body.Goals as goal
 
-pub parameter_types-requires : goal.parameter_types-requires
-parameter_types-requires c =
-    let a = c.args in
-    let program = a.program.now in
-    let few = c.requires.m_le_most_variables in
-    let bytes = length program in
-    let long = c.requires.at_bound.1 in
-    let none = replicate 8 (replicate 13 (pos 0)) in
-    record {
-      to_in_bounds = long;
-      m_le_most_variables = few;
-      at_le_to = (c.requires.at_bound.0, c.requires.declared_right.short, c.requires.declared_right.wide);
-      in_use = in_use_later a.t.rows a.t.rows a.t.registers a.at (a.at + 5) a.kinds.now c.requires.declared_right.used (omega arith) (omega (arith, c.requires.declared_right.used.few));
-      operand_table = c.requires.declared_right.table;
-      family_table = c.requires.declared_right.long;
-      formals_in = formals_later a.at (a.at + 5) a.families.now a.kinds.now (omega arith) c.requires.declared_right.taken;
-    }
-
 pub returns-in_err-mid : goal.returns-in_err-mid
 unfolding family_scope_by
 returns-in_err-mid c =

@@ -26,11 +26,6 @@ full_scope-full-requires c =
 pub returns-in_err-action : goal.returns-in_err-action
 returns-in_err-action c =
     let a = c.args in
-    let h = c.requires.declared_right in
-    let few = h.families_fit in
-    let most = h.used.few_registers in
-    let bytes = length a.program.now in
-    let none = replicate 8 (replicate 13 (pos 0)) in
     let d = declared_in a.t a.families.now a.kinds.now a.sizes.now in
     let e = top_scope_lem a.t a.families.now a.kinds.now a.sizes.now ∙ sym c.full_scope-full.ensures in
     rw (handed c.from_residual.result c.from_residual.ensures.1) (record {
@@ -41,14 +36,9 @@ returns-in_err-action c =
 pub returns : goal.returns
 returns c =
     let a = c.args in
-    let h = c.requires.declared_right in
-    let few = h.families_fit in
-    let most = h.used.few_registers in
-    let bytes = length a.program.now in
-    let none = replicate 8 (replicate 13 (pos 0)) in
     let d = declared_in a.t a.families.now a.kinds.now a.sizes.now in
     let e = top_scope_lem a.t a.families.now a.kinds.now a.sizes.now ∙ sym c.full_scope-full.ensures in
     record {
       sizes_value = kept_going c.action.result _ a.t a.families.now a.kinds.now a.sizes.now c.in_ok-action.was ∙ c.action.ensures d e;
-      step_right = declared_later bytes a.at a.next a.t a.families.now a.kinds.now a.sizes.now (omega (arith, c.requires.at_bound.0)) h;
+      step_right = declared_later (length a.program.now) a.at a.next a.t a.families.now a.kinds.now a.sizes.now (omega (arith, c.requires.at_bound.0)) c.requires.declared_right;
     }

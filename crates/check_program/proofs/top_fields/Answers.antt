@@ -18,15 +18,6 @@ loop-header-init c =
     let a = c.args in
     (c.requires, refl, refl, refl, tops_all a.program.now a.families.now a.kinds.now a.sizes.now)
 
-pub header_at-requires : goal.header_at-requires
-header_at-requires c =
-    let a = c.args in
-    let program = a.program.now in
-    let i = c.loop-header in
-    let d = declared_in i.t i.families i.kinds i.sizes in
-    let k : length program ≤ length program = omega arith in
-    k
-
 pub returns-in-Err-End : goal.returns-in-Err-End
 unfolding result_told
 returns-in-Err-End c =
@@ -47,20 +38,19 @@ returns-in-Err-Cut c =
     let k : length program ≤ length program = omega arith in
     tops_cut program i.at (length program) d (when_cut program i.at (length program) k (sym c.header_at.ensures ∙ c.in-Err-Cut.is ∙ ap Err c.in-Err-Cut.field-0-is)) ∙ ap verdict (sym i.invariant.4)
 
-pub top_field-requires : goal.top_field-requires
-top_field-requires c =
-    let a = c.args in
-    let program = a.program.now in
-    let i = c.loop-header in
-    let d = declared_in i.t i.families i.kinds i.sizes in
+pub top_field-requires-clause-at_bound : goal.top_field-requires-clause-at_bound
+top_field-requires-clause-at_bound c =
+    let program = c.args.program.now in
     let k : length program ≤ length program = omega arith in
-    let tag = c.in-Ok.header.tag in
-    let next = c.in-Ok.header.next in
-    let w = when_whole program i.at (length program) tag next k (sym c.header_at.ensures ∙ c.in-Ok.is) in
-    record {
-      at_bound = (w.low, w.high);
-      declared_right = i.invariant.0;
-    }
+    let w = when_whole program c.loop-header.at (length program) c.in-Ok.header.tag c.in-Ok.header.next k (sym c.header_at.ensures ∙ c.in-Ok.is) in
+    (w.low, w.high)
+
+pub loop-header-smaller : goal.loop-header-smaller
+loop-header-smaller c =
+    let program = c.args.program.now in
+    let k : length program ≤ length program = omega arith in
+    let w = when_whole program c.loop-header.at (length program) c.in-Ok.header.tag c.in-Ok.header.next k (sym c.header_at.ensures ∙ c.in-Ok.is) in
+    omega (arith, w.low, w.high)
 
 pub returns-in_err-t-in-Ok : goal.returns-in_err-t-in-Ok
 returns-in_err-t-in-Ok c =
@@ -76,20 +66,6 @@ returns-in_err-t-in-Ok c =
     let kinds = c.top_field.new.kinds in
     let sizes = c.top_field.new.sizes in
     rw (handed c.from_residual.result c.from_residual.ensures.1) (tops_stop program i.at (length program) d tag next w c.top_field.result families kinds sizes c.top_field.ensures.sizes_after _ c.in_err-t-in-Ok.was ∙ ap verdict (sym i.invariant.4))
-
-pub loop-header-smaller : goal.loop-header-smaller
-loop-header-smaller c =
-    let a = c.args in
-    let program = a.program.now in
-    let i = c.loop-header in
-    let d = declared_in i.t i.families i.kinds i.sizes in
-    let k : length program ≤ length program = omega arith in
-    let tag = c.in-Ok.header.tag in
-    let next = c.in-Ok.header.next in
-    let w = when_whole program i.at (length program) tag next k (sym c.header_at.ensures ∙ c.in-Ok.is) in
-    let x = w.low in
-    let y = w.high in
-    omega arith
 
 pub loop-header-preserved : goal.loop-header-preserved
 loop-header-preserved c =

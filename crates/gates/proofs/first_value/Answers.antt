@@ -10,7 +10,7 @@ unfolding start_of direction_of
 returns-then-reversed c =
     rw c.if-reversed.true (to_z-of_z w64 c.args.y c.ranges.y)
 
-pub returns : goal.returns
+pub returns-else-reversed : goal.returns-else-reversed
 unfolding start_of direction_of
-returns c =
+returns-else-reversed c =
     rw c.if-reversed.false (to_z-of_z w64 c.args.x c.ranges.x)

@@ -8,6 +8,6 @@ pub returns-then-reversed : goal.returns-then-reversed
 unfolding direction_of op
 returns-then-reversed c = search rules
 
-pub returns : goal.returns
+pub returns-else-reversed : goal.returns-else-reversed
 unfolding direction_of op
-returns c = search rules
+returns-else-reversed c = search rules

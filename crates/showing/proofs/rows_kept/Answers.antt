@@ -1,9 +1,8 @@
 -- `showing::rows_kept` meets its contract. The invariant: the rows passed are right. Assumes nothing.
 use native.Mathlib.Omega.{arith}
 use mathlib.Core.Path.{◌≡◌, sym, ap, ◌∙◌, subst}
-use mathlib.Core.List.{List, []}
-use Prim.Native.Nat.{◌<◌, ◌≤◌}
-use lib.IntN.{ℤ}
+use mathlib.Core.List.{[]}
+use Prim.Native.Nat.{◌<◌}
 use lib.Seq.{length-take-le, get_or-take}
 use Rattle.language.specs.Form.{all_in_range}
 use Rattle.forms.specs.Rows.{Rows}
