@@ -1,7 +1,6 @@
 -- `check_call::call_fits` meets its contract. Assumes nothing.
 use mathlib.Core.Path.{◌∙◌}
 use mathlib.Core.List.{[], map}
-use native.Mathlib.Omega.{arith}
 use lib.ListN.{get_or}
 use Rattle.refusals.proofs.Handed.{handed}
 use Rattle.language.specs.Read.{read_argument}
@@ -18,7 +17,6 @@ use Rattle.check_call.proofs.call_fits.Goals as goal
 
 pub call_forms-requires-clause-rows : goal.call_forms-requires-clause-rows
 call_forms-requires-clause-rows c = four_rows
-
 
 pub returns-in_err-mid : goal.returns-in_err-mid
 returns-in_err-mid c =

@@ -14,18 +14,15 @@ use Rattle.forms.specs.Flat.{as_form}
 use Rattle.forms.specs.Rows.{loops_of, forms_of}
 use Rattle.check_operand.specs.Tables.{scope_with}
 use Rattle.check_call.specs.Calls.{checked_forms}
-use Rattle.check_index.specs.Answers.{checked_form, checked_part}
 use Rattle.check_index.proofs.Answers.{form_passes_upto, beyond_none, beyond_more}
 use Rattle.check_operand.proofs.Tables.{scope_forms, rows_set}
 use Rattle.check_call.proofs.Forms.{form_none, show_none, show_good, list_stops, more_forms, all_forms, no_forms_lem}
-use Rattle.language.specs.Check as C
 use Rattle.check_call.proofs.call_forms.Goals as goal
 
 pub loop-i-init : goal.loop-i-init
 loop-i-init c =
     let a = c.args in
     (omega arith, c.requires.rows, beyond_none a.program.now a.at a.to, (λ fs ks. let z : a.m - 0 ≡ a.m = omega arith in rw z (no_forms_lem _ a.forms.now)))
-
 
 pub returns-in_err-next : goal.returns-in_err-next
 returns-in_err-next c =

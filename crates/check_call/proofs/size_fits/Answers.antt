@@ -1,7 +1,6 @@
 -- `check_call::size_fits` meets its contract. Assumes nothing.
 use mathlib.Core.Path.{refl, sym, ap, ◌∙◌}
 use mathlib.Core.List.{[]}
-use native.Mathlib.Omega.{arith}
 use lib.ListN.{get_or}
 use Rattle.language.specs.Form.{difference_of}
 use Rattle.language.specs.Check.{must_show, size_scope, plain_size, size_fits}
