@@ -7,9 +7,9 @@ use Rattle.language.specs.Read.{read_argument}
 use Rattle.language.specs.Check.{call_operands}
 use Rattle.forms.specs.Rows.{forms_of}
 use Rattle.fields.specs.Header.{fields_at}
-use Rattle.check_operand.specs.Tables.{tabulated, kinds_at}
+use Rattle.check_operand.specs.Tables.{kinds_at}
 use Rattle.check_call.specs.Calls.{signature_in}
-use Rattle.check_call.specs.Scopes.{formals_of, signatures_of, scope_full}
+use Rattle.check_call.specs.Scopes.{formals_of, scope_full}
 use Rattle.check_call.proofs.Calls.{fits_stops, fits_good}
 use Rattle.check_index.proofs.Answers.{count_upto}
 use Rattle.check_call.proofs.Forms.{four_rows}

@@ -45,8 +45,8 @@ returns-in_default-clause-result_value c =
     let size = as_form (widened (get_or full.scope.sizes.now (size_of_row a.number) [])) in
     let g = formals_of full (size_of_row a.number) in
     λ forms. not_due a.at forms c.kind_by.result size g f c.in_default.not-Family
-        ∙ ap (λ (k : Kind). family_fits a.at (taken forms (kind_in k size g)) f) c.kind_by.ensures
-        ∙ good_at full a.program.now a.at a.next a.before a.number c.requires.at_bound.1 forms (omega arith) c.two_bytes-named.result c.two_bytes-named.ensures.0 c.if-full-named.false c.if-before-named.false c.if-next-from-ne2.false
+    ∙ ap (λ (k : Kind). family_fits a.at (taken forms (kind_in k size g)) f) c.kind_by.ensures
+    ∙ good_at full a.program.now a.at a.next a.before a.number c.requires.at_bound.1 forms (omega arith) c.two_bytes-named.result c.two_bytes-named.ensures.0 c.if-full-named.false c.if-before-named.false c.if-next-from-ne2.false
 
 pub returns-clause-result_value : goal.returns-clause-result_value
 returns-clause-result_value c =
@@ -56,7 +56,7 @@ returns-clause-result_value c =
     let size = as_form (widened (get_or full.scope.sizes.now (size_of_row a.number) [])) in
     let g = formals_of full (size_of_row a.number) in
     λ forms. c.family_fits.ensures.result_value
-        ∙ (λ z. family_fits a.at (fitting (formals_of full (c.size_by-formal.ensures z))) f)
-        ∙ family_due a.at forms size g f
-        ∙ ap (λ (k : Kind). family_fits a.at (taken forms (kind_in k size g)) f) (sym c.in-Family.is ∙ c.kind_by.ensures)
-        ∙ good_at full a.program.now a.at a.next a.before a.number c.requires.at_bound.1 forms (omega arith) c.two_bytes-named.result c.two_bytes-named.ensures.0 c.if-full-named.false c.if-before-named.false c.if-next-from-ne2.false
+    ∙ (λ z. family_fits a.at (fitting (formals_of full (c.size_by-formal.ensures z))) f)
+    ∙ family_due a.at forms size g f
+    ∙ ap (λ (k : Kind). family_fits a.at (taken forms (kind_in k size g)) f) (sym c.in-Family.is ∙ c.kind_by.ensures)
+    ∙ good_at full a.program.now a.at a.next a.before a.number c.requires.at_bound.1 forms (omega arith) c.two_bytes-named.result c.two_bytes-named.ensures.0 c.if-full-named.false c.if-before-named.false c.if-next-from-ne2.false
