@@ -6,3 +6,5 @@ pub mod Operands
 pub mod Slices
 pub mod Passed
 pub mod Wires
+pub mod Pairs
+pub mod Rows

@@ -11,6 +11,7 @@ use Rattle.forms.specs.Flat.{as_form, built_of}
 use Rattle.forms.specs.declared.OutOfRange.{OutOfRange}
 use Rattle.check_operand.specs.Tables.{Known, kind_in}
 use Rattle.check_operand.specs.Operands.{wanted_of}
+use Rattle.check_operand.specs.declared.Wanted.{Wanted}
 use Rattle.check_operand.specs.declared.Wanted.TheVariants.{Wire, Bit, Register, Family as Passed}
 use Rattle.kinds.specs.declared.Kind as K
 use Rattle.language.specs.Check as C
@@ -36,20 +37,12 @@ module _ (next : Form → Built) where
 
 -- an operand of the kind k taken whole
 module _ (p : ℕ) (s : C.Scope) (f : Form) (l : List ℤ) (known : Known) (g : Formal) where
-  pub wire_good : good tt ≡ whole_fits p s (wanted_of known Wire l) (kind_in Qubit f g)
-  unfolding wanted_of whole_fits kind_in
-  wire_good = refl
-
   pub wire_bad : (k : K.Kind) → (k ≡ Qubit → ⊥) → refused 9 p ≡ whole_fits p s (wanted_of known Wire l) (kind_in k f g)
   unfolding wanted_of whole_fits kind_in
   wire_bad Qubit h = absurd (h refl)
   wire_bad Quantum h = refl
   wire_bad Classical h = refl
   wire_bad Family h = refl
-
-  pub bit_bad : (k : Kind) → refused 9 p ≡ whole_fits p s (wanted_of known Bit l) k
-  unfolding wanted_of whole_fits
-  bit_bad k = refl
 
   pub register_good : (t : Result (Unit {0}) OutOfRange) → must_show p s (built_of t l then_build difference_of f) ≡ whole_fits p s (wanted_of known (Register t) l) (kind_in Quantum f g)
   unfolding wanted_of whole_fits kind_in
@@ -62,26 +55,21 @@ module _ (p : ℕ) (s : C.Scope) (f : Form) (l : List ℤ) (known : Known) (g : 
   register_bad t Classical h = refl
   register_bad t Family h = refl
 
-  pub family_bad : (x : ℕ) (k : Kind) → refused 9 p ≡ whole_fits p s (wanted_of known (Passed x) l) k
+  pub other_bad : (w : Wanted) (k : Kind) → (w ≡ Wire → ⊥) → ((t : Result (Unit {0}) OutOfRange) → w ≡ Register t → ⊥) → refused 9 p ≡ whole_fits p s (wanted_of known w l) k
   unfolding wanted_of whole_fits
-  family_bad x k = refl
+  other_bad Wire k h q = absurd (h refl)
+  other_bad Bit k h q = refl
+  other_bad (Register t) k h q = absurd (q t refl)
+  other_bad (Passed x) k h q = refl
 
 -- the kind k of an operand whose element is due
 module _ (p : ℕ) (f : Form) (l : List ℤ) (known : Known) (g : Formal) where
-  pub element_wire : good f ≡ element_size p (wanted_of known Wire l) (kind_in Quantum f g)
-  unfolding wanted_of element_size kind_in
-  element_wire = refl
-
   pub element_no_wire : (k : K.Kind) → (k ≡ Quantum → ⊥) → refused 9 p ≡ element_size p (wanted_of known Wire l) (kind_in k f g)
   unfolding wanted_of element_size kind_in
   element_no_wire Qubit h = refl
   element_no_wire Quantum h = absurd (h refl)
   element_no_wire Classical h = refl
   element_no_wire Family h = refl
-
-  pub element_bit : good f ≡ element_size p (wanted_of known Bit l) (kind_in Classical f g)
-  unfolding wanted_of element_size kind_in
-  element_bit = refl
 
   pub element_no_bit : (k : K.Kind) → (k ≡ Classical → ⊥) → refused 9 p ≡ element_size p (wanted_of known Bit l) (kind_in k f g)
   unfolding wanted_of element_size kind_in
@@ -90,10 +78,9 @@ module _ (p : ℕ) (f : Form) (l : List ℤ) (known : Known) (g : Formal) where
   element_no_bit Classical h = absurd (h refl)
   element_no_bit Family h = refl
 
-  pub element_register : (t : Result (Unit {0}) OutOfRange) (k : Kind) → refused 9 p ≡ element_size p (wanted_of known (Register t) l) k
+  pub element_other : (w : Wanted) (k : Kind) → (w ≡ Wire → ⊥) → (w ≡ Bit → ⊥) → refused 9 p ≡ element_size p (wanted_of known w l) k
   unfolding wanted_of element_size
-  element_register t k = refl
-
-  pub element_family : (x : ℕ) (k : Kind) → refused 9 p ≡ element_size p (wanted_of known (Passed x) l) k
-  unfolding wanted_of element_size
-  element_family x k = refl
+  element_other Wire k h q = absurd (h refl)
+  element_other Bit k h q = absurd (q refl)
+  element_other (Register t) k h q = refl
+  element_other (Passed x) k h q = refl

@@ -13,8 +13,10 @@ use Rattle.language.specs.Tree.{bad_index, bad_operand}
 use Rattle.language.specs.Read.{Field, field, bad_header, choose, ending, due, outer_index, read_whole, read_element, element_of, read_slice, read_passed, read_operand}
 use Rattle.language.specs.Form.{Form}
 use Rattle.language.specs.Check.{Checked, refused, ◌>>=◌, ◌>>◌, no_leftover, in_scope, form_of, Kind, whole_fits, element_size, check_within, check_operand}
-use Rattle.fields.specs.Header.{fields_at}
-use Rattle.fields.proofs.Headers.{Wholly}
+use Rattle.fields.specs.Header.{fields_at, header_of}
+use Rattle.fields.specs.declared.Header.{Header}
+use Rattle.fields.specs.declared.NoHeader.{NoHeader}
+use Rattle.fields.proofs.Headers.{Wholly, when_whole}
 use Rattle.forms.specs.Flat.{as_form}
 use Rattle.refusals.specs.declared.Refusal.{Refusal}
 use Rattle.check_index.specs.Answers.{checked_form, PastField, checked_part}
@@ -186,3 +188,13 @@ pub second_is : (s : C.Scope) (d : C.Due) (program : List ℕ) (at from to mid :
     ≡ (check_operand s d (due read_operand (bad_operand 4 at) (fields_at program mid to)) >> no_leftover at (ending (drop 1 (fields_at program mid to))))
 second_is s d program at from to mid v =
     (λ j. check_operand s d (due read_operand (bad_operand 4 at) (v.rest j)) >> no_leftover at (ending ((drop_two (fields_at program from to) ∙ ap (drop 1) v.rest) j)))
+
+-- the field that a header stands for, and where its content lies
+pub field_whole : (program : List ℕ) (at to : ℕ) {r : Result Header NoHeader} {h : Header} → to ≤ length program → r ≡ header_of at (fields_at program at to) → r ≡ Ok h → Wholly program at to h.tag h.next
+field_whole program at to {h = h} k e q = when_whole program at to h.tag h.next k (sym e ∙ q)
+
+pub field_inside : (program : List ℕ) (at to : ℕ) {r : Result Header NoHeader} {h : Header} → to ≤ length program → r ≡ header_of at (fields_at program at to) → r ≡ Ok h → (at + 3 ≤ h.next) × (h.next ≤ length program)
+field_inside program at to k e q =
+    let w = field_whole program at to k e q in
+    let b = w.high in
+    (w.low, omega arith)

@@ -110,6 +110,3 @@ rows_set fs n i l r k = record {
         let q : i < length fs = (let y = r.enough in omega arith) in
         rw (z, get_or-set_same fs i l [] q) k
     by j h false e = rw (get_or-set_other fs i j l [] (eqb-false j i e)) (r.each j h)
-
-pub no_rows : (l : List (List ℤ)) → Rows l 0
-no_rows l = record { enough = omega arith; each = λ i h. absurd (omega arith) }

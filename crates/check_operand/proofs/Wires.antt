@@ -70,6 +70,23 @@ element_form s at n next program content l e f k =
     let q : at + 3 + 1 ≡ at + 4 = omega arith in
     subst (λ (c : List ℕ). FormOf s (read_element at c) l) (sym (e ∙ ap (λ (j : ℕ). n ∷ slice j next program) q)) (f, k)
 
+-- the operand due, by its tag
+module _ (s : C.Scope) (program : List ℕ) (at to parent tag next : ℕ) (w : Wholly program at to tag next) (r : Result ℕ Refusal) (l : List ℤ) where
+  abbrev pub Left : Type 0
+  Left = Leaves s (due read_operand (bad_operand 4 parent) (fields_at program at to)) r l
+
+  pub left_whole : tag ≡ 48 → Left
+  left_whole e = subst (λ (o : Operand). Leaves s o r l) (sym (reads_whole program at to parent tag next w e)) (leaves_form s _ r l (whole_form s at (slice (at + 3) next program) l))
+
+  pub left_element : tag ≡ 49 → Leaves s (read_element at (slice (at + 3) next program)) r l → Left
+  left_element e = subst (λ (o : Operand). Leaves s o r l) (sym (reads_element program at to parent tag next w e))
+
+  pub left_slice : tag ≡ 50 → Left
+  left_slice e = subst (λ (o : Operand). Leaves s o r l) (sym (reads_slice program at to parent tag next w e)) (leaves_form s _ r l (slice_form s at (slice (at + 3) next program) l))
+
+  pub left_passed : tag ≡ 51 → Left
+  left_passed e = subst (λ (o : Operand). Leaves s o r l) (sym (reads_passed program at to parent tag next w e)) (leaves_form s _ r l (passed_form s at (slice (at + 3) next program) l))
+
 -- ---- an operand that is right as a wire, by its bytes
 
 pub data Named (program : List ℕ) (at : ℕ) : Operand → Type 0 where

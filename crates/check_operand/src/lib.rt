@@ -5,14 +5,14 @@ ghost use Rattle.std.specs.Prelude.{◌≡◌, true, OnOk, List, ℕ, ◌+◌, �
 ghost use Rattle.std.proofs.Math.Seq.{slice};
 ghost use Rattle.language.specs.Tree.{Place, Operand, bad_operand};
 ghost use Rattle.language.specs.Read.{due, read_operand, read_whole, read_element, read_slice, read_passed};
-ghost use Rattle.language.specs.Form.{Form, built, difference_of, ◌then_build◌, shown, showing};
+ghost use Rattle.language.specs.Form.{Form, Loop, built, difference_of, ◌then_build◌, shown, showing};
 ghost use Rattle.language.specs.Check.{Formal, Kind, Signature, size_scope, element_size, room_after, by_showing, must_show, wire, whole_fits, check_within, slice_size, check_slice, slice_fits, check_operand};
 ghost use Rattle.language.specs.Limits.{most_variables, all_variables};
 ghost use Rattle.fields.specs.Header.{fields_at};
 ghost use Rattle.forms.specs.Flat.{form_numbers, Kept, Short, widened, as_form, built_of, shown_of};
 ghost use Rattle.forms.specs.Ranges.{all_loops};
-ghost use Rattle.check_operand.specs.Tables.{Known, kind_in, kind_of_row, size_of_row, scope_with};
-ghost use Rattle.check_operand.specs.Scopes.{scope_at};
+ghost use Rattle.check_operand.specs.Tables.{Known, kind_in, kind_of_row, size_of_row, tabulated, scope_with};
+ghost use Rattle.check_operand.specs.Scopes.{scope_at, Names};
 ghost use Rattle.check_operand.specs.Operands.{checked_size, shown_form, wanted_of, SizeRight, Answerable, one_wire, two_operands, Leaves, Comparable, same_by};
 ghost use Rattle.check_index.specs.Answers.{checked_part, EndsAt, Passes};
 
@@ -160,22 +160,15 @@ fn whole_fits(
     ensures result_value { (fs : List Signature) (ks : List Kind) (k : Known) (g : Formal) → checked_part result ≡ whole_fits at (scope_with fs ks ranges.now.variables (all_loops ranges.now)) (wanted_of k wanted size.now) (kind_in kind (as_form (widened own.now)) g) }
     ensures ends_at { EndsAt next result }
 {
-    match wanted {
-        Wanted::Wire => match kind {
-            kinds::Kind::Qubit => Ok(next),
-            _ => Err(Refusal(Reason::WrongKind, at)),
-        },
-        Wanted::Bit => Err(Refusal(Reason::WrongKind, at)),
-        Wanted::Register(known) => match kind {
-            kinds::Kind::Quantum => {
-                let mut room = [0i64; FORM_NUMBERS];
-                forms::load(&mut room, own);
-                let v = large_enough(known, size, &mut room, ranges);
-                answered(v, at, next)
-            }
-            _ => Err(Refusal(Reason::WrongKind, at)),
-        },
-        Wanted::Family(_) => Err(Refusal(Reason::WrongKind, at)),
+    match (wanted, kind) {
+        (Wanted::Wire, kinds::Kind::Qubit) => Ok(next),
+        (Wanted::Register(known), kinds::Kind::Quantum) => {
+            let mut room = [0i64; FORM_NUMBERS];
+            forms::load(&mut room, own);
+            let v = large_enough(known, size, &mut room, ranges);
+            answered(v, at, next)
+        }
+        _ => Err(Refusal(Reason::WrongKind, at)),
     }
 }
 
@@ -185,18 +178,26 @@ fn element_kind(wanted: Wanted, kind: kinds::Kind, at: usize, next: usize) -> Re
     ensures ends_at { EndsAt next result }
 {
     let wrong = Refusal(Reason::WrongKind, at);
-    match wanted {
-        Wanted::Wire => match kind {
-            kinds::Kind::Quantum => Ok(next),
-            _ => Err(wrong),
-        },
-        Wanted::Bit => match kind {
-            kinds::Kind::Classical => Ok(next),
-            _ => Err(wrong),
-        },
-        Wanted::Register(_) => Err(wrong),
-        Wanted::Family(_) => Err(wrong),
+    match (wanted, kind) {
+        (Wanted::Wire, kinds::Kind::Quantum) | (Wanted::Bit, kinds::Kind::Classical) => Ok(next),
+        _ => Err(wrong),
     }
+}
+
+// The row of the operand that the field at `at`, which ends at `next`, names.
+fn row_at(program: &[u8], at: usize, next: usize, scope: &Scope) -> Result<usize, Refusal>
+    requires at_bound { (at + 3 ≤ next) × (next ≤ length program.now) }
+    ensures { Names scope.now program.now at next result }
+{
+    let from = at + 3;
+    if next <= from {
+        return Err(Refusal(Reason::BadContent, at));
+    }
+    let n = usize::from(program[from]);
+    if scope.visible.count <= n {
+        return Err(Refusal(Reason::NotInScope, at));
+    }
+    Ok(scope.visible.first + n)
 }
 
 // The whole operand at `at`, whose field ends at `next`.
@@ -213,18 +214,10 @@ fn whole(
     ensures result_value { (k : Known) → checked_part result ≡ check_operand (scope_at k scope.now) (wanted_of k wanted size.now) (read_whole at (slice (at + 3) next program.now)) }
     ensures ends_at { EndsAt next result }
 {
-    let from = at + 3;
-    if next <= from {
+    let row = row_at(program, at, next, scope)?;
+    if at + 4 < next {
         return Err(Refusal(Reason::BadContent, at));
     }
-    let n = usize::from(program[from]);
-    if scope.visible.count <= n {
-        return Err(Refusal(Reason::NotInScope, at));
-    }
-    if next - from != 1 {
-        return Err(Refusal(Reason::BadContent, at));
-    }
-    let row = scope.visible.first + n;
     let number = scope.kinds[row];
     let kind = kind_by(number);
     let own = size_by(number);
@@ -253,18 +246,9 @@ fn element(
     ensures ends_at { EndsAt next result }
     ensures leaves { (k : Known) → Leaves (scope_at k scope.now) (read_element at (slice (at + 3) next program.now)) result form.new }
 {
-    let from = at + 3;
-    if next <= from {
-        return Err(Refusal(Reason::BadContent, at));
-    }
-    let n = usize::from(program[from]);
-    if scope.visible.count <= n {
-        return Err(Refusal(Reason::NotInScope, at));
-    }
-    let row = scope.visible.first + n;
-    let inner = at + 4;
+    let row = row_at(program, at, next, scope)?;
     let variables = scope.visible.variables + scope.visible.loops;
-    let end = check_index::index(program, inner, next, at, DEEPEST, variables, form)?;
+    let end = check_index::index(program, at + 4, next, at, DEEPEST, variables, form)?;
     if end < next {
         return Err(Refusal(Reason::BadContent, at));
     }
@@ -295,10 +279,7 @@ fn slice_fits(
     ensures result_value { (fs : List Signature) (ks : List Kind) (k : Known) (g : Formal) → checked_part result ≡ slice_fits at (scope_with fs ks ranges.now.variables (all_loops ranges.now)) (wanted_of k wanted size.now) (kind_in kind (as_form (widened own.now)) g) (as_form first.now) (as_form last.old) }
     ensures ends_at { EndsAt next result }
 {
-    let Wanted::Register(known) = wanted else {
-        return Err(Refusal(Reason::WrongKind, at));
-    };
-    let kinds::Kind::Quantum = kind else {
+    let (Wanted::Register(known), kinds::Kind::Quantum) = (wanted, kind) else {
         return Err(Refusal(Reason::WrongKind, at));
     };
     let v = slice_within(first, last, own, ranges);
@@ -323,20 +304,19 @@ fn part(
     ensures result_value { (k : Known) → checked_part result ≡ check_operand (scope_at k scope.now) (wanted_of k wanted size.now) (read_slice at (slice (at + 3) next program.now)) }
     ensures ends_at { EndsAt next result }
 {
-    let from = at + 3;
-    if next <= from {
-        return Err(Refusal(Reason::BadContent, at));
-    }
-    let n = usize::from(program[from]);
-    if scope.visible.count <= n {
-        return Err(Refusal(Reason::NotInScope, at));
-    }
-    let row = scope.visible.first + n;
-    let inner = at + 4;
+    let row = row_at(program, at, next, scope)?;
     let variables = scope.visible.variables + scope.visible.loops;
     let mut first = [0i64; FORM_NUMBERS];
     let mut last = [0i64; FORM_NUMBERS];
-    let end = check_index::two_indexes(program, inner, next, at, variables, &mut first, &mut last)?;
+    let end = check_index::two_indexes(
+        program,
+        at + 4,
+        next,
+        at,
+        variables,
+        &mut first,
+        &mut last,
+    )?;
     if end < next {
         return Err(Refusal(Reason::BadContent, at));
     }
@@ -366,7 +346,7 @@ fn misplaced(
 ) -> Result<usize, Refusal>
     requires at_bound { (at + 3 ≤ next) × (next ≤ length program.now) }
     requires answerable { Answerable wanted (read_passed at (slice (at + 3) next program.now)) }
-    ensures result_value { (k : Known) (l : List ℤ) → checked_part result ≡ check_operand (scope_at k scope.now) (wanted_of k wanted l) (read_passed at (slice (at + 3) next program.now)) }
+    ensures result_value { (k : Known) (l : List ℤ) (ks : List Kind) (m : ℕ) (ls : List Loop) → checked_part result ≡ check_operand (scope_with (tabulated k.declared scope.now.visible.families 0) ks m ls) (wanted_of k wanted l) (read_passed at (slice (at + 3) next program.now)) }
     ensures ends_at { EndsAt next result }
 {
     let from = at + 3;

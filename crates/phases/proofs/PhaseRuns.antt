@@ -13,7 +13,7 @@ use lib.Signed.{lt_z}
 use Rattle.std.specs.Prelude.{Result, Ok, Err}
 use Rattle.language.specs.Tree.{Place, bad_index, bad_operand}
 use Rattle.language.specs.Read.{Field, fields, due, operand_due, read_operand, outer_index}
-use Rattle.language.specs.Machine.{Run, Frame, Direction, written, do_cx, end_at, no_meaning, after, ◌>>=◌, evaluate, natural_of, halvings, do_phase, do_cphase, run_phase, run_cphase}
+use Rattle.language.specs.Machine.{Run, Frame, Direction, written, do_cx, no_meaning, after, ◌>>=◌, evaluate, natural_of, halvings, do_phase, do_cphase, run_phase, run_cphase}
 use Rattle.language.specs.Result.{op, first_number, second_number, halvings_of}
 use Rattle.language.proofs.Integers.{integers}
 use Rattle.fields.specs.declared.NoHeader.{NoHeader}
@@ -25,8 +25,6 @@ use Rattle.indexes.proofs.Operations.{part_none}
 use Rattle.operands.specs.Meanings.{the_wire}
 use Rattle.records.specs.declared.State.{State}
 use Rattle.records.specs.declared.Stop.{Stop}
-use Rattle.records.specs.declared.Op.{Op}
-use Rattle.records.specs.declared.Op.TheVariants.{Cx}
 use Rattle.records.specs.Outcomes.{op_number, Does, ActionNumbers}
 use Rattle.gates.specs.declared.Mode.{Mode}
 use Rattle.gates.specs.Gates.{direction_of, gate_for, code_of, on_wire, on_two_wires, OnWires, gate_by}

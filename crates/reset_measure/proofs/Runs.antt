@@ -8,7 +8,7 @@ use lib.IntN.{ℤ}
 use Rattle.std.specs.Prelude.{Result, Ok, Err}
 use Rattle.language.specs.Tree.{Place, bad_operand}
 use Rattle.language.specs.Read.{fields, due, read_operand, operand_due}
-use Rattle.language.specs.Machine.{Meaning, Run, Direction, Condition, end_at, no_meaning, after, ◌>>=◌, write}
+use Rattle.language.specs.Machine.{Meaning, Run, Direction, Condition, no_meaning, after, ◌>>=◌, write}
 use Rattle.fields.specs.declared.NoHeader.{NoHeader}
 use Rattle.indexes.specs.declared.Fault.{Fault}
 use Rattle.indexes.specs.Values.{fault_told}

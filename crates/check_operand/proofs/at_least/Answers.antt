@@ -6,13 +6,6 @@ use Rattle.forms.specs.Flat.{as_form, built_of}
 use Rattle.forms.specs.Rows.{loops_of}
 use Rattle.check_operand.proofs.at_least.Goals as goal
 
-pub large_enough-requires : goal.large_enough-requires
-large_enough-requires c =
-    record {
-      kept = c.load-2.ensures.kept;
-      kept_2 = c.load.ensures.kept;
-    }
-
 pub returns : goal.returns
 unfolding must_show ◌then_build◌ built_of loops_of
 returns c =

@@ -2,13 +2,6 @@
 use Rattle.check_operand.specs.Operands.{wanted_of}
 use Rattle.check_operand.proofs.two_wires.Goals as goal
 
-pub two_operands-requires : goal.two_operands-requires
-two_operands-requires c =
-    record {
-      next_in_bounds = c.requires.next_in_bounds;
-      answerable = (λ l. tt, λ o. tt);
-    }
-
 pub returns : goal.returns
 unfolding wanted_of
 returns c =

@@ -1,7 +1,7 @@
 -- `gates::repeats_of` meets its contract. Assumes nothing.
-use mathlib.Core.Path.{◌≡◌, refl, ◌∙◌, ap, sym}
+use mathlib.Core.Path.{◌≡◌, ◌∙◌, ap}
 use mathlib.Core.Bool.{true}
-use Rattle.std.specs.Prelude.{Ok, Err}
+use Rattle.std.specs.Prelude.{Ok}
 use lib.ListN.{take}
 use lib.IntN.{◌-ℤ◌}
 use Rattle.language.specs.Form.{in_range}

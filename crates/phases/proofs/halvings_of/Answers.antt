@@ -1,7 +1,7 @@
 -- `phases::halvings_of` meets its contract. Assumes nothing.
 use mathlib.Core.Path.{◌≡◌, ◌∙◌, sym}
 use mathlib.Core.Bool.{false}
-use Rattle.std.specs.Prelude.{Ok, Err}
+use Rattle.std.specs.Prelude.{Ok}
 use lib.ListN.{take}
 use lib.Seq.{slice}
 use lib.IntN.{pos, nat_abs}
@@ -10,7 +10,7 @@ use Rattle.language.proofs.Integers.{range_back}
 use Rattle.refusals.proofs.Handed.{handed}
 use Rattle.indexes.specs.Values.{IndexAt}
 use Rattle.indexes.proofs.Operations.{index_ranged}
-use Rattle.operands.proofs.Meanings.{natural_fits, natural_is}
+use Rattle.operands.proofs.Meanings.{natural_is}
 use Rattle.phases.proofs.PhaseRuns.{no_value, no_field, below_none, are}
 use Rattle.phases.proofs.halvings_of.Goals as goal
 

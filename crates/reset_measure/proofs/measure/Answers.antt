@@ -1,7 +1,6 @@
 -- `reset_measure::measure` meets its contract. Assumes nothing.
 use mathlib.Core.Path.{refl, ◌∙◌, sym}
 use Rattle.std.proofs.Common.{rules}
-use Rattle.std.specs.Prelude.{Err}
 use lib.ListN.{length, take}
 use lib.Seq.{slice}
 use Rattle.operands.specs.Meanings.{operands_of, the_wire, the_bit, WireAt, BitAt}

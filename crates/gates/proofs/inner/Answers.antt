@@ -1,2 +1,0 @@
--- `gates::inner` meets its contract. Assumes nothing.
-use Rattle.gates.proofs.inner.Goals as goal
