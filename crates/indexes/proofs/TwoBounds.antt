@@ -1,7 +1,7 @@
 -- Two bounds in a row. Assumes nothing.
 use Prim.Native.Nat.{ℕ, ◌+◌, ◌-◌, ◌≤◌}
 use mathlib.Core.Path.{◌≡◌, refl, sym, ap, ◌∙◌, fun_ext}
-use mathlib.Core.List.{List, [], ◌∷◌}
+use mathlib.Core.List.{List}
 use native.Mathlib.Omega.{arith}
 use lib.ListN.{drop}
 use lib.Seq.{slice, drop-drop}
@@ -14,11 +14,11 @@ use Rattle.fields.specs.declared.NoHeader.{NoHeader}
 use Rattle.indexes.specs.declared.Fault.{Fault}
 use Rattle.indexes.specs.declared.Fault.TheVariants.{Stuck}
 use Rattle.indexes.specs.declared.Bounds.{Bounds}
-use Rattle.indexes.specs.Values.{fault_told, value_told, IndexAt}
+use Rattle.indexes.specs.Values.{value_told, IndexAt}
 use Rattle.indexes.specs.Bounds.{bounding, Behind, BehindBounds, both, Bounded}
 use Rattle.fields.proofs.Between.{look_in, in_whole}
 use Rattle.indexes.proofs.Leaves.{fault_on}
-use Rattle.indexes.proofs.Operations.{part_none, index_ranged, index_none}
+use Rattle.indexes.proofs.Operations.{index_ranged, index_none}
 
 module _ (l : List ℕ) (from to : ℕ) (values : List ℤ) where
   pub bounds_low : (f : Fault) → IndexAt (slice from to l) 0 values (Err f) → Bounded l from to values (Err f)

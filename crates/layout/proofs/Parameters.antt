@@ -23,11 +23,9 @@ use Rattle.operands.specs.declared.Wire.{Wire}
 use Rattle.operands.specs.declared.Operand.{Operand}
 use Rattle.operands.specs.declared.Operand.TheVariants.{Single, Register}
 use Rattle.std.specs.Prelude.{Result, Ok, Err}
-use Rattle.refusals.specs.declared.Reason.{Reason}
 use Rattle.refusals.specs.declared.Reason.TheVariants.{TooManyWires, IndexOutOfRange}
 use Rattle.indexes.specs.declared.Fault.{Fault}
 use Rattle.indexes.specs.declared.Fault.TheVariants as faults
-use Rattle.operands.specs.declared.Scope.{Scope}
 use Rattle.indexes.specs.Values.{fault_told, value_told, IndexAt}
 use Rattle.operands.specs.declared.Parameter.{Parameter}
 use Rattle.fields.specs.declared.NoHeader.{NoHeader}

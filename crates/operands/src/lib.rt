@@ -250,6 +250,7 @@ pub fn meaning_of(
 }
 
 // The wire that an operand stands for.
+#[tactic(auto, using(crate::proofs::Meanings::no_wire), unfolding(crate::specs::Meanings::wire_told, crate::specs::Meanings::stood, indexes::specs::Values::fault_told, language::specs::Machine::as_wire))]
 fn as_wire(s: Meaning) -> Result<Wire, Fault>
     ensures { AsWire s result }
 {
@@ -292,6 +293,7 @@ pub fn wire_at(
 }
 
 // The bit that an operand stands for.
+#[tactic(auto, using(crate::proofs::Meanings::no_bit), unfolding(crate::specs::Meanings::bit_told, crate::specs::Meanings::stood, indexes::specs::Values::fault_told, language::specs::Machine::as_bit))]
 fn as_bit(s: Meaning) -> Result<Bit, Fault>
     ensures { AsBit s result }
 {

@@ -1,12 +1,10 @@
 -- The cycle of calls meets its contracts. Assumes nothing.
-use Prim.Native.Nat.{◌+◌, ◌-◌, ◌≤◌, ◌<◌}
-use mathlib.Core.Path.{◌≡◌, sym, ◌∙◌}
+use mathlib.Core.Path.{sym, ◌∙◌}
 use native.Mathlib.Omega.{arith}
 use lib.ListN.{take}
 use lib.Seq.{slice}
 use Rattle.std.proofs.lemmas.Result.{err_from_is_err_and}
-use Rattle.std.specs.Prelude.{Ok, Err}
-use Rattle.indexes.specs.Values.{IndexIs, OperateIs}
+use Rattle.indexes.specs.Values.{OperateIs}
 use Rattle.fields.proofs.Between.{in_whole}
 use Rattle.indexes.proofs.Operations.{at_other, combined_none, combined_left, combined_cut, combined_right, combined_both, is_ranged, at_deepest, at_literal, at_variable}
 use Rattle.language.proofs.Integers.{range_back}

@@ -1,5 +1,4 @@
 -- `layout::lay_out` meets its contract. Assumes nothing.
-use Prim.Native.Nat.{◌-◌}
 use lib.ListN.{take}
 use Rattle.layout.proofs.Parameters.{Laying}
 use Rattle.layout.proofs.lay_out.Given as goal

@@ -1,5 +1,4 @@
 -- `layout::read_sizes` meets its contract. Assumes nothing.
-use Prim.Native.Nat.{◌-◌}
 use Rattle.layout.proofs.SizeBytes.{Sizing}
 use Rattle.layout.proofs.read_sizes.Given as goal
 

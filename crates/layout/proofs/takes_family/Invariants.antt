@@ -1,5 +1,5 @@
 -- `layout::takes_family` meets its contract. Assumes nothing.
-use Prim.Native.Nat.{◌-◌, ◌≤◌}
+use Prim.Native.Nat.{◌≤◌}
 use Rattle.layout.proofs.FamilyTypes.{FamilyLeft}
 use Rattle.layout.proofs.takes_family.Given as goal
 

@@ -1,14 +1,12 @@
 -- `operands::bit_at` meets its contract. Assumes nothing.
 use borrow.Author.Rules.{rules}
-use Prim.Native.Nat.{◌+◌, ◌<◌, ◌≤◌}
 use native.Mathlib.Omega.{arith}
-use lib.ListN.{length, get_or, take}
-use lib.Seq.{slice}
-use mathlib.Core.Path.{◌≡◌, ◌∙◌, sym}
+use lib.ListN.{take}
+use mathlib.Core.Path.{◌∙◌, sym}
 use Rattle.std.proofs.lemmas.Result.{err_from_is_err_and}
-use Rattle.fields.proofs.Between.{in_whole, not_empty, first_byte}
+use Rattle.fields.proofs.Between.{in_whole}
 use Rattle.operands.specs.Meanings.{operands_of}
-use Rattle.operands.proofs.OperandFields.{bit_none, bit_some, bit_fault, whole_operand}
+use Rattle.operands.proofs.OperandFields.{bit_none, bit_some, bit_fault}
 use Rattle.operands.proofs.bit_at.Goals as goal
 
 pub returns-in_err-header : goal.returns-in_err-header

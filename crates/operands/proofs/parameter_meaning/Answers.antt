@@ -1,9 +1,8 @@
 -- `operands::parameter_meaning` meets its contract. Assumes nothing.
 use native.Mathlib.Omega.{arith}
-use mathlib.Core.Path.{◌≡◌, ◌∙◌, ap, sym}
+use mathlib.Core.Path.{◌∙◌, ap, sym}
 use Rattle.language.specs.Machine.{found, give}
-use Rattle.operands.specs.Meanings.{parameter_of, stood, meaning_told}
-use Rattle.operands.specs.declared.Operand.{Operand}
+use Rattle.operands.specs.Meanings.{parameter_of, meaning_told}
 use Rattle.operands.specs.declared.Operand.TheVariants.{Single, Register, Family}
 use Rattle.operands.proofs.Meanings.{parameter_at, parameter_out, nothing, parameter_answer_lem}
 use Rattle.operands.proofs.parameter_meaning.Goals as goal
