@@ -16,14 +16,14 @@ use Rattle.check_call.specs.Scopes.{formals_of, scope_full}
 use Rattle.check_call.proofs.Calls.{next_operand, last_operand, more_than_operands}
 use Rattle.check_call.proofs.call_operands.Goals as goal
 
-pub returns-in_err-next : goal.returns-in_err-next
-returns-in_err-next c =
+pub returns-in_err-from : goal.returns-in_err-from
+returns-in_err-from c =
     let a = c.args in
     let full = a.full.now in
     let i = c.loop-j in
     let row = λ (x : ℕ). kind_at (formals_of full) x full.scope.kinds.now full.scope.sizes.now in
     rw (handed c.from_residual.result c.from_residual.ensures.1) (record {
-      result_value = part_stops c.call_operand.result _ _ c.call_operand.ensures.result_value c.in_err-next.was
+      result_value = part_stops c.call_operand.result _ _ c.call_operand.ensures.result_value c.in_err-from.was
           ∙ sym (next_operand (scope_full full) a.parent a.before (forms_of a.m a.forms.now) row a.count a.first i.j a.program.now i.from a.to c.loop-j-test.true c.requires.to_in_bounds)
           ∙ sym i.invariant.1;
       ends_at = tt;
@@ -39,13 +39,13 @@ loop-j-preserved c =
     let gs = forms_of a.m a.forms.now in
     let row = λ (x : ℕ). kind_at (formals_of full) x full.scope.kinds.now full.scope.sizes.now in
     let ks = drop (suc i.j) (tabulated row a.count a.first) in
-    let next = c.in_ok-next.next in
-    let v = passes_upto program i.from a.to c.call_operand.result next c.in_ok-next.was c.call_operand.ensures.passes in
+    let next = c.in_ok-from.from in
+    let v = passes_upto program i.from a.to c.call_operand.result next c.in_ok-from.was c.call_operand.ensures.passes in
     let h = c.loop-j-test.true in (
       omega arith,
       (i.invariant.1
           ∙ next_operand s a.parent a.before gs row a.count a.first i.j program i.from a.to h c.requires.to_in_bounds
-          ∙ part_goes c.call_operand.result _ c.call_operand.ensures.result_value next _ c.in_ok-next.was
+          ∙ part_goes c.call_operand.result _ c.call_operand.ensures.result_value next _ c.in_ok-from.was
           ∙ rw add-one (ap (λ (l : List Field). call_operands s a.parent a.before gs ks (map read_argument l)) v.rest)),
     )
 
