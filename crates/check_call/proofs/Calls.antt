@@ -24,7 +24,6 @@ use Rattle.check_operand.specs.Tables.{kind_in, tabulated}
 use Rattle.check_index.specs.Answers.{checked_part, Beyond}
 use Rattle.check_call.specs.Calls.{call_operand, checked_forms}
 use Rattle.std.specs.Prelude.{Result, Ok, Err}
-use Rattle.refusals.specs.Reasons.{number_of}
 use Rattle.refusals.specs.declared.Refusal.{Refusal}
 use Rattle.check_operand.proofs.Tables.{length_rows}
 use Rattle.kinds.specs.declared.Kind as K

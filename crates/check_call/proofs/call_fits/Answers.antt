@@ -1,7 +1,6 @@
 -- `check_call::call_fits` meets its contract. Assumes nothing.
 use mathlib.Core.Path.{◌∙◌}
 use mathlib.Core.List.{[], map}
-use native.Mathlib.Omega.{arith}
 use lib.ListN.{get_or}
 use Rattle.refusals.proofs.Handed.{handed}
 use Rattle.language.specs.Read.{read_argument}
@@ -16,14 +15,8 @@ use Rattle.check_index.proofs.Answers.{count_upto}
 use Rattle.check_call.proofs.Forms.{four_rows}
 use Rattle.check_call.proofs.call_fits.Goals as goal
 
-pub call_forms-requires : goal.call_forms-requires
-call_forms-requires c =
-    let d = c.args.full.now.families_right.rows.each c.args.row in
-    record {
-      to_in_bounds = c.requires.next_in_bounds;
-      m_le_most_variables = omega (arith, d.few, c.from-m.ensures);
-      rows = four_rows;
-    }
+pub call_forms-requires-clause-rows : goal.call_forms-requires-clause-rows
+call_forms-requires-clause-rows c = four_rows
 
 pub returns-in_err-mid : goal.returns-in_err-mid
 returns-in_err-mid c =
@@ -40,16 +33,6 @@ returns-in_err-mid c =
     let ks = kinds_at formals v.count v.first kinds sizes in
     let l = c.call_forms.new.forms in
     rw (handed c.from_residual.result c.from_residual.ensures.1) (fits_stops s a.at a.before a.from program a.next (signature_in formals (get_or full.families.now a.row []) kinds sizes) c.call_forms.result l c.from-m.result c.from-m.ensures (c.call_forms.ensures.forms_after fs ks) c.in_err-mid.was)
-
-pub call_operands-requires : goal.call_operands-requires
-call_operands-requires c =
-    let d = c.args.full.now.families_right.rows.each c.args.row in
-    record {
-      to_in_bounds = c.requires.next_in_bounds;
-      m_le_most_variables = omega (arith, d.few, c.from-m.ensures);
-      rows = c.call_forms.ensures.rows_2;
-      count_in_bounds = omega (arith, d.inside, c.from-count.ensures, c.from-first.ensures);
-    }
 
 pub returns : goal.returns
 returns c =

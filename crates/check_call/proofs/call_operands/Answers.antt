@@ -20,22 +20,6 @@ use Rattle.check_call.specs.Calls.{call_operand}
 use Rattle.check_call.specs.Scopes.{formals_of, scope_full}
 use Rattle.check_call.proofs.call_operands.Goals as goal
 
-pub loop-j-init : goal.loop-j-init
-loop-j-init c =
-    (omega arith, refl)
-
-pub call_operand-requires : goal.call_operand-requires
-call_operand-requires c =
-    let a = c.args in
-    let t = c.args.full.now.scope.right in
-    record {
-      to_in_bounds = c.requires.to_in_bounds;
-      m_le_most_variables = c.requires.m_le_most_variables;
-      rows = c.requires.rows;
-      number_in_bounds = t.named (a.first + c.loop-j.j);
-      number_in_bounds_2 = c.args.full.now.families_right.rows.formals (a.first + c.loop-j.j);
-    }
-
 pub returns-in_err-next : goal.returns-in_err-next
 returns-in_err-next c =
     let a = c.args in

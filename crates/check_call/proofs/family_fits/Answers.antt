@@ -2,7 +2,6 @@
 use mathlib.Core.Path.{sym, ◌∙◌}
 use mathlib.Core.List.{[]}
 use Prim.Native.Nat.{ℕ, ◌+◌}
-use native.Mathlib.Omega.{arith}
 use lib.ListN.{get_or}
 use Rattle.language.specs.Check.{same_kinds, sizes_fit}
 use Rattle.check_index.specs.Answers.{checked_part}
@@ -42,16 +41,6 @@ returns-then-wanted-given-2 c =
       ends_at = tt;
     }
 
-pub same_kinds-requires : goal.same_kinds-requires
-same_kinds-requires c =
-    let a = c.args in
-    let r = c.args.full.now.families_right.rows in
-    let e = c.if-wanted-given-2.false in
-    record {
-      count_in_bounds = omega (arith, (r.each (4096 + a.formal)).inside, c.from-count.ensures, c.from-f.ensures);
-      count_in_bounds_2 = omega (arith, (r.each a.n).inside, c.from-count.ensures, c.from-a.ensures);
-    }
-
 pub returns-then-not-same_kinds : goal.returns-then-not-same_kinds
 unfolding checked_part
 returns-then-not-same_kinds c =
@@ -66,17 +55,6 @@ returns-then-not-same_kinds c =
     record {
       result_value = fits_kinds a.at (formals a.formal) (declared a.n) c.if-wanted-given.false (same ∙ c.if-not-same_kinds.true);
       ends_at = tt;
-    }
-
-pub sizes_fit-requires : goal.sizes_fit-requires
-sizes_fit-requires c =
-    let a = c.args in
-    let r = c.args.full.now.families_right.rows in
-    let e = c.if-wanted-given-2.false in
-    record {
-      count_in_bounds = omega (arith, (r.each (4096 + a.formal)).inside, c.from-count.ensures, c.from-f.ensures);
-      count_in_bounds_2 = omega (arith, (r.each a.n).inside, c.from-count.ensures, c.from-a.ensures);
-      m_le_most_variables = omega (arith, (r.each (4096 + a.formal)).few, c.from.ensures);
     }
 
 pub returns : goal.returns

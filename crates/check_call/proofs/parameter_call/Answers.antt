@@ -3,7 +3,6 @@ use mathlib.Core.Path.{sym, ap, ◌∙◌}
 use mathlib.Core.List.{[], map}
 use mathlib.Core.Option.{some}
 use Prim.Native.Nat.{ℕ, ◌+◌}
-use native.Mathlib.Omega.{arith}
 use lib.ListN.{get_or}
 use Rattle.language.specs.Read.{read_argument}
 use Rattle.language.specs.Check.{call_fits}
@@ -45,13 +44,6 @@ returns-in_default c =
     let size = as_form (widened (get_or sizes (size_of_row number) [])) in
     let g = formals (size_of_row number) in
     parameter_other s a.at a.n (fields_at a.program.now a.from a.next) c.kind_by.result size g (kinds_get formals v.count v.first a.n kinds sizes c.if-full-n.false ∙ ap (λ (k : K.Kind). some (kind_in k size g)) (sym c.kind_by.ensures)) c.in_default.not-Family
-
-pub call_fits-requires : goal.call_fits-requires
-call_fits-requires c =
-    record {
-      next_in_bounds = c.requires.next_in_bounds;
-      row_in_bounds = omega (arith, c.size_by-row.ensures, c.args.full.now.families_right.rows.formals (c.args.full.now.scope.visible.first + c.args.n));
-    }
 
 pub returns : goal.returns
 returns c =

@@ -133,15 +133,6 @@ returns-in_default c =
       ends_at = tt;
     }
 
-pub family_fits-requires : goal.family_fits-requires
-family_fits-requires c =
-    let f = c.args.full.now.families_right.few in
-    let b = c.if-full-named.false in
-    record {
-      n_lt_most_families = omega arith;
-      formal_in_bounds = omega (arith, c.requires.number_in_bounds, c.size_by-formal.ensures);
-    }
-
 pub returns : goal.returns
 returns c =
     let a = c.args in
