@@ -5,9 +5,6 @@ use mathlib.Core.Path.{◌≡◌, sym, ap, ◌∙◌}
 use mathlib.Core.List.{List, [], ◌∷◌, map}
 use mathlib.Core.Bool.{true}
 use mathlib.Core.Option.{some}
-use mathlib.Core.Logic.{⊎_elim}
-use types.Run.{OneOf}
-use denote.Enum.Declared.{tag_of}
 use borrow.Author.Tests.{eq-eqb}
 use lib.IntN.{ℤ, pos}
 use lib.ListN.{length, get_or}
@@ -22,29 +19,22 @@ use Rattle.fields.specs.Table.{past_of, Listed}
 use Rattle.calls.specs.Families.{FamilyHead, Entry, declared_at}
 use Rattle.calls.proofs.CallByNumber.{declared_at_lem}
 use Rattle.calls.proofs.FamilyTable.{tabled}
-use Rattle.layout.specs.declared.Laid.{Laid}
-use Rattle.layout.specs.declared.Sizes.{Sizes}
-use Rattle.layout.specs.declared.Sizes.TheVariants.{Fit, WrongLength, TooLarge}
+use Rattle.std.specs.Prelude.{Result, Ok}
+use Rattle.operands.specs.declared.Scope.{Scope}
+use Rattle.layout.specs.declared.Unlaid.{Unlaid}
 use Rattle.layout.specs.Layout.{laid, LaysOut}
 use Rattle.layout.specs.Sizes.{sizes_tested}
-use Rattle.layout.specs.contracts.Sizes.{the_type as sizes-type}
 use Rattle.runs.specs.Whole.{Acceptable}
 use Rattle.runs.proofs.InstanceRuns.{no_family_lem}
 use Rattle.laid_out.specs.Numbers.{WiresAt, WireCount}
 
--- the other answers are not that the sizes fit
-pub sizes_unfit : (r : Sizes) → OneOf (1 ∷ 2 ∷ []) (tag_of sizes-type r) → r ≡ Fit → ⊥
-sizes_unfit Fit h e = ⊎_elim (λ z. omega arith) (λ z. omega arith) h
-sizes_unfit WrongLength h e = let z : ◌≡◌ {A = ℕ} 0 1 = cc in omega arith
-sizes_unfit TooLarge h e = let z : ◌≡◌ {A = ℕ} 0 1 = cc in omega arith
-
 -- sizes that suit fit
-pub sizes_suit : (m : ℕ) (bytes : List ℕ) → length bytes ≡ 4 * m → all_sizes_fit (four_bytes bytes) ≡ true → sizes_tested m bytes ≡ Fit
+pub sizes_suit : (m : ℕ) (bytes : List ℕ) → length bytes ≡ 4 * m → all_sizes_fit (four_bytes bytes) ≡ true → sizes_tested m bytes ≡ Ok tt
 unfolding sizes_tested
 sizes_suit m bytes h k = rw (eq-eqb (length bytes) (4 * m) h, k)
 
 -- the wires of a layout are those of the family whose types are laid out
-pub laid_wires : (l : List ℕ) (at : ℕ) (values : List ℤ) (r : Laid) → LaysOut (slice (at + 5) (past_of l at) l) (at + 5) (get_or l (at + 4) 0) values r
+pub laid_wires : (l : List ℕ) (at : ℕ) (values : List ℤ) (r : Result Scope Unlaid) → LaysOut (slice (at + 5) (past_of l at) l) (at + 5) (get_or l (at + 4) 0) values r
     → wires_laid (laid r begin) ≡ wires_of (some (declared_at l at)) values
 unfolding wires_of
 laid_wires l at values r w = ap (λ (run : Run (List Meaning)). wires_laid (run begin)) (w.same at)

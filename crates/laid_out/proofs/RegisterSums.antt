@@ -4,8 +4,6 @@ use native.Mathlib.Nat.{zero-add, add-zero}
 use native.Mathlib.Omega.{arith}
 use mathlib.Core.Path.{◌≡◌, refl, ap}
 use mathlib.Core.List.{List, [], ◌∷◌, map}
-use types.Run.{OneOf}
-use denote.Enum.Declared.{tag_of}
 use borrow.Author.Tests.{ne_eqb}
 use lib.ListN.{length, get_or}
 use lib.Seq.{slice}
@@ -14,10 +12,11 @@ use Rattle.language.specs.Read.{Field, field, bad_header, Reader, of_fields, two
 use Rattle.language.specs.Sound.{qubits_of, bits_of, qubits_in, bits_in, qubits_declared, bits_declared}
 use Rattle.language.proofs.ReadLaws.{AllRows, choose_all}
 use Rattle.fields.specs.declared.Header.{Header}
-use Rattle.fields.specs.declared.Header.TheVariants.{Whole, End, Cut}
-use Rattle.fields.specs.contracts.Header.{the_type}
+use Rattle.std.specs.Prelude.{Result, Ok, Err}
+use Rattle.fields.specs.declared.NoHeader.{NoHeader}
+use Rattle.fields.specs.declared.NoHeader.TheVariants.{End, Cut}
 use Rattle.fields.proofs.Headers.{one_byte, when_whole, when_end, when_cut}
-use Rattle.fields.proofs.Parts.{look, rest_is, not_first}
+use Rattle.fields.proofs.Parts.{look, rest_is}
 use Rattle.operands.specs.Meanings.{locations}
 use Rattle.runs.specs.Whole.{tops_at}
 use Rattle.laid_out.specs.Numbers.{size_said, Counts}
@@ -95,19 +94,19 @@ module _ (l : List ℕ) where
 
   module _ (at qubits bits : ℕ) (s : Summed l at qubits bits) where
     -- no field is left
-    pub summed_end : OneOf (1 ∷ 2 ∷ []) (tag_of the_type (look l at)) → Counts l (record { qubits = qubits; bits = bits })
+    pub summed_end : ((f : Header) → look l at ≡ Ok f → ⊥) → Counts l (record { qubits = qubits; bits = bits })
     unfolding qubits_in bits_in read_top qubits_of bits_of
-    summed_end h = go (look l at) refl h
+    summed_end h = go (look l at) refl
       where
         none : (fs : List Field) → qubits_in (map read_top fs) ≡ 0 → bits_in (map read_top fs) ≡ 0 → tops_at l at ≡ map read_top fs → Counts l (record { qubits = qubits; bits = bits })
         none fs q b e = record { qubits = omega (arith, s.qubit_sum, ap qubits_in e, q); bits = omega (arith, s.bit_sum, ap bits_in e, b) }
 
-        go : (f : Header) → look l at ≡ f → OneOf (1 ∷ 2 ∷ []) (tag_of the_type f) → Counts l (record { qubits = qubits; bits = bits })
-        go (Whole tag next) e h = absurd (not_first h)
-        go End e h = none [] refl refl (ap (map read_top) (when_end l at (length l) (omega arith) e))
-        go Cut e h = none (bad_header at ∷ []) refl refl (ap (map read_top) (when_cut l at (length l) (omega arith) e))
+        go : (f : Result Header NoHeader) → look l at ≡ f → Counts l (record { qubits = qubits; bits = bits })
+        go (Ok f) e = absurd (h f e)
+        go (Err End) e = none [] refl refl (ap (map read_top) (when_end l at (length l) (omega arith) e))
+        go (Err Cut) e = none (bad_header at ∷ []) refl refl (ap (map read_top) (when_cut l at (length l) (omega arith) e))
 
-    module _ (tag next : ℕ) (e : look l at ≡ Whole tag next) where
+    module _ (tag next : ℕ) (e : look l at ≡ Ok (record { tag = tag; next = next })) where
       -- a field that adds so many
       added : (q b : ℕ) → q ≤ locations → b ≤ locations → Adds q b (read_top (field at tag (slice (at + 3) next l))) → Summed l next (qubits + q) (bits + b)
       unfolding qubits_in bits_in

@@ -5,20 +5,17 @@ use native.Mathlib.Numerals.{add-one}
 use native.Mathlib.Omega.{arith}
 use mathlib.Core.Path.{◌≡◌, refl, ap, ◌∙◌}
 use mathlib.Core.List.{List, [], ◌∷◌, map}
-use mathlib.Core.Logic.{⊎_elim}
-use types.Run.{OneOf}
-use denote.Enum.Declared.{tag_of}
 use lib.ListN.{length, take, drop, get_or, length-take, drop_of_length-le}
 use lib.Seq.{drop-cons, get_or-take}
 use Rattle.language.specs.Machine.{Meaning, a_wire, a_bit, wires, bits, the_family, begin}
 use Rattle.language.specs.Sound.{wires_in, wires_laid}
 use Rattle.operands.specs.declared.Parameter.{Parameter}
 use Rattle.operands.specs.Meanings.{locations, of_parameter}
-use Rattle.layout.specs.declared.Layout.{Layout}
-use Rattle.layout.specs.declared.Layout.TheVariants.{Done, Past, Over, Stuck}
-use Rattle.layout.specs.declared.Laid.{Laid}
-use Rattle.layout.specs.Layout.{came_out, laid}
-use Rattle.layout.specs.contracts.Layout.{the_type as layout-type}
+use Rattle.operands.specs.declared.Scope.{Scope}
+use Rattle.std.specs.Prelude.{Result, Ok, Err}
+use Rattle.layout.specs.declared.Unlaid.{Unlaid}
+use Rattle.layout.specs.declared.Unlaid.TheVariants.{Refused, Stuck}
+use Rattle.layout.specs.Layout.{laid}
 
 -- the wires of the first of some operands, and those of the others
 wires_first : (m : Meaning) (ms : List Meaning) → wires_in (m ∷ ms) ≡ wires_in (m ∷ []) + wires_in ms
@@ -63,18 +60,11 @@ module _ (params : List Parameter) (count : ℕ) where
 -- ---- the layout
 
 -- a layout that ends lays nothing out
-ends_none : (x : Layout) (ms : List Meaning) → OneOf (1 ∷ 2 ∷ 3 ∷ []) (tag_of layout-type x) → 0 ≡ wires_laid (came_out x ms begin)
-unfolding came_out wires_laid
-ends_none Done ms h = absurd (⊎_elim (λ z. omega arith) (⊎_elim (λ z. omega arith) (λ z. omega arith)) h)
-ends_none (Past p) ms h = refl
-ends_none (Over p) ms h = refl
-ends_none Stuck ms h = refl
+pub laid_none : (u : Unlaid) → 0 ≡ wires_laid (laid (Err u) begin)
+unfolding laid wires_laid
+laid_none (Refused e p) = refl
+laid_none Stuck = refl
 
-module _ (r : Laid) where
-  pub laid_none : OneOf (1 ∷ 2 ∷ 3 ∷ []) (tag_of layout-type r.answer) → 0 ≡ wires_laid (laid r begin)
-  unfolding laid
-  laid_none h = ends_none r.answer _ h
-
-  pub laid_done : r.answer ≡ Done → wires_in (map of_parameter (take r.scope.count r.scope.params)) ≡ wires_laid (laid r begin)
-  unfolding laid came_out wires_laid
-  laid_done e = rw e
+pub laid_done : (s : Scope) → wires_in (map of_parameter (take s.count s.params)) ≡ wires_laid (laid (Ok s) begin)
+unfolding laid wires_laid
+laid_done s = refl

@@ -94,9 +94,9 @@ fn wires_at(program: &[u8], at: usize, sizes: &[u8]) -> usize
 {
     let many = usize::from(program[at + 3]);
     let mut values = [0i32; VALUES];
-    if layout::read_sizes(sizes, many, &mut values).is_err() {
+    let Ok(()) = layout::read_sizes(sizes, many, &mut values) else {
         return 0;
-    }
+    };
     let to = calls::past(program, at);
     let from = at + 5;
     let count = usize::from(program[at + 4]);

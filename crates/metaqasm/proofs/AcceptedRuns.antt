@@ -18,8 +18,10 @@ use Rattle.language.proofs.Refusals.{accepted}
 use Rattle.language.specs.Theorem.{Reports, InstanceAnswers}
 use Rattle.language.proofs.Theorem.{run_theorem, instance_theorem, reported_sound}
 use Rattle.language.proofs.Soundness.{instance_sound, instance_passed, run_refused, instance_refused, run_never_stuck, instance_never_stuck}
-use Rattle.records.specs.declared.Answer.{Answer}
-use Rattle.records.specs.declared.Answer.TheVariants.{Going, Ended, Stuck}
+use Rattle.std.specs.Prelude.{Result as CodeResult, Ok, Err}
+use Rattle.records.specs.declared.State.{State}
+use Rattle.records.specs.declared.Stop.{Stop}
+use Rattle.records.specs.declared.Stop.TheVariants.{Ended, Stuck}
 use Rattle.runs.specs.Whole.{Acceptable}
 use Rattle.runs.specs.Conclusions.{concluded}
 use Rattle.metaqasm.specs.Answers.{NotStuck, SoundRun, SoundInstance}
@@ -47,11 +49,11 @@ check_counts_lem l = go (check_program l)
 -- ---- the answer of the code
 
 -- an answer that does not conclude with the machine stuck can be told
-told_by : (out : List ℕ) (r : Answer) (c : Conclusion) → (c ≡ got_stuck → ⊥) → concluded out r ≡ c → NotStuck r
+told_by : (out : List ℕ) (r : CodeResult State Stop) (c : Conclusion) → (c ≡ got_stuck → ⊥) → concluded out r ≡ c → NotStuck r
 unfolding concluded
-told_by out (Going s) c h e = tt
-told_by out (Ended n p s) c h e = tt
-told_by out Stuck c h e = absurd (h (sym e))
+told_by out (Ok s) c h e = tt
+told_by out (Err (Ended n p s)) c h e = tt
+told_by out (Err Stuck) c h e = absurd (h (sym e))
 
 -- a conclusion that is an answer is that answer, soundly
 sound_of : (least limit q b : ℕ) (lent : List ℕ) (a : Reply) (c : Conclusion) → c ≡ finished a → Finishes least limit q b lent c → Sound least limit q b lent a
@@ -73,10 +75,10 @@ module _ (l : List ℕ) (limit : ℕ) (lent : List ℕ) (e : (check_result l).nu
   unfolding run_outcome if_accepted
   run_is = rw (good_program l e) refl
 
-  pub run_told : (out : List ℕ) (r : Answer) → concluded out r ≡ conclusion_of lent (run_program limit (length lent) (read l)) → NotStuck r
+  pub run_told : (out : List ℕ) (r : CodeResult State Stop) → concluded out r ≡ conclusion_of lent (run_program limit (length lent) (read l)) → NotStuck r
   run_told out r h = told_by out r _ (run_never_stuck l limit lent) (h ∙ run_is)
 
-  pub run_answers : (out : List ℕ) (r : Answer) (x : Result) → concluded out r ≡ conclusion_of lent (run_program limit (length lent) (read l)) → concluded out r ≡ finished (record { result = x; output = out })
+  pub run_answers : (out : List ℕ) (r : CodeResult State Stop) (x : Result) → concluded out r ≡ conclusion_of lent (run_program limit (length lent) (read l)) → concluded out r ≡ finished (record { result = x; output = out })
       → (run_outcome l limit lent ≡ finished (record { result = x; output = out })) × SoundRun l limit lent (record { result = x; output = out }) × (record_size * x.records ≤ length out)
       × (x.steps ≤ limit)
   run_answers out r x h k =
@@ -96,7 +98,7 @@ module _ (l : List ℕ) (k : ℕ) (sizes : List ℕ) (limit : ℕ) (lent : List 
   unfolding instance_outcome if_accepted
   instance_is = rw (good_program l e) refl
 
-  pub instance_told : (out : List ℕ) (r : Answer) → concluded out r ≡ instance_of (get_elem? (all_declared limit (length lent) (read l) []) k) sizes lent → NotStuck r
+  pub instance_told : (out : List ℕ) (r : CodeResult State Stop) → concluded out r ≡ instance_of (get_elem? (all_declared limit (length lent) (read l) []) k) sizes lent → NotStuck r
   instance_told out r h = told_by out r _ (instance_never_stuck l k sizes limit lent) (h ∙ instance_is)
 
   -- what holds of its answer
@@ -111,7 +113,7 @@ module _ (l : List ℕ) (k : ℕ) (sizes : List ℕ) (limit : ℕ) (lent : List 
         go false u = kept_within 20 limit (wires_laid_out l k sizes) 0 lent a (sound_of 20 limit (wires_laid_out l k sizes) 0 lent a _ g ((instance_sound l k sizes limit lent e).0 u))
         go true u = let i = same_reply (sym g ∙ instance_passed l k sizes limit lent e u) in (omega (arith, ap (λ (x : Reply). x.result.records) i), omega (arith, ap (λ (x : Reply). x.result.steps) i))
 
-  pub instance_answers : (out : List ℕ) (r : Answer) (x : Result) → concluded out r ≡ instance_of (get_elem? (all_declared limit (length lent) (read l) []) k) sizes lent
+  pub instance_answers : (out : List ℕ) (r : CodeResult State Stop) (x : Result) → concluded out r ≡ instance_of (get_elem? (all_declared limit (length lent) (read l) []) k) sizes lent
       → concluded out r ≡ finished (record { result = x; output = out })
       → (instance_outcome l k sizes limit lent ≡ finished (record { result = x; output = out })) × SoundInstance l k sizes limit lent (record { result = x; output = out })
       × (record_size * x.records ≤ length out) × (x.steps ≤ limit)

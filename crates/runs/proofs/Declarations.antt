@@ -17,7 +17,7 @@ use Rattle.language.specs.Machine.{wires, bits, Globals, Family, Run, give, decl
 use Rattle.language.proofs.Accepted.{TopGood, a_family, a_qreg, a_creg, a_measure, a_reset, an_if, a_statement}
 use Rattle.kinds.specs.declared.Kind.TheVariants.{Quantum, Classical}
 use Rattle.operands.specs.Meanings.{the_wire, the_bit, clipped, register_of, registers_of}
-use Rattle.fields.specs.declared.Header.TheVariants.{Whole}
+use Rattle.std.specs.Prelude.{Ok}
 use Rattle.fields.proofs.Parts.{look}
 use Rattle.runs.specs.declared.Totals.{Totals}
 use Rattle.runs.specs.Whole.{tops_at, globals_of, more_families, total_of, more_locations, register_from, size_in, RegisterRoom}
@@ -150,12 +150,12 @@ module _ (limit room : ℕ) (l : List ℕ) where
     globals = globals_of limit room l
 
     -- past it
-    goes : (tag : ℕ) (e : look l at ≡ Whole tag next) (x : Top) → top_of limit room l at tag next ≡ x → (regs regs' : List ℕ) (t' : Totals)
+    goes : (tag : ℕ) (e : look l at ≡ Ok (record { tag = tag; next = next })) (x : Top) → top_of limit room l at tag next ≡ x → (regs regs' : List ℕ) (t' : Totals)
         → run_top limit room x (globals t regs) ≡ give (globals t' regs') → run_tops limit room (tops_at l at) (globals t regs) ≡ run_tops limit room (tops_at l next) (globals t' regs')
     goes tag e x q regs regs' t' h = rw (tops_next limit room l at tag next e, q) (passes x (tops_at l next) (globals t regs) (globals t' regs') h)
 
     -- a register
-    module _ (b : Bool) (e : look l at ≡ Whole (register_tag b) next) where
+    module _ (b : Bool) (e : look l at ≡ Ok (record { tag = register_tag b; next = next })) where
       there : Next limit room l at (register_tag b) next r
       there = reached_next limit room l at (register_tag b) next r e
 
@@ -176,7 +176,7 @@ module _ (limit room : ℕ) (l : List ℕ) where
           ((register_run b limit room at content (globals t regs) [] good_there.0.long).0 ∙ ap give (laid_is b limit room l t (size_in content) regs regs' h))
 
     -- a family
-    module _ (e : look l at ≡ Whole 1 next) where
+    module _ (e : look l at ≡ Ok (record { tag = 1; next = next })) where
       is_family_lem : top_of limit room l at 1 next ≡ read_family at content
       unfolding read_top choose
       is_family_lem = refl

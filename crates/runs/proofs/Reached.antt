@@ -11,7 +11,7 @@ use Rattle.language.specs.Check.{Declared, nothing_declared, check, good}
 use Rattle.language.specs.Machine.{Family, declared, all_declared}
 use Rattle.language.proofs.Accepted.{TopGood, TopsGood, and_then, tops_good}
 use Rattle.language.proofs.Families.{families_before}
-use Rattle.fields.specs.declared.Header.TheVariants.{Whole}
+use Rattle.std.specs.Prelude.{Ok}
 use Rattle.fields.proofs.Parts.{look, rest_is}
 use Rattle.fields.proofs.Headers.{when_whole}
 use Rattle.runs.specs.declared.Totals.{Totals}
@@ -69,7 +69,7 @@ module _ (limit room : ℕ) (l : List ℕ) where
   abbrev pub top_of : ℕ → ℕ → ℕ → Top
   top_of at tag next = read_top (field at tag (slice (at + 3) next l))
 
-  pub tops_next : (at tag next : ℕ) → look l at ≡ Whole tag next → tops_at l at ≡ (top_of at tag next ∷ tops_at l next)
+  pub tops_next : (at tag next : ℕ) → look l at ≡ Ok (record { tag = tag; next = next }) → tops_at l at ≡ (top_of at tag next ∷ tops_at l next)
   tops_next at tag next e = ap (map read_top) (when_whole l at (length l) tag next (omega arith) e).first
 
   -- past it
@@ -85,7 +85,7 @@ module _ (limit room : ℕ) (l : List ℕ) where
   joined_one [] x fs = refl
   joined_one (y ∷ xs) x fs = joined_one xs x (declared limit room y fs)
 
-  pub reached_next : (at tag next : ℕ) {t : Totals} (r : Reached at t) → look l at ≡ Whole tag next → Next at tag next r
+  pub reached_next : (at tag next : ℕ) {t : Totals} (r : Reached at t) → look l at ≡ Ok (record { tag = tag; next = next }) → Next at tag next r
   reached_next at tag next r e =
       let f = first (subst (λ (ys : List Top). TopsGood r.now ys r.last) (tops_next at tag next e) r.good) in
       record {

@@ -4,8 +4,6 @@ use native.Mathlib.Omega.{arith}
 use mathlib.Core.Path.{◌≡◌, refl, sym, ap, ◌∙◌}
 use mathlib.Core.List.{List, [], ◌∷◌}
 use borrow.Author.Tests.{ne_eqb}
-use types.Run.{OneOf}
-use denote.Enum.Declared.{tag_of}
 use lib.ListN.{length}
 use lib.Seq.{slice}
 use Rattle.language.specs.Limits.{record_size}
@@ -18,12 +16,10 @@ use Rattle.language.specs.Result.{written_into}
 use Rattle.language.proofs.ReadLaws.{AllRows, choose_all}
 use Rattle.language.proofs.Accepted.{TopGood, a_family, a_qreg, a_creg, a_measure, a_reset, an_if, a_statement}
 use Rattle.records.specs.declared.State.{State}
-use Rattle.records.specs.declared.Answer.{Answer}
-use Rattle.records.specs.declared.Answer.TheVariants.{Going, Ended, Stuck}
+use Rattle.std.specs.Prelude.{Result, Ok, Err}
+use Rattle.records.specs.declared.Stop.{Stop}
+use Rattle.records.specs.declared.Stop.TheVariants.{Ended, Stuck}
 use Rattle.records.specs.Outcomes.{answer_told, flat_outcome, Does, state_of}
-use Rattle.records.specs.contracts.Answer.{the_type}
-use Rattle.records.proofs.Sequences.{not_first}
-use Rattle.fields.specs.declared.Header.TheVariants.{Whole}
 use Rattle.fields.proofs.Parts.{look}
 use Rattle.runs.specs.declared.Totals.{Totals}
 use Rattle.runs.proofs.Reached.{Reached, top_of, reached_next}
@@ -76,7 +72,7 @@ acts_keep (a_reset k) h = refl
 acts_keep (an_if l k j) h = refl
 acts_keep (a_statement k) h = refl
 
-pub acting_reached : (limit room : ℕ) (l : List ℕ) (at tag next : ℕ) (t : Totals) → Reached limit room l at t → look l at ≡ Whole tag next
+pub acting_reached : (limit room : ℕ) (l : List ℕ) (at tag next : ℕ) (t : Totals) → Reached limit room l at t → look l at ≡ Ok (record { tag = tag; next = next })
     → (tag ≡ 1 → ⊥) × (tag ≡ 2 → ⊥) × (tag ≡ 3 → ⊥) → Reached limit room l next t
 acting_reached limit room l at tag next t r e h =
     let n = reached_next limit room l at tag next r e in
@@ -85,12 +81,12 @@ acting_reached limit room l at tag next t r e h =
 
 -- ---- a part of a run that gives the globals on
 
-module _ (l : List ℕ) (st : State) (l' : List ℕ) (r : Answer) (run : Run (Unit {0})) (g : Globals) (next : Globals → Run Globals) (d : Does l st l' r run) where
-  pub act_then : (t : State) (x : List ℕ) (q : Answer) → r ≡ Going t → Does l' t x q (next g) → Does l st x q ((run >> give g) >>= next)
+module _ (l : List ℕ) (st : State) (l' : List ℕ) (r : Result State Stop) (run : Run (Unit {0})) (g : Globals) (next : Globals → Run Globals) (d : Does l st l' r run) where
+  pub act_then : (t : State) (x : List ℕ) (q : Result State Stop) → r ≡ Ok t → Does l' t x q (next g) → Does l st x q ((run >> give g) >>= next)
   unfolding answer_told flat_outcome ◌>>◌ ◌>>=◌ after
   act_then t x q e b lent rs w = go (run (state_of rs st)) (sym (ap (answer_told l') e) ∙ d lent rs w)
     where
-      go : (o : Outcome (Unit {0})) → answer_told l' (Going t) ≡ flat_outcome lent o → answer_told x q ≡ flat_outcome lent (after (after o (λ u. give g)) next)
+      go : (o : Outcome (Unit {0})) → answer_told l' (Ok t) ≡ flat_outcome lent o → answer_told x q ≡ flat_outcome lent (after (after o (λ u. give g)) next)
       go (machine.going u s) k =
           let e : l' ≡ written_into lent s.records = cc in
           let f : record_size * length s.records ≡ t.written = cc in
@@ -99,13 +95,12 @@ module _ (l : List ℕ) (st : State) (l' : List ℕ) (r : Answer) (run : Run (Un
       go (machine.ended n p s) k = absurd (let z : ◌≡◌ {A = ℕ} 0 1 = cc in omega arith)
       go machine.stuck k = absurd (let z : ◌≡◌ {A = ℕ} 0 1 = cc in omega arith)
 
-  pub act_other : OneOf (1 ∷ 2 ∷ []) (tag_of the_type r) → Does l st l' r ((run >> give g) >>= next)
+  pub act_other : {e : Stop} → r ≡ Err e → Does l st l' (Err e) ((run >> give g) >>= next)
   unfolding answer_told flat_outcome ◌>>◌ ◌>>=◌ after
-  act_other h lent rs w = go (run (state_of rs st)) r (d lent rs w) h
+  act_other {e} h lent rs w = go (run (state_of rs st)) e (sym (ap (answer_told l') h) ∙ d lent rs w)
     where
-      go : (o : Outcome (Unit {0})) (r : Answer) → answer_told l' r ≡ flat_outcome lent o → OneOf (1 ∷ 2 ∷ []) (tag_of the_type r) → answer_told l' r ≡ flat_outcome lent (after (after o (λ u. give g)) next)
-      go (machine.going u s) (Going t) k h = absurd (not_first h)
-      go (machine.going u s) (Ended n p t) k h = absurd (let z : ◌≡◌ {A = ℕ} 0 1 = cc in omega arith)
-      go (machine.going u s) Stuck k h = absurd (let z : ◌≡◌ {A = ℕ} 0 1 = cc in omega arith)
-      go (machine.ended n p s) r k h = k
-      go machine.stuck r k h = k
+      go : (o : Outcome (Unit {0})) (e : Stop) → answer_told l' (Err e) ≡ flat_outcome lent o → answer_told l' (Err e) ≡ flat_outcome lent (after (after o (λ u. give g)) next)
+      go (machine.going u s) (Ended n p t) k = absurd (let z : ◌≡◌ {A = ℕ} 0 1 = cc in omega arith)
+      go (machine.going u s) Stuck k = absurd (let z : ◌≡◌ {A = ℕ} 0 1 = cc in omega arith)
+      go (machine.ended n p s) e k = k
+      go machine.stuck e k = k

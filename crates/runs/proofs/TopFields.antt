@@ -4,8 +4,6 @@ use native.Mathlib.Omega.{arith}
 use mathlib.Core.Path.{◌≡◌, refl, sym, ap, ◌∙◌, subst}
 use mathlib.Core.List.{List, [], ◌∷◌}
 use mathlib.Core.Bool.{Bool, true, false}
-use types.Run.{OneOf}
-use denote.Enum.Declared.{tag_of}
 use lib.Dec.{eqb}
 use borrow.Author.Tests.{eqb-true, eqb-false}
 use lib.ListN.{length, take}
@@ -13,14 +11,16 @@ use lib.Seq.{slice}
 use Rattle.language.specs.Limits.{most_families, most_registers, longest_program}
 use Rattle.language.specs.Read.{field, fields, read_top}
 use Rattle.language.specs.Machine.{act_top, Run, Globals, run_tops}
-use Rattle.fields.specs.declared.Header.TheVariants.{Whole, End, Cut}
+use Rattle.std.specs.Prelude.{Result, Ok, Err}
+use Rattle.fields.specs.declared.Header.{Header}
+use Rattle.fields.specs.declared.NoHeader.{NoHeader}
+use Rattle.fields.specs.declared.NoHeader.TheVariants.{End, Cut}
 use Rattle.fields.proofs.Parts.{look}
 use Rattle.fields.proofs.Between.{in_whole}
 use Rattle.records.specs.declared.State.{State}
-use Rattle.records.specs.declared.Answer.{Answer}
-use Rattle.records.specs.declared.Answer.TheVariants.{Going, Stuck}
+use Rattle.records.specs.declared.Stop.{Stop}
+use Rattle.records.specs.declared.Stop.TheVariants.{Stuck}
 use Rattle.records.specs.Outcomes.{Does}
-use Rattle.records.specs.contracts.Answer.{the_type}
 use Rattle.calls.specs.Families.{Tabled}
 use Rattle.calls.proofs.FamilyTable.{tabled, tabled_fewer}
 use Rattle.runs.specs.declared.Totals.{Totals}
@@ -32,7 +32,7 @@ use Rattle.runs.proofs.TopActions.{acting_reached}
 use Rattle.runs.proofs.TopLoop.{Onward, onward_same, whole_run, starts, at_end, at_cut, acts_then, acts_other, act_ready, seen_few}
 
 -- the bytes of one field, and the field alone
-module _ (l : List ℕ) (at tag next : ℕ) (e : look l at ≡ Whole tag next) where
+module _ (l : List ℕ) (at tag next : ℕ) (e : look l at ≡ Ok (record { tag = tag; next = next })) where
   pub field_within : length l ≤ longest_program → WholeField l at next
   field_within h = let w = in_whole l at (length l) tag next e in record { low = w.low; high = w.high; short = h }
 
@@ -61,25 +61,29 @@ module _ (limit : ℕ) (l out₀ : List ℕ) where
   }
 
   module _ (regs out : List ℕ) (at : ℕ) (t : Totals) (s : State) (i : At regs out at t s) where
-    pub ends_here : look l at ≡ End → Does out₀ started out (Going s) (whole_run limit room l)
-    ends_here e = i.onward out (Going s) (at_end limit room l at (globals_of limit room l t regs) out s e)
+    pub ends_here : look l at ≡ Err End → Does out₀ started out (Ok s) (whole_run limit room l)
+    ends_here e = i.onward out (Ok s) (at_end limit room l at (globals_of limit room l t regs) out s e)
 
-    pub cut_here : look l at ≡ Cut → Does out₀ started out Stuck (whole_run limit room l)
-    cut_here e = i.onward out Stuck (at_cut limit room l at (globals_of limit room l t regs) out s e)
+    pub cut_here : look l at ≡ Err Cut → Does out₀ started out (Err Stuck) (whole_run limit room l)
+    cut_here e = i.onward out (Err Stuck) (at_cut limit room l at (globals_of limit room l t regs) out s e)
 
     -- ---- a field that declares something
-    module _ (tag next : ℕ) (e : look l at ≡ Whole tag next) where
+    module _ (tag next : ℕ) (e : look l at ≡ Ok (record { tag = tag; next = next })) where
       abbrev content : List ℕ
       content = slice (at + 3) next l
 
-      tagged : (n : ℕ) → tag ≡ n → look l at ≡ Whole n next
-      tagged n h = e ∙ ap (λ (x : ℕ). Whole x next) h
+      ok_at : ℕ → Result Header NoHeader
+      ok_at x = Ok (record { tag = x; next = next })
 
-      two : tag ≡ 2 → look l at ≡ Whole (register_tag true) next
+      tagged : (n : ℕ) → tag ≡ n → look l at ≡ Ok (record { tag = n; next = next })
+      unfolding ok_at
+      tagged n h = e ∙ ap (λ (x : ℕ). ok_at x) h
+
+      two : tag ≡ 2 → look l at ≡ Ok (record { tag = register_tag true; next = next })
       unfolding register_tag
       two h = tagged 2 h
 
-      three : tag ≡ 3 → look l at ≡ Whole (register_tag false) next
+      three : tag ≡ 3 → look l at ≡ Ok (record { tag = register_tag false; next = next })
       unfolding register_tag
       three h = tagged 3 h
 
@@ -102,7 +106,7 @@ module _ (limit : ℕ) (l out₀ : List ℕ) where
       more_few true h = omega arith
       more_few false h = omega arith
 
-      one_more_lem : (b : Bool) → look l at ≡ Whole (register_tag b) next → (regs' : List ℕ) (t' : Totals) → OneMore b (slice (at + 3) next l) t regs regs' t' → At regs' out next t' s
+      one_more_lem : (b : Bool) → look l at ≡ Ok (record { tag = register_tag b; next = next }) → (regs' : List ℕ) (t' : Totals) → OneMore b (slice (at + 3) next l) t regs regs' t' → At regs' out next t' s
       one_more_lem b k regs' t' m = subst (λ (x : Totals). At regs' out next x s) (sym m.0)
           (past regs' _ (more_few b (register_room limit room l at next t i.reached b k).few) (register_reached limit room l at next t i.reached b k) (register_runs limit room l at next t i.reached b k regs regs' m.1))
 
@@ -124,12 +128,12 @@ module _ (limit : ℕ) (l out₀ : List ℕ) where
         pub acts_ready : ActReady tag (slice (at + 3) next l)
         acts_ready = act_ready limit room l at tag next t i.reached e h
 
-        module _ (out' : List ℕ) (r : Answer)
+        module _ (out' : List ℕ) (r : Result State Stop)
             (d : (q b : ℕ) → Does out s out' r (act_top limit (length out) (read_top (field at tag (slice (at + 3) next l))) (globals_in limit (length out) l t.families (take (3 * t.registers) regs) q b))) where
           there : Does out s out' r (act_top limit room (read_top (field at tag (slice (at + 3) next l))) (globals_of limit room l t regs))
           there = subst (λ (n : ℕ). Does out s out' r (act_top limit n (read_top (field at tag (slice (at + 3) next l))) (globals_in limit n l t.families (take (3 * t.registers) regs) t.qubits t.bits))) i.same (d t.qubits t.bits)
 
-          pub acted_on : (u : State) → r ≡ Going u → length out' ≡ length out → At regs out' next t u
+          pub acted_on : (u : State) → r ≡ Ok u → length out' ≡ length out → At regs out' next t u
           acted_on u k n = record {
             reached = acting_reached limit room l at tag next t i.reached e h;
             few = i.few;
@@ -137,8 +141,8 @@ module _ (limit : ℕ) (l out₀ : List ℕ) where
             onward = λ x q b. i.onward x q (acts_then limit room l at tag next e h (globals_of limit room l t regs) out s out' r there u x q k b);
           }
 
-          pub acted_last : OneOf (1 ∷ 2 ∷ []) (tag_of the_type r) → Does out₀ started out' r (whole_run limit room l)
-          acted_last k = i.onward out' r (acts_other limit room l at tag next e h (globals_of limit room l t regs) out s out' r there k)
+          pub acted_last : {x : Stop} → r ≡ Err x → Does out₀ started out' (Err x) (whole_run limit room l)
+          acted_last k = i.onward out' (Err _) (acts_other limit room l at tag next e h (globals_of limit room l t regs) out s out' r there k)
 
     -- the families that may be called
     pub tabled_here : (table : List ℕ) → Acceptable l → FullTable l table → Tabled l table t.families

@@ -5,8 +5,6 @@ use mathlib.Core.Path.{◌≡◌, refl, sym, ap, ◌∙◌, subst}
 use mathlib.Core.List.{List, [], ◌∷◌, map}
 use mathlib.Core.Bool.{Bool, true, false}
 use mathlib.Core.Option.{none, some}
-use types.Run.{OneOf}
-use denote.Enum.Declared.{tag_of}
 use lib.Dec.{leb}
 use borrow.Author.Tests.{leb-true, leb-false}
 use lib.ListN.{length, take, get_or, get_elem?}
@@ -20,15 +18,15 @@ use Rattle.language.specs.Machine.{act_top, declare_top, Run, Globals, give, no_
 use Rattle.language.proofs.Accepted.{TopGood, a_family, a_qreg, a_creg, a_measure, a_reset, an_if, a_statement}
 use Rattle.language.proofs.Families.{family_at_lem}
 use Rattle.fields.specs.Table.{Listed}
-use Rattle.fields.specs.declared.Header.TheVariants.{Whole, End, Cut}
+use Rattle.std.specs.Prelude.{Result, Ok, Err}
+use Rattle.fields.specs.declared.NoHeader.TheVariants.{End, Cut}
 use Rattle.fields.proofs.Parts.{look, rest_is}
 use Rattle.fields.proofs.Headers.{when_end, when_cut}
 use Rattle.operands.specs.Meanings.{registers_of}
 use Rattle.records.specs.declared.State.{State}
-use Rattle.records.specs.declared.Answer.{Answer}
-use Rattle.records.specs.declared.Answer.TheVariants.{Going, Stuck}
+use Rattle.records.specs.declared.Stop.{Stop}
+use Rattle.records.specs.declared.Stop.TheVariants.{Stuck}
 use Rattle.records.specs.Outcomes.{answer_told, flat_outcome, Does}
-use Rattle.records.specs.contracts.Answer.{the_type}
 use Rattle.runs.specs.declared.Totals.{Totals}
 use Rattle.runs.specs.Whole.{tops_at, globals_of}
 use Rattle.runs.specs.TopFields.{ActReady}
@@ -76,10 +74,10 @@ take_none (suc k) (x ∷ xs) (suc n) e = take_none k xs n e
 
 -- what is left to do leads to the whole
 abbrev pub Onward : List ℕ → State → List ℕ → State → (rest whole : Run Globals) → Type 0
-Onward l st l' st' rest whole = (x : List ℕ) (r : Answer) → Does l' st' x r rest → Does l st x r whole
+Onward l st l' st' rest whole = (x : List ℕ) (r : Result State Stop) → Does l' st' x r rest → Does l st x r whole
 
 -- the same run by another name
-pub does_same : (l : List ℕ) (st : State) (l' : List ℕ) (r : Answer) (run run' : Run Globals) → run' ≡ run → Does l st l' r run → Does l st l' r run'
+pub does_same : (l : List ℕ) (st : State) (l' : List ℕ) (r : Result State Stop) (run run' : Run Globals) → run' ≡ run → Does l st l' r run → Does l st l' r run'
 does_same l st l' r run run' e d = subst (λ (x : Run Globals). Does l st l' r x) (sym e) d
 
 pub onward_same : (l : List ℕ) (st : State) (l' : List ℕ) (st' : State) (rest rest' whole : Run Globals) → rest ≡ rest' → Onward l st l' st' rest whole → Onward l st l' st' rest' whole
@@ -94,31 +92,31 @@ module _ (limit room : ℕ) (l : List ℕ) where
   starts regs = ap (λ (xs : List Top). run_tops limit room xs nothing_yet) (ap (map read_top) (rest_is l 0))
 
   -- the end of the fields
-  pub at_end : (at : ℕ) (g : Globals) (out : List ℕ) (st : State) → look l at ≡ End → Does out st out (Going st) (run_tops limit room (tops_at l at) g)
+  pub at_end : (at : ℕ) (g : Globals) (out : List ℕ) (st : State) → look l at ≡ Err End → Does out st out (Ok st) (run_tops limit room (tops_at l at) g)
   unfolding run_tops answer_told flat_outcome
-  at_end at g out st e = does_same out st out (Going st) (give g) _ (ap (λ (fs : List Field). run_tops limit room (map read_top fs) g) (when_end l at (length l) (omega arith) e))
+  at_end at g out st e = does_same out st out (Ok st) (give g) _ (ap (λ (fs : List Field). run_tops limit room (map read_top fs) g) (when_end l at (length l) (omega arith) e))
       (λ lent rs w. let p = w.output in let q = w.size in cc)
 
-  pub at_cut : (at : ℕ) (g : Globals) (out : List ℕ) (st : State) → look l at ≡ Cut → Does out st out Stuck (run_tops limit room (tops_at l at) g)
+  pub at_cut : (at : ℕ) (g : Globals) (out : List ℕ) (st : State) → look l at ≡ Err Cut → Does out st out (Err Stuck) (run_tops limit room (tops_at l at) g)
   unfolding run_tops read_top run_top act_top declare_top ◌>>=◌ ◌>>◌ after answer_told flat_outcome
-  at_cut at g out st e = does_same out st out Stuck no_meaning _ (ap (λ (fs : List Field). run_tops limit room (map read_top fs) g) (when_cut l at (length l) (omega arith) e)) (λ lent rs w. refl)
+  at_cut at g out st e = does_same out st out (Err Stuck) no_meaning _ (ap (λ (fs : List Field). run_tops limit room (map read_top fs) g) (when_cut l at (length l) (omega arith) e)) (λ lent rs w. refl)
 
   -- a field that declares nothing
-  module _ (at tag next : ℕ) (e : look l at ≡ Whole tag next) (h : (tag ≡ 1 → ⊥) × (tag ≡ 2 → ⊥) × (tag ≡ 3 → ⊥)) (g : Globals)
-      (out : List ℕ) (st : State) (out' : List ℕ) (r : Answer) (d : Does out st out' r (act_top limit room (read_top (field at tag (slice (at + 3) next l))) g)) where
+  module _ (at tag next : ℕ) (e : look l at ≡ Ok (record { tag = tag; next = next })) (h : (tag ≡ 1 → ⊥) × (tag ≡ 2 → ⊥) × (tag ≡ 3 → ⊥)) (g : Globals)
+      (out : List ℕ) (st : State) (out' : List ℕ) (r : Result State Stop) (d : Does out st out' r (act_top limit room (read_top (field at tag (slice (at + 3) next l))) g)) where
     acts_there : run_tops limit room (tops_at l at) g ≡ ((act_top limit room (top_of limit room l at tag next) g >> give g) >>= run_tops limit room (tops_at l next))
     unfolding run_tops
     acts_there = ap (λ (xs : List Top). run_tops limit room xs g) (tops_next limit room l at tag next e)
         ∙ ap (λ (x : Run Globals). x >>= run_tops limit room (tops_at l next)) (acting_is limit room (top_of limit room l at tag next) g (tag_acts at tag (slice (at + 3) next l) h))
 
-    pub acts_then : (t : State) (x : List ℕ) (q : Answer) → r ≡ Going t → Does out' t x q (run_tops limit room (tops_at l next) g) → Does out st x q (run_tops limit room (tops_at l at) g)
+    pub acts_then : (t : State) (x : List ℕ) (q : Result State Stop) → r ≡ Ok t → Does out' t x q (run_tops limit room (tops_at l next) g) → Does out st x q (run_tops limit room (tops_at l at) g)
     acts_then t x q k b = does_same out st x q _ _ acts_there (act_then out st out' r (act_top limit room (top_of limit room l at tag next) g) g (run_tops limit room (tops_at l next)) d t x q k b)
 
-    pub acts_other : OneOf (1 ∷ 2 ∷ []) (tag_of the_type r) → Does out st out' r (run_tops limit room (tops_at l at) g)
-    acts_other k = does_same out st out' r _ _ acts_there (act_other out st out' r (act_top limit room (top_of limit room l at tag next) g) g (run_tops limit room (tops_at l next)) d k)
+    pub acts_other : {x : Stop} → r ≡ Err x → Does out st out' (Err x) (run_tops limit room (tops_at l at) g)
+    acts_other k = does_same out st out' (Err _) _ _ acts_there (act_other out st out' r (act_top limit room (top_of limit room l at tag next) g) g (run_tops limit room (tops_at l next)) d k)
 
   -- what the code asks of a field that declares nothing
-  pub act_ready : (at tag next : ℕ) (t : Totals) (r : Reached limit room l at t) → look l at ≡ Whole tag next
+  pub act_ready : (at tag next : ℕ) (t : Totals) (r : Reached limit room l at t) → look l at ≡ Ok (record { tag = tag; next = next })
       → (tag ≡ 1 → ⊥) × (tag ≡ 2 → ⊥) × (tag ≡ 3 → ⊥) → ActReady tag (slice (at + 3) next l)
   act_ready at tag next t r e h = record {
     apart = h;

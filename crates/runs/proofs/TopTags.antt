@@ -11,17 +11,16 @@ use lib.ListN.{length, take, drop, get_or}
 use lib.Seq.{slice, drop-drop}
 use Rattle.language.specs.Tree.{Place, Top, family, qreg, creg, measure, reset, if, statement, bad_top}
 use Rattle.language.specs.Read.{Field, field, fields, choose, read_top, read_if, if_of, measure_of, reset_of, read_statement, statements_by}
-use Rattle.language.specs.Machine.{act_top, declare_top, run_measure, run_reset, run_if, Run, Frame, forward, always, end_at, Globals, Family, give, after, step, top_frame, in_condition, when_bit, no_meaning, run_top, in_order, run_statement, run_statements, ◌>>=◌, ◌>>◌}
+use Rattle.language.specs.Machine.{act_top, declare_top, run_measure, run_reset, run_if, Run, Frame, forward, always, Globals, Family, give, after, step, top_frame, in_condition, when_bit, no_meaning, run_top, in_order, run_statement, run_statements, ◌>>=◌, ◌>>◌}
 use Rattle.language.proofs.Runs.{then_done}
-use types.Run.{OneOf}
-use denote.Enum.Declared.{tag_of}
-use Rattle.fields.specs.declared.Header.TheVariants.{Whole}
-use Rattle.fields.specs.contracts.Header.{the_type}
+use Rattle.std.specs.Prelude.{Result, Ok, Err}
+use Rattle.fields.specs.declared.NoHeader.{NoHeader}
+use Rattle.indexes.specs.declared.Fault.{Fault}
+use Rattle.indexes.specs.declared.Fault.TheVariants.{Over, Stuck}
+use Rattle.indexes.specs.Values.{fault_told}
 use Rattle.fields.proofs.Between.{look_in, in_whole, first_byte}
 use Rattle.operands.specs.declared.Scope.{Scope}
 use Rattle.operands.specs.declared.Bit.{Bit}
-use Rattle.operands.specs.declared.BitMeaning.{BitMeaning}
-use Rattle.operands.specs.declared.BitMeaning.TheVariants.{Is, Over, Stuck}
 use Rattle.operands.proofs.OperandFields.{bit_none}
 use Rattle.records.specs.declared.Condition.{Condition}
 use Rattle.gates.specs.declared.Mode.{Mode}
@@ -126,20 +125,17 @@ module _ (limit room seen : ℕ) (regs : List ℕ) (scope : Scope) (p : Place) (
   rest : drop 1 content ≡ slice (from + 1) to program
   rest = drop-drop 1 from (take to program)
 
-  module _ (r : BitMeaning) (bit : BitAt (slice (from + 1) to program) 0 [] (operands_of scope regs) r) where
+  module _ (r : Result Bit Fault) (bit : BitAt (slice (from + 1) to program) 0 [] (operands_of scope regs) r) where
     if_is : if_at limit room p content fs frame ≡ (bit_told p r >>= (λ b. run_statements limit room (statements_by (read_statement 15) (drop 1 (fields (p + 4) (slice (from + 1) to program)))) fs (in_condition frame (when_bit b (get_or content 0 0)))))
     unfolding run_if direction_of condition_of
     if_is = rw rest (ap (λ (x : Run _). x >>= (λ b. run_statements limit room (statements_by (read_statement 15) (drop 1 (fields (p + 4) (slice (from + 1) to program)))) fs (in_condition frame (when_bit b (get_or content 0 0))))) (sym (bit p p (p + 4) forward always)))
 
-    pub if_over : r ≡ Over → if_at limit room p (slice from to program) fs (frame_in (top_mode limit seen 0) [] scope regs) ≡ end_at 24 p
-    unfolding bit_told ◌>>=◌ after
-    if_over e = if_is ∙ rw e refl
+    pub if_fails : (f : Fault) → r ≡ Err f → if_at limit room p (slice from to program) fs (frame_in (top_mode limit seen 0) [] scope regs) ≡ fault_told p f
+    unfolding bit_told fault_told ◌>>=◌ after
+    if_fails Over e = if_is ∙ rw e refl
+    if_fails Stuck e = if_is ∙ rw e refl
 
-    pub if_stuck : r ≡ Stuck → if_at limit room p (slice from to program) fs (frame_in (top_mode limit seen 0) [] scope regs) ≡ no_meaning
-    unfolding bit_told ◌>>=◌ after
-    if_stuck e = if_is ∙ rw e refl
-
-    pub if_bit : (b : Bit) (c : Condition) (tag mid : ℕ) → from ≡ p + 3 → from < to → to ≤ length program → r ≡ Is b → condition_of c ≡ when_bit (the_bit b.0) (get_or program from 0) → look_in program (from + 1) to ≡ Whole tag mid
+    pub if_bit : (b : Bit) (c : Condition) (tag mid : ℕ) → from ≡ p + 3 → from < to → to ≤ length program → r ≡ Ok b → condition_of c ≡ when_bit (the_bit b.0) (get_or program from 0) → look_in program (from + 1) to ≡ Ok (record { tag = tag; next = mid })
         → if_at limit room p (slice from to program) fs (frame_in (top_mode limit seen 0) [] scope regs) ≡ run_statements limit room (statements_by (read_statement 15) (fields mid (slice mid to program))) fs (frame_in (under_mode limit seen c) [] scope regs)
     unfolding bit_told ◌>>=◌ after in_condition
     if_bit b c tag mid near low high e k h =
@@ -149,5 +145,6 @@ module _ (limit room seen : ℕ) (regs : List ℕ) (scope : Scope) (p : Place) (
         if_is ∙ rw (e, q, k, first_byte program from to low high) refl
 
   -- an if whose bit is due where no field is has none
-  pub if_none : OneOf (1 ∷ 2 ∷ []) (tag_of the_type (look_in program (from + 1) to)) → if_at limit room p (slice from to program) fs (frame_in (top_mode limit seen 0) [] scope regs) ≡ no_meaning
-  if_none h = if_stuck Stuck (bit_none program (from + 1) to [] (operands_of scope regs) h) refl
+  pub if_none : {k : NoHeader} → look_in program (from + 1) to ≡ Err k → if_at limit room p (slice from to program) fs (frame_in (top_mode limit seen 0) [] scope regs) ≡ no_meaning
+  unfolding fault_told
+  if_none h = if_fails (Err Stuck) (bit_none program (from + 1) to [] (operands_of scope regs) h) Stuck refl

@@ -289,9 +289,10 @@ fn top_fields(
         let content = &program[at + 3..next];
         if is_declaring(header.tag) {
             t = declare(content, header.tag, t, regs);
-        } else {
-            s = act_top(program, at, next, header.tag, t, regs, table, limit, s, out)?;
+            at = next;
+            continue;
         }
+        s = act_top(program, at, next, header.tag, t, regs, table, limit, s, out)?;
         at = next;
     }
     Ok(s)

@@ -4,67 +4,48 @@ use native.Mathlib.Omega.{arith}
 use lib.ListN.{length}
 use Rattle.fields.proofs.Headers.{when_whole}
 use Rattle.laid_out.proofs.RegisterSums.{summed_start, summed_end, summed_qreg, summed_creg, summed_other}
-use borrow.Enum.Refused.{opened}
 use Rattle.laid_out.proofs.declared.Goals as goal
 
-pub loop-tag-init : goal.loop-tag-init
-loop-tag-init c =
+pub loop-header-init : goal.loop-header-init
+loop-header-init c =
     summed_start c.args.program.now
-
-pub header_at-requires : goal.header_at-requires
-header_at-requires c =
-    omega arith
-
-pub returns-in_default : goal.returns-in_default
-returns-in_default c =
-    summed_end c.args.program.now c.loop-tag.at c.loop-tag.qubits c.loop-tag.bits c.loop-tag.invariant (rw c.header_at.ensures at (opened c.in_default.in_default-own.keys2))
-
-pub overflow_add-from : goal.overflow_add-from
-overflow_add-from c =
-    let l = c.args.program.now in
-    let w = when_whole l c.loop-tag.at (length l) _ _ (omega arith) (sym c.header_at.ensures ∙ c.in-Whole.is) in
-    omega (arith, w.low, w.high)
 
 pub register_size-size-requires : goal.register_size-size-requires
 register_size-size-requires c =
     let l = c.args.program.now in
-    let w = when_whole l c.loop-tag.at (length l) _ _ (omega arith) (sym c.header_at.ensures ∙ c.in-Whole.is) in
+    let w = when_whole l c.loop-header.at (length l) _ _ (omega arith) (sym c.header_at.ensures ∙ c.in-Ok.is) in
     omega (arith, w.low, w.high)
 
-pub overflow_add-qubits : goal.overflow_add-qubits
-overflow_add-qubits c =
-    omega (arith, c.loop-tag.invariant.few_qubits_lem, c.loop-tag.invariant.few_bits_lem, c.loop-tag.invariant.within, c.register_size-size.ensures.1)
-
-pub loop-tag-smaller-then-tag-eq-QREG : goal.loop-tag-smaller-then-tag-eq-QREG
-loop-tag-smaller-then-tag-eq-QREG c =
+pub loop-header-smaller-in-2 : goal.loop-header-smaller-in-2
+loop-header-smaller-in-2 c =
     let l = c.args.program.now in
-    let w = when_whole l c.loop-tag.at (length l) _ _ (omega arith) (sym c.header_at.ensures ∙ c.in-Whole.is) in
+    let w = when_whole l c.loop-header.at (length l) _ _ (omega arith) (sym c.header_at.ensures ∙ c.in-Ok.is) in
     omega (arith, w.low, w.high)
 
-pub loop-tag-preserved-then-tag-eq-QREG : goal.loop-tag-preserved-then-tag-eq-QREG
-loop-tag-preserved-then-tag-eq-QREG c =
-    summed_qreg c.args.program.now c.loop-tag.at c.loop-tag.qubits c.loop-tag.bits c.loop-tag.invariant _ _ (sym c.header_at.ensures ∙ c.in-Whole.is) _ c.register_size-size.ensures c.if-tag-eq-QREG.true
+pub loop-header-preserved-in-2 : goal.loop-header-preserved-in-2
+loop-header-preserved-in-2 c =
+    summed_qreg c.args.program.now c.loop-header.at c.loop-header.qubits c.loop-header.bits c.loop-header.invariant _ _ (sym c.header_at.ensures ∙ c.in-Ok.is) _ c.register_size-size.ensures c.in-2.is
 
-pub loop-tag-smaller-then-tag-ne-CREG : goal.loop-tag-smaller-then-tag-ne-CREG
-loop-tag-smaller-then-tag-ne-CREG c =
+pub loop-header-smaller-in-3 : goal.loop-header-smaller-in-3
+loop-header-smaller-in-3 c =
     let l = c.args.program.now in
-    let w = when_whole l c.loop-tag.at (length l) _ _ (omega arith) (sym c.header_at.ensures ∙ c.in-Whole.is) in
+    let w = when_whole l c.loop-header.at (length l) _ _ (omega arith) (sym c.header_at.ensures ∙ c.in-Ok.is) in
     omega (arith, w.low, w.high)
 
-pub loop-tag-preserved-then-tag-ne-CREG : goal.loop-tag-preserved-then-tag-ne-CREG
-loop-tag-preserved-then-tag-ne-CREG c =
-    summed_other c.args.program.now c.loop-tag.at c.loop-tag.qubits c.loop-tag.bits c.loop-tag.invariant _ _ (sym c.header_at.ensures ∙ c.in-Whole.is) c.if-tag-eq-QREG.false c.if-tag-ne-CREG.true
+pub loop-header-preserved-in-3 : goal.loop-header-preserved-in-3
+loop-header-preserved-in-3 c =
+    summed_creg c.args.program.now c.loop-header.at c.loop-header.qubits c.loop-header.bits c.loop-header.invariant _ _ (sym c.header_at.ensures ∙ c.in-Ok.is) _ c.register_size-size.ensures c.in-3.is
 
-pub overflow_add-bits : goal.overflow_add-bits
-overflow_add-bits c =
-    omega (arith, c.loop-tag.invariant.few_qubits_lem, c.loop-tag.invariant.few_bits_lem, c.loop-tag.invariant.within, c.register_size-size.ensures.1)
-
-pub loop-tag-smaller : goal.loop-tag-smaller
-loop-tag-smaller c =
+pub loop-header-smaller : goal.loop-header-smaller
+loop-header-smaller c =
     let l = c.args.program.now in
-    let w = when_whole l c.loop-tag.at (length l) _ _ (omega arith) (sym c.header_at.ensures ∙ c.in-Whole.is) in
+    let w = when_whole l c.loop-header.at (length l) _ _ (omega arith) (sym c.header_at.ensures ∙ c.in-Ok.is) in
     omega (arith, w.low, w.high)
 
-pub loop-tag-preserved : goal.loop-tag-preserved
-loop-tag-preserved c =
-    summed_creg c.args.program.now c.loop-tag.at c.loop-tag.qubits c.loop-tag.bits c.loop-tag.invariant _ _ (sym c.header_at.ensures ∙ c.in-Whole.is) _ c.register_size-size.ensures c.if-tag-ne-CREG.false
+pub loop-header-preserved : goal.loop-header-preserved
+loop-header-preserved c =
+    summed_other c.args.program.now c.loop-header.at c.loop-header.qubits c.loop-header.bits c.loop-header.invariant _ _ (sym c.header_at.ensures ∙ c.in-Ok.is) (λ e. omega (arith, e)) (λ e. omega (arith, e))
+
+pub returns : goal.returns
+returns c =
+    summed_end c.args.program.now c.loop-header.at c.loop-header.qubits c.loop-header.bits c.loop-header.invariant (λ h e. c.in_default.not-Ok h (c.header_at.ensures ∙ e))

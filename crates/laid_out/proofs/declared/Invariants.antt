@@ -4,10 +4,10 @@ use lib.ListN.{length}
 use Rattle.laid_out.proofs.RegisterSums.{Summed}
 use Rattle.laid_out.proofs.declared.Given as goal
 
-abbrev pub invariant-loop-tag : goal.invariant-loop-tag
-invariant-loop-tag l =
+abbrev pub invariant-loop-header : goal.invariant-loop-header
+invariant-loop-header l =
     Summed l.program l.at l.qubits l.bits
 
-abbrev pub decreases-loop-tag : goal.decreases-loop-tag
-decreases-loop-tag l =
+abbrev pub decreases-loop-header : goal.decreases-loop-header
+decreases-loop-header l =
     length l.program - l.at

@@ -11,9 +11,9 @@ returns-then-n-family c =
 pub wires_at-requires : goal.wires_at-requires
 wires_at-requires c =
     let a = c.args in
-    rw c.long.ensures.0 (head_there a.program.now c.requires _ c.families-n.result c.families-n.ensures.listed a.family a.sizes.now (omega arith))
+    rw c.from.ensures (head_there a.program.now c.requires _ c.families-n.result c.families-n.ensures.listed a.family a.sizes.now (omega arith))
 
 pub returns : goal.returns
 returns c =
     let a = c.args in
-    wires_there a.program.now c.requires _ c.families-n.result c.families-n.ensures.listed a.family a.sizes.now (omega arith) _ (rw c.long.ensures.0 at c.wires_at.ensures)
+    wires_there a.program.now c.requires _ c.families-n.result c.families-n.ensures.listed a.family a.sizes.now (omega arith) _ (rw c.from.ensures at c.wires_at.ensures)

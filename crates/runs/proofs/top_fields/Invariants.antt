@@ -4,10 +4,10 @@ use lib.ListN.{length}
 use Rattle.runs.proofs.TopFields.{At}
 use Rattle.runs.proofs.top_fields.Given as goal
 
-abbrev pub invariant-loop-tag : goal.invariant-loop-tag
-invariant-loop-tag l =
+abbrev pub invariant-loop-at : goal.invariant-loop-at
+invariant-loop-at l =
     At l.limit l.program l.initial.out l.regs l.out l.at l.t l.s
 
-abbrev pub decreases-loop-tag : goal.decreases-loop-tag
-decreases-loop-tag l =
+abbrev pub decreases-loop-at : goal.decreases-loop-at
+decreases-loop-at l =
     length l.program - l.at

@@ -363,8 +363,7 @@ run_statement-returns-then-is_action t c =
     let room = length a.out.now in
     let s = c.in_ok-s.s in
     let q : StepTaken a.mode a.tag l a.st s = one_steps a.mode a.tag l a.place a.st s c.enter.result c.enter.ensures c.in_ok-s.was in
-    let w = q.enterable in
-    (
+    let w = q.enterable in (
       does_as _ _ _ _ _ (one_run a.mode room a.place a.tag l g f) (one_acts a.mode room a.place a.tag l g f w.deep w.low (sym c.is_action.ensures ∙ c.if-is_action.true))
           (step_taken a.mode.limit room a.out.now a.st s a.place _ _ _ q.step.left q.step.same q.step.more c.act.ensures),
       refl,
