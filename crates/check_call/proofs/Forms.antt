@@ -22,7 +22,6 @@ use Rattle.forms.specs.Rows.{Rows, forms_of}
 use Rattle.check_index.specs.Answers.{checked_form, PastField, checked_part}
 use Rattle.check_call.specs.Calls.{checked_forms}
 use Rattle.std.specs.Prelude.{Result, Ok, Err}
-use Rattle.refusals.specs.Reasons.{number_of}
 use Rattle.refusals.specs.declared.Refusal.{Refusal}
 use Rattle.language.specs.Check as C
 

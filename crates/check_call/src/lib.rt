@@ -292,8 +292,7 @@ fn call_operands(
     for j in 0..count {
         let row = first + j;
         let number = full.scope.kinds[row];
-        let next = call_operand(program, from, to, parent, before, number, forms, m, full)?;
-        from = next;
+        from = call_operand(program, from, to, parent, before, number, forms, m, full)?;
     }
     if from < to {
         return Err(Refusal(Reason::BadContent, parent));

@@ -21,9 +21,8 @@ use Rattle.check_operand.proofs.Tables.{rows_same}
 use Rattle.check_call.specs.Calls.{plain_in, plain_by, plains_at, formal_in, formal_at, IsPlain}
 use Rattle.check_index.specs.Answers.{Passes}
 use Rattle.std.specs.Prelude.{Result, Ok, Err}
-use Rattle.refusals.specs.Reasons.{number_of}
 use Rattle.refusals.specs.declared.Refusal.{Refusal}
-use Rattle.check_declaration.specs.Types.{size_row, plain_row, row_number, OperandTable, InUse, InUseAfter, Apart, TypesWithin, PlainRows, PlainAfter, FormalRight, FormalsIn, FormalsAfter, FormalsBefore, Stays}
+use Rattle.check_declaration.specs.Types.{size_row, plain_row, row_number, OperandTable, InUse, InUseAfter, Apart, TypesWithin, PlainRows, PlainAfter, FormalRight, FormalsIn, FormalsAfter, Stays}
 use Rattle.check_declaration.proofs.Tables.{number_kind, apart_kind}
 
 -- ---- plain rows

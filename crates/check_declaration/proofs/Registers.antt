@@ -8,16 +8,13 @@ use lib.Dec.{leb, ltb}
 use lib.ListN.{length, get_or}
 use lib.Seq.{slice}
 use Rattle.fields.proofs.Headers.{one_byte}
-use lib.IntN.{ℤ}
 use borrow.Author.Tests.{le-leb, lt-leb, le-ltb, lt-ltb, leb-true, ltb-true}
 use native.Mathlib.Decide.{dec_lt}
 use Rattle.language.specs.Limits.{most_registers}
 use Rattle.language.specs.Read.{ending, two_bytes, register_size, register_end}
 use Rattle.language.specs.Check.{Checked, good, refused, ◌>>=◌, ◌>>◌, require, no_leftover, check_number, check_register}
-use Rattle.kinds.specs.declared.Kind.{Kind}
-use Rattle.check_declaration.specs.Registers.{register_in, checked_register, RegisterSet}
-use Rattle.std.specs.Prelude.{Result, Ok, Err}
-use Rattle.refusals.specs.Reasons.{number_of}
+use Rattle.check_declaration.specs.Registers.{register_in, checked_register}
+use Rattle.std.specs.Prelude.{Result, Ok}
 use Rattle.refusals.specs.declared.Refusal.{Refusal}
 use Rattle.language.specs.Check as C
 

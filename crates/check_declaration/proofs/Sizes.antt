@@ -16,7 +16,7 @@ use Rattle.forms.specs.Flat.{Kept, as_form}
 use Rattle.check_declaration.specs.Types.{checked_type}
 use Rattle.check_declaration.specs.declared.PlainType as P
 use Rattle.check_declaration.specs.declared.PlainType.TheVariants.{Many}
-use Rattle.std.specs.Prelude.{Result, Ok, Err}
+use Rattle.std.specs.Prelude.{Result, Ok}
 use Rattle.refusals.specs.declared.Refusal.{Refusal}
 
 module _ (n : ℕ) where

@@ -1,6 +1,6 @@
 -- Rows of the table of operands that change, and those that stay. Assumes nothing.
 use mathlib.Core.Path.{◌≡◌, refl, ap, ◌∙◌}
-use mathlib.Core.List.{List, [], ◌∷◌}
+use mathlib.Core.List.{List, []}
 use mathlib.Core.Bool.{Bool, true, false}
 use Prim.Native.Nat.{ℕ, ◌+◌, ◌*◌, ◌/◌, ◌%◌, ◌≤◌, ◌<◌}
 use native.Mathlib.Omega.{arith}
@@ -18,8 +18,8 @@ use Rattle.forms.specs.Flat.{Short, widened, as_form}
 use Rattle.forms.specs.Rows.{ShortRows}
 use Rattle.check_operand.specs.Tables.{Formals, kind_of_row, size_of_row, kind_in, kind_by, kind_at, kinds_at}
 use Rattle.check_operand.proofs.Tables.{rows_same}
-use Rattle.check_declaration.specs.Types.{size_row, row_number, OperandTable, InUse, InUseAfter, InUseBefore, Apart}
-use Rattle.std.specs.Prelude.{Result, Ok, Err}
+use Rattle.check_declaration.specs.Types.{size_row, row_number, OperandTable, InUse, InUseAfter, Apart}
+use Rattle.std.specs.Prelude.{Result, Ok}
 use Rattle.refusals.specs.declared.Refusal.{Refusal}
 
 short_set : (rows : List (List ℤ)) (n i : ℕ) (l : List ℤ) → ShortRows rows n → Short l → ShortRows (set rows i l) n

@@ -20,7 +20,6 @@ use Rattle.check_index.specs.Answers.{checked_part, Beyond}
 use Rattle.check_call.specs.Calls.{formal_in, formal_at, signature_in, signature_at, FamilyRight}
 use Rattle.check_operand.specs.declared.scope.Visible.{Visible}
 use Rattle.std.specs.Prelude.{Result, Ok, Err}
-use Rattle.refusals.specs.Reasons.{number_of}
 use Rattle.refusals.specs.declared.Refusal.{Refusal}
 use Rattle.check_operand.proofs.Tables.{row_more, rows_same, length_rows}
 use Rattle.check_declaration.specs.Types.{InUse, InUseBefore, checked_rows, FormalsIn, FormalsBefore, Stays}

@@ -22,7 +22,6 @@ use Rattle.fields.proofs.Headers.{Wholly}
 use Rattle.check_operand.specs.Tables.{size_of_row, tabulated}
 use Rattle.check_statement.specs.Statements.{checked_declared}
 use Rattle.std.specs.Prelude.{Result, Ok, Err}
-use Rattle.refusals.specs.Reasons.{number_of}
 use Rattle.refusals.specs.declared.Refusal.{Refusal}
 use Rattle.check_program.specs.Declarations.{declared_in, DeclaredRight, checked_step, none_so_far, StepRight}
 use Rattle.check_program.specs.declared.SoFar.{SoFar}

@@ -135,6 +135,7 @@ fn repeated(
     if MOST_LOOPS <= n {
         return Err(Refusal(Reason::TooMany, at));
     }
+    let loops = n + 1;
     let variables = visible.variables + n;
     let mut low = [0i64; FORM_NUMBERS];
     let mut high = [0i64; FORM_NUMBERS];
@@ -144,7 +145,6 @@ fn repeated(
     lows[n] = low;
     let mut highs = *full.scope.highs;
     highs[n] = high;
-    let loops = n + 1;
     let scope = Scope {
         visible: Visible { loops, ..visible },
         kinds: full.scope.kinds,
@@ -197,7 +197,7 @@ pub fn action(
     full: &FullScope,
 ) -> Result<usize, Refusal>
     requires at_bound { (at + 3 ≤ next) × (next ≤ length program.now) }
-    requires fact { (tag ≡ 1 → ⊥) × (tag ≡ 2 → ⊥) × (tag ≡ 3 → ⊥) }
+    requires declares_nothing { (tag ≡ 1 → ⊥) × (tag ≡ 2 → ⊥) × (tag ≡ 3 → ⊥) }
     ensures { (d : Declared) → top_scope d ≡ (scope_full full.now) → checked_declared result d ≡ check_top (read_top (field at tag (slice (at + 3) next program.now))) d }
 {
     let from = at + 3;

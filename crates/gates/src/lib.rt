@@ -77,19 +77,16 @@ pub fn on_wires(
     ensures { OnWires single out.old st out.new result mode place (slice from to bytes.now) (frame_in mode (take mode.variables vars.now) scope regs.now) (op_number op) k }
 {
     let many = usize::from(mode.variables);
-    let x = operands::wire_at(bytes, from, to, vars, many, scope, regs).map_err(|fault| stop(
-        fault, place, st,
-    ))?;
+    let stopped = |fault| stop(fault, place, st);
+    let x = operands::wire_at(bytes, from, to, vars, many, scope, regs).map_err(stopped)?;
     if single {
         return records::write_record(out, st, place, op, x.0, 0, k, mode.condition);
     }
     let Ok(header) = fields::header_at(bytes, from, to) else {
         return Err(Stop::Stuck);
     };
-    let y = operands::wire_at(bytes, header.next, to, vars, many, scope, regs).map_err(|fault| stop(
-        fault, place, st,
-    ))?;
-    if x.0 == y.0 {
+    let y = operands::wire_at(bytes, header.next, to, vars, many, scope, regs).map_err(stopped)?;
+    if x == y {
         return Err(Stop::Ended(Reason::OneWireTwice, place as u16, st));
     }
     records::write_record(out, st, place, op, x.0, y.0, k, mode.condition)

@@ -148,9 +148,8 @@ pub fn act(
     ensures { Does out.old st out.new result (action_at mode (length out.old) tag place (slice from to bytes.now) (frame_in mode (take mode.variables vars.now) scope regs.now)) }
 {
     let many = usize::from(mode.variables);
-    let parts = parts_of(bytes, from, to, tag, vars, many, mode.reversed).map_err(
-        |fault| gates::stop(fault, place, st),
-    )?;
+    let stopped = |fault| gates::stop(fault, place, st);
+    let parts = parts_of(bytes, from, to, tag, vars, many, mode.reversed).map_err(stopped)?;
     gates::on_wires(
         bytes,
         parts.next,

@@ -47,14 +47,14 @@ module _ (mode : Mode) (room : ℕ) (p : Place) (l : List ℕ) (from to : ℕ) (
     second v w =
         ap (λ fs. bit_of p (frame_of d c values ms) (due read_operand (bad_operand 4 p) (drop 1 fs))) ((in_whole l from to t mid e).first (p + 3)) ∙ sym (w p p (p + 3 + (mid - from)) d c)
 
-    pub measure_first_fault : {f : Fault} → r ≡ Err f → measure_at mode room p (slice from to l) (frame_of d c values ms) ≡ fault_told p f
+    pub measure_first_fault : (f : Fault) → r ≡ Err f → measure_at mode room p (slice from to l) (frame_of d c values ms) ≡ fault_told p f
     unfolding run_measure wire_told
-    measure_first_fault {f} k = rw (sym (u p p (p + 3) d c) ∙ ap (wire_told p) k) (fault_on p f _)
+    measure_first_fault f k = rw (sym (u p p (p + 3) d c) ∙ ap (wire_told p) k) (fault_on p f _)
 
     module _ (x : Wire) (k : r ≡ Ok x) (v : Result Bit Fault) (w : BitAt (slice mid to l) 0 values ms v) where
-      pub measure_second_fault : {f : Fault} → v ≡ Err f → measure_at mode room p (slice from to l) (frame_of d c values ms) ≡ fault_told p f
+      pub measure_second_fault : (f : Fault) → v ≡ Err f → measure_at mode room p (slice from to l) (frame_of d c values ms) ≡ fault_told p f
       unfolding run_measure wire_told bit_told ◌>>=◌ after
-      measure_second_fault {f} j = rw (sym (u p p (p + 3) d c) ∙ ap (wire_told p) k, second v w ∙ ap (bit_told p) j) (fault_on p f _)
+      measure_second_fault f j = rw (sym (u p p (p + 3) d c) ∙ ap (wire_told p) k, second v w ∙ ap (bit_told p) j) (fault_on p f _)
 
       pub measure_two : (y : Bit) → v ≡ Ok y → measure_at mode room p (slice from to l) (frame_of d c values ms) ≡ (few_halvings p 0 >> write mode.limit room p (frame_of d c values ms) (do_measure (the_wire x.0) (the_bit y.0)))
       unfolding few_halvings ◌>>◌ run_measure wire_told bit_told ◌>>=◌ after

@@ -32,9 +32,8 @@ pub fn reset(
     ensures { Does out.old st out.new result (reset_at mode (length out.old) place (slice from to bytes.now) (frame_in mode (take mode.variables vars.now) scope regs.now)) }
 {
     let many = usize::from(mode.variables);
-    let w = operands::wire_at(bytes, from, to, vars, many, scope, regs).map_err(|fault| gates::stop(
-        fault, place, st,
-    ))?;
+    let stopped = |fault| gates::stop(fault, place, st);
+    let w = operands::wire_at(bytes, from, to, vars, many, scope, regs).map_err(stopped)?;
     records::write_record(out, st, place, Op::Reset, w.0, 0, 0, mode.condition)
 }
 
@@ -56,14 +55,11 @@ pub fn measure(
     ensures { Does out.old st out.new result (measure_at mode (length out.old) place (slice from to bytes.now) (frame_in mode (take mode.variables vars.now) scope regs.now)) }
 {
     let many = usize::from(mode.variables);
+    let stopped = |fault| gates::stop(fault, place, st);
     let Ok(header) = fields::header_at(bytes, from, to) else {
         return Err(Stop::Stuck);
     };
-    let x = operands::wire_at(bytes, from, to, vars, many, scope, regs).map_err(|fault| gates::stop(
-        fault, place, st,
-    ))?;
-    let y = operands::bit_at(bytes, header.next, to, vars, many, scope, regs).map_err(
-        |fault| gates::stop(fault, place, st),
-    )?;
+    let x = operands::wire_at(bytes, from, to, vars, many, scope, regs).map_err(stopped)?;
+    let y = operands::bit_at(bytes, header.next, to, vars, many, scope, regs).map_err(stopped)?;
     records::write_record(out, st, place, Op::Measure, x.0, y.0, 0, mode.condition)
 }

@@ -17,12 +17,6 @@ use Rattle.check_call.specs.Scopes.{scope_full}
 use Rattle.check_call.proofs.Calls.{call_unnamed}
 use Rattle.check_call.proofs.call.Goals as goal
 
-pub parameter_call-requires : goal.parameter_call-requires
-parameter_call-requires c =
-    record {
-      next_in_bounds = c.requires.at_bound.1;
-    }
-
 pub returns-then-tag-eq-PARAMETER_CALL : goal.returns-then-tag-eq-PARAMETER_CALL
 unfolding fields_at numbered
 returns-then-tag-eq-PARAMETER_CALL c =
@@ -37,12 +31,6 @@ returns-then-tag-eq-PARAMETER_CALL c =
     ∙ ap (λ (k : ℕ). check_statement (call_of call_parameter a.at k (fields_at program from a.next)) s) c.from-n.ensures
     ∙ ap (λ (b : Bool). check_statement (call_of (cond b call_parameter call) a.at n (fields_at program from a.next)) s) (sym (eq-eqb a.tag 42 c.if-tag-eq-PARAMETER_CALL.true))
     ∙ ap (λ (x : Statement). check_statement x s) (sym (w.reads a.at from (omega (arith, w.low))))
-
-pub family_call-requires : goal.family_call-requires
-family_call-requires c =
-    record {
-      next_in_bounds = c.requires.at_bound.1;
-    }
 
 pub returns-in-Err : goal.returns-in-Err
 unfolding checked_part numbered

@@ -14,24 +14,15 @@ use Rattle.forms.specs.Flat.{as_form}
 use Rattle.forms.specs.Rows.{loops_of, forms_of}
 use Rattle.check_operand.specs.Tables.{scope_with}
 use Rattle.check_call.specs.Calls.{checked_forms}
-use Rattle.check_index.specs.Answers.{checked_form, checked_part}
 use Rattle.check_index.proofs.Answers.{form_passes_upto, beyond_none, beyond_more}
 use Rattle.check_operand.proofs.Tables.{scope_forms, rows_set}
 use Rattle.check_call.proofs.Forms.{form_none, show_none, show_good, list_stops, more_forms, all_forms, no_forms_lem}
-use Rattle.language.specs.Check as C
 use Rattle.check_call.proofs.call_forms.Goals as goal
 
 pub loop-i-init : goal.loop-i-init
 loop-i-init c =
     let a = c.args in
     (omega arith, c.requires.rows, beyond_none a.program.now a.at a.to, (λ fs ks. let z : a.m - 0 ≡ a.m = omega arith in rw z (no_forms_lem _ a.forms.now)))
-
-pub index-requires : goal.index-requires
-index-requires c =
-    record {
-      to_in_bounds = c.requires.to_in_bounds;
-      variables_le_all_variables = omega (arith, c.args.scope.now.right.few, c.args.scope.now.right.nested);
-    }
 
 pub returns-in_err-next : goal.returns-in_err-next
 returns-in_err-next c =
@@ -53,10 +44,6 @@ returns-in_err-next c =
       passes_count = tt;
       rows_2 = i.invariant.1;
     })
-
-pub must_show-requires : goal.must_show-requires
-must_show-requires c =
-    record { kept = (form_passes_upto c.args.program.now c.loop-i.from c.args.to c.index.result c.index.new.f c.in_ok-next.next c.in_ok-next.was c.index.ensures.form_passes).1 }
 
 pub returns-in_err-must_show : goal.returns-in_err-must_show
 returns-in_err-must_show c =

@@ -17,15 +17,11 @@ use Rattle.check_call.specs.Scopes.{formals_of, known_of, scope_full}
 use Rattle.check_call.proofs.PassedFamilies.{plain_operand, no_family_lem, answerable, passed_due}
 use Rattle.check_call.proofs.call_operand.Goals as goal
 
-pub passed-requires : goal.passed-requires
-passed-requires c =
+pub passed-requires-clause-at_bound : goal.passed-requires-clause-at_bound
+passed-requires-clause-at_bound c =
     let a = c.args in
     let w = when_tagged a.program.now a.at a.to 51 c.in-Some.next c.requires.to_in_bounds (sym c.with_tag.ensures ∙ c.in-Some.is) in
-    let t = c.args.full.now.scope.right in
-    record {
-      at_bound = (w.low, let h = w.high in let k = c.requires.to_in_bounds in omega arith);
-      number_in_bounds = c.requires.number_in_bounds_2;
-    }
+    (w.low, omega (arith, w.high, c.requires.to_in_bounds))
 
 pub returns-in-Some : goal.returns-in-Some
 returns-in-Some c =
@@ -42,24 +38,10 @@ returns-in-Some c =
       passes = ends_passes program a.at a.to 51 next c.passed.result w c.passed.ensures.ends_at;
     }
 
-pub taken_by-wanted-requires : goal.taken_by-wanted-requires
-taken_by-wanted-requires c =
-    let t = c.args.full.now.scope.right in
-    record {
-      short = t.size_rows.each c.size_by-own.result (omega (arith, c.size_by-own.ensures, c.requires.number_in_bounds));
-      m_le_most_variables = c.requires.m_le_most_variables;
-      rows = c.requires.rows;
-    }
-
-pub operand-requires : goal.operand-requires
-operand-requires c =
+pub operand-requires-clause-answerable : goal.operand-requires-clause-answerable
+operand-requires-clause-answerable c =
     let a = c.args in
-    let none = no_family_lem a.program.now a.at a.to a.parent c.requires.to_in_bounds (sym c.with_tag.ensures ∙ c.in_default.is) in
-    record {
-      to_in_bounds = c.requires.to_in_bounds;
-      size_right = c.taken_by-wanted.ensures.size_right;
-      answerable = answerable c.taken_by-wanted.result _ none;
-    }
+    answerable c.taken_by-wanted.result _ (no_family_lem a.program.now a.at a.to a.parent c.requires.to_in_bounds (sym c.with_tag.ensures ∙ c.in_default.is))
 
 pub returns : goal.returns
 returns c =

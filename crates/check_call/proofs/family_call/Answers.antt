@@ -2,7 +2,6 @@
 use mathlib.Core.Path.{ap, ◌∙◌}
 use mathlib.Core.Option.{some}
 use Prim.Native.Nat.{ℕ}
-use native.Mathlib.Omega.{arith}
 use native.Mathlib.Nat.{zero-add}
 use Rattle.fields.specs.Header.{fields_at}
 use Rattle.check_index.specs.Answers.{checked_part}
@@ -16,24 +15,10 @@ unfolding checked_part
 returns-then-full-n c =
     let a = c.args in
     let full = a.full.now in
-    let v = full.scope.visible in
-    let declared = signatures_of full in
-    let s = scope_full full in
-    call_beyond s a.at a.n (fields_at a.program.now a.from a.next) (row_none declared v.families 0 a.n c.if-full-n.true)
-
-pub call_fits-requires : goal.call_fits-requires
-call_fits-requires c =
-    let h = c.if-full-n.false in
-    record {
-      next_in_bounds = c.requires.next_in_bounds;
-      row_in_bounds = omega (arith, c.args.full.now.families_right.few, c.args.full.now.families_right.rows.enough);
-    }
+    call_beyond (scope_full full) a.at a.n (fields_at a.program.now a.from a.next) (row_none (signatures_of full) full.scope.visible.families 0 a.n c.if-full-n.true)
 
 pub returns : goal.returns
 returns c =
     let a = c.args in
     let full = a.full.now in
-    let v = full.scope.visible in
-    let declared = signatures_of full in
-    let s = scope_full full in
-    c.call_fits.ensures ∙ call_found s a.at a.n (fields_at a.program.now a.from a.next) (declared a.n) (row_get declared v.families 0 a.n c.if-full-n.false ∙ ap (λ (k : ℕ). some (declared k)) (zero-add a.n))
+    c.call_fits.ensures ∙ call_found (scope_full full) a.at a.n (fields_at a.program.now a.from a.next) (signatures_of full a.n) (row_get (signatures_of full) full.scope.visible.families 0 a.n c.if-full-n.false ∙ ap (λ (k : ℕ). some (signatures_of full k)) (zero-add a.n))

@@ -15,10 +15,6 @@ use Rattle.check_call.proofs.Calls.{drop_end}
 use Rattle.check_call.proofs.PassedFamilies.{first_differs, first_same}
 use Rattle.check_call.proofs.same_kinds.Goals as goal
 
-pub loop-i-init : goal.loop-i-init
-loop-i-init c =
-    (omega arith, λ formals sizes. refl)
-
 pub returns-then-not-same_kind : goal.returns-then-not-same_kind
 returns-then-not-same_kind c =
     let a = c.args in

@@ -1,7 +1,6 @@
 -- `check_call::size_fits` meets its contract. Assumes nothing.
 use mathlib.Core.Path.{refl, sym, ap, ◌∙◌}
 use mathlib.Core.List.{[]}
-use native.Mathlib.Omega.{arith}
 use lib.ListN.{get_or}
 use Rattle.language.specs.Form.{difference_of}
 use Rattle.language.specs.Check.{must_show, size_scope, plain_size, size_fits}
@@ -33,14 +32,6 @@ returns-in_default-kind_by c =
     record {
       result_value = λ formals. no_actual a.at a.m (plain_by a.formal sizes) g (formals (size_of_row a.actual)) c.kind_by-2.result c.in_default-kind_by.not-Quantum ∙ ap (λ (k : Kind). size_fits a.at a.m (plain_by a.formal sizes) (plain_size (kind_in k g (formals (size_of_row a.actual))))) c.kind_by-2.ensures;
       ends_at = refl;
-    }
-
-pub at_least-requires : goal.at_least-requires
-at_least-requires c =
-    record {
-      short = c.requires.short_rows.each c.size_by-wanted.result (omega (arith, c.size_by-wanted.ensures, c.requires.formal_in_bounds.0));
-      short_2 = c.requires.short_rows.each c.size_by-given.result (omega (arith, c.size_by-given.ensures, c.requires.formal_in_bounds.1));
-      m_le_most_variables = c.requires.m_le_most_variables;
     }
 
 pub returns : goal.returns

@@ -14,18 +14,6 @@ use Rattle.check_call.specs.Calls.{plain_by, plains_at}
 use Rattle.check_call.proofs.Calls.{drop_end}
 use Rattle.check_call.proofs.sizes_fit.Goals as goal
 
-pub loop-i-init : goal.loop-i-init
-loop-i-init c =
-    (omega arith, λ formals. refl)
-
-pub size_fits-requires : goal.size_fits-requires
-size_fits-requires c =
-    record {
-      m_le_most_variables = c.requires.m_le_most_variables;
-      short_rows = c.args.scope.now.right.size_rows;
-      formal_in_bounds = (c.args.scope.now.right.named (c.args.formal + c.loop-i.i), c.args.scope.now.right.named (c.args.actual + c.loop-i.i));
-    }
-
 pub returns-in_err-size_fits : goal.returns-in_err-size_fits
 unfolding sizes_fit
 returns-in_err-size_fits c =

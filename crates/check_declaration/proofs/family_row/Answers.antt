@@ -11,7 +11,7 @@ use Rattle.check_operand.specs.Tables.{kind_in, size_of_row, scope_with}
 use Rattle.check_call.specs.Calls.{formal_at}
 use Rattle.check_index.proofs.Answers.{count_upto}
 use Rattle.check_declaration.specs.Types.{checked_row}
-use Rattle.check_declaration.proofs.Tables.{number_size, number_kind, row_kind, in_use_later, in_use_set, in_use_upto}
+use Rattle.check_declaration.proofs.Tables.{number_size, number_kind, row_kind, in_use_set, in_use_upto}
 use Rattle.check_declaration.proofs.FamilyTypes.{both_right, counts_bad, plain_refused, plain_left, plain_all}
 use Rattle.check_declaration.proofs.Formals.{within_upto, plain_upto, stays_none, stays_upper, stays_family, formals_family, family_takes}
 use Rattle.refusals.proofs.Handed.{handed}

@@ -1,7 +1,6 @@
 -- `check_declaration::sized_type` meets its contract. Assumes nothing.
 use mathlib.Core.Path.{refl}
 use Prim.Native.Nat.{◌+◌}
-use native.Mathlib.Omega.{arith}
 use Rattle.forms.specs.Rows.{loops_of}
 use Rattle.check_declaration.specs.Types.{checked_sized_type}
 use Rattle.check_index.proofs.Answers.{form_passes_upto}

@@ -8,7 +8,6 @@ use Rattle.fields.proofs.Headers.{when_tagged}
 use Rattle.check_index.proofs.Answers.{ends_passes}
 use Rattle.check_operand.specs.Tables.{scope_with}
 use Rattle.check_call.specs.Calls.{formal_at}
-use Rattle.check_declaration.proofs.Tables.{in_use_later}
 use Rattle.check_declaration.proofs.FamilyTypes.{type_family, type_plain}
 use Rattle.check_declaration.proofs.Formals.{stays_plain, plain_after, formals_after}
 use Rattle.check_declaration.proofs.typed_row.Goals as goal

@@ -3,7 +3,6 @@ use Prim.Native.Nat.{◌+◌}
 use native.Mathlib.Omega.{arith}
 use lib.ListN.{length}
 use lib.Seq.{slice}
-use Rattle.check_declaration.proofs.Tables.{in_use_later}
 use Rattle.language.specs.Limits.{most_bits}
 use Rattle.kinds.specs.declared.Kind.TheVariants.{Classical}
 use Rattle.check_program.proofs.Registers.{creg_stops, creg_goes, register_row, holds_register}

@@ -1,9 +1,8 @@
 -- `check_program::family` meets its contract. Assumes nothing.
 use mathlib.Core.Path.{ap, ◌∙◌}
-use mathlib.Core.List.{◌∷◌, []}
 use native.Mathlib.Omega.{arith}
 use Prim.Native.Nat.{◌+◌}
-use lib.ListN.{length, length-set}
+use lib.ListN.{length}
 use lib.Seq.{slice}
 use Rattle.language.specs.Check.{good}
 use Rattle.check_call.specs.Calls.{formal_at}

@@ -12,8 +12,6 @@ use Rattle.check_index.proofs.Answers.{count_upto}
 use Rattle.check_program.specs.Declarations.{declared_in}
 use Rattle.check_program.proofs.Scopes.{eight_rows, scope_right, scope_declares}
 use Rattle.check_program.proofs.Families.{family_rows, body_stops, body_goes, before_upto, before_kept, formals_upto, formals_kept}
-use Rattle.check_declaration.proofs.Tables.{in_use_later}
-use Rattle.check_declaration.proofs.Formals.{formals_later}
 use Rattle.refusals.proofs.Handed.{handed}
 use Rattle.check_program.proofs.family_body.Goals as goal
 

@@ -3,7 +3,6 @@ use Prim.Native.Nat.{◌+◌}
 use native.Mathlib.Omega.{arith}
 use lib.ListN.{length}
 use lib.Seq.{slice}
-use Rattle.check_declaration.proofs.Tables.{in_use_later}
 use Rattle.language.specs.Limits.{most_wires}
 use Rattle.kinds.specs.declared.Kind.TheVariants.{Quantum}
 use Rattle.check_program.proofs.Registers.{qreg_stops, qreg_goes, register_row, holds_register}

@@ -1,6 +1,6 @@
 -- The cycle of calls meets its contracts. Assumes nothing.
 use Prim.Native.Nat.{◌+◌, ◌<◌}
-use mathlib.Core.Path.{refl, sym, ◌∙◌, ap}
+use mathlib.Core.Path.{sym, ◌∙◌, ap}
 use native.Mathlib.Omega.{arith}
 use mathlib.Core.List.{List}
 use lib.ListN.{length}
@@ -26,14 +26,6 @@ use Rattle.check_statement.specs.declared.StatementTag.TheVariants.{Gate, Cx, Ph
 use Rattle.check_statement.specs.declared.StatementTag.TheVariants as S
 use Rattle.check_statement.proofs.+list_one_statement_repeated.Goals as goal
 
-pub list-loop-header-init : goal.list-loop-header-init
-list-loop-header-init t c =
-    refl
-
-pub list-header_at-requires : goal.list-header_at-requires
-list-header_at-requires t c =
-    c.requires.to_in_bounds
-
 pub list-returns-in-Err-End : goal.list-returns-in-Err-End
 unfolding checked_part
 list-returns-in-Err-End t c =
@@ -52,9 +44,7 @@ pub list-one_statement-requires : goal.list-one_statement-requires
 list-one_statement-requires t c =
     let a = c.args in
     let w = when_whole a.program.now c.loop-header.at a.to c.in-Ok.header.tag c.in-Ok.header.next c.requires.to_in_bounds (sym c.header_at.ensures ∙ c.in-Ok.is) in
-    let h = w.high in
-    let q = c.requires.to_in_bounds in
-    (omega (arith, c.decreases), (w.low, omega arith))
+    (omega (arith, c.decreases), (w.low, omega (arith, w.high, c.requires.to_in_bounds)))
 
 pub list-returns-in_err-one_statement-in-Ok : goal.list-returns-in_err-one_statement-in-Ok
 list-returns-in_err-one_statement-in-Ok t c =
@@ -92,16 +82,6 @@ one_statement-returns-then-levels-eq0 t c =
     let a = c.args in
     let program = a.program.now in
     statement_deep a.levels a.at a.tag a.next program (scope_full a.full.now) (number_of c.too_deep.result) (c.too_deep.ensures a.at (slice (a.at + 3) a.next program)) c.if-levels-eq0.true
-
-pub one_statement-list-requires : goal.one_statement-list-requires
-one_statement-list-requires t c =
-    let z = c.if-levels-eq0.false in
-    (omega (arith, c.decreases), c.requires.at_bound.1)
-
-pub one_statement-repeated-requires : goal.one_statement-repeated-requires
-one_statement-repeated-requires t c =
-    let z = c.if-levels-eq0.false in
-    (omega (arith, c.decreases), c.requires.at_bound)
 
 pub one_statement-returns-in-Gate : goal.one_statement-returns-in-Gate
 unfolding check_statement gate_of fields_at
@@ -158,19 +138,6 @@ repeated-returns-then-n-ge-MOST_LOOPS t c =
     let long = length_loops scope.visible.loops scope.lows.now scope.highs.now in
     for_many (read_statement a.levels) (scope_full a.full.now) a.program.now a.at (a.at + 3) a.next (let z = c.if-n-ge-MOST_LOOPS.true in omega arith)
 
-pub repeated-overflow_add-variables : goal.repeated-overflow_add-variables
-repeated-overflow_add-variables t c =
-    omega (arith, c.args.full.now.scope.right.few)
-
-pub repeated-two_indexes-requires : goal.repeated-two_indexes-requires
-repeated-two_indexes-requires t c =
-    let q = c.args.full.now.scope.right.few in
-    let z = c.if-n-ge-MOST_LOOPS.false in
-    record {
-      to_in_bounds = c.requires.at_bound.1;
-      variables_le_all_variables = omega arith;
-    }
-
 pub repeated-returns-in_err-from : goal.repeated-returns-in_err-from
 repeated-returns-in_err-from t c =
     let a = c.args in
@@ -200,15 +167,6 @@ repeated-invariant_of-scope t c =
     record {
       right = record { few = r.few; nested = omega arith; kind_rows = r.kind_rows; size_rows = r.size_rows; named = r.named; low_rows = rows_set scope.lows.now 8 n l r.low_rows v.1; high_rows = rows_set scope.highs.now 8 n h r.high_rows v.2 };
     }
-
-pub repeated-invariant_of-inner : goal.repeated-invariant_of-inner
-repeated-invariant_of-inner t c =
-    let r = c.args.full.now.families_right in
-    record { families_right = record { few = r.few; rows = r.rows } }
-
-pub repeated-list-requires : goal.repeated-list-requires
-repeated-list-requires t c =
-    (omega (arith, c.decreases), c.requires.at_bound.1)
 
 pub repeated-returns : goal.repeated-returns
 unfolding in_loop

@@ -34,4 +34,4 @@ pub returns-in_default : goal.returns-in_default
 returns-in_default c =
     let a = c.args in
     let program = a.program.now in
-    λ d q. kept_is c.one_statement.result d ∙ ap (λ (x : Checked (Unit {0})). x >> good d) (c.one_statement.ensures ∙ ap (λ (s : C.Scope). check_statement (read_statement 16 (field a.at a.tag (slice (a.at + 3) a.next program))) s) (sym q)) ∙ top_statement d a.at a.next a.tag program c.requires.fact.0 c.requires.fact.1 c.requires.fact.2 (search rules) (search rules) (search rules)
+    λ d q. kept_is c.one_statement.result d ∙ ap (λ (x : Checked (Unit {0})). x >> good d) (c.one_statement.ensures ∙ ap (λ (s : C.Scope). check_statement (read_statement 16 (field a.at a.tag (slice (a.at + 3) a.next program))) s) (sym q)) ∙ top_statement d a.at a.next a.tag program c.requires.declares_nothing.0 c.requires.declares_nothing.1 c.requires.declares_nothing.2 (search rules) (search rules) (search rules)

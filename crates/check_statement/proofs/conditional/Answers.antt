@@ -35,14 +35,6 @@ returns-then-value-gt1 c =
     let e = one_byte from a.next program c.if-next-from.false c.requires.at_bound.1 ∙ ap (λ (x : ℕ). x ∷ slice (from + 1) a.next program) (sym c.from-value.ensures) in
     λ d q. if_large d a.at (slice from a.next program) c.from-value.result program a.next e c.if-value-gt1.true
 
-pub operand-requires : goal.operand-requires
-operand-requires c =
-    record {
-      to_in_bounds = c.requires.at_bound.1;
-      size_right = tt;
-      answerable = tt;
-    }
-
 pub returns-in_err-mid : goal.returns-in_err-mid
 unfolding wanted_of
 returns-in_err-mid c =

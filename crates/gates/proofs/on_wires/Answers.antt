@@ -1,5 +1,6 @@
 -- `gates::on_wires` meets its contract. Assumes nothing.
 use mathlib.Core.Path.{refl, ◌∙◌, sym}
+use borrow.Author.Tests.{eqb-true, eqb-false}
 use Rattle.std.proofs.Common.{rules}
 use Rattle.std.specs.Prelude.{Err}
 use lib.ListN.{length, take}
@@ -65,8 +66,8 @@ returns-in_err-y c =
     (on_pair a.single o a.st _ _ a.mode a.place s f (op_number a.op) a.k c.if-single.false (λ t act acts. does_as _ _ _ _ _ (on_two_wires a.mode (length o) a.place (fields t s) f a.k act)
     (second_told a.mode (length o) a.place l a.from a.to _ _ v ms _ u t a.k act _ mid h x e (Err k.fault) (rw k.was at w)) (wire_ends o a.st k.fault a.place _)))
 
-pub returns-then-x-y : goal.returns-then-x-y
-returns-then-x-y c =
+pub returns-then-eq : goal.returns-then-eq
+returns-then-eq c =
     let a = c.args in
     let l = a.bytes.now in
     let o = a.out.now in
@@ -83,7 +84,7 @@ returns-then-x-y c =
     let y = c.in_ok-y.y in
     let i = unstopped _ c.wire_at-2.result c.map_err-2.result y c.map_err-2.ensures.cases c.in_ok-y.was in
     on_pair a.single o a.st _ _ a.mode a.place s f (op_number a.op) a.k c.if-single.false (λ t act acts. does_as _ _ _ _ _ (on_two_wires a.mode (length o) a.place (fields t s) f a.k act)
-    (two_same a.mode (length o) a.place l a.from a.to _ _ v ms _ u t a.k act _ mid h x e _ w y i c.if-x-y.true) (does_end o a.st OneWireTwice a.place))
+    (two_same a.mode (length o) a.place l a.from a.to _ _ v ms _ u t a.k act _ mid h x e _ w y i (eqb-true x.0 y.0 (sym c.eq.ensures ∙ c.if-eq.true))) (does_end o a.st OneWireTwice a.place))
 
 pub returns : goal.returns
 returns c =
@@ -103,5 +104,5 @@ returns c =
     let y = c.in_ok-y.y in
     let i = unstopped _ c.wire_at-2.result c.map_err-2.result y c.map_err-2.ensures.cases c.in_ok-y.was in
     on_pair a.single o a.st _ _ a.mode a.place s f (op_number a.op) a.k c.if-single.false (λ t act acts. does_as _ _ _ _ _ (on_two_wires a.mode (length o) a.place (fields t s) f a.k act)
-    (two_wires a.mode (length o) a.place l a.from a.to _ _ v ms _ u t a.k act _ mid h x e _ w y i c.if-x-y.false)
+    (two_wires a.mode (length o) a.place l a.from a.to _ _ v ms _ u t a.k act _ mid h x e _ w y i (eqb-false x.0 y.0 (sym c.eq.ensures ∙ c.if-eq.false)))
     (c.write_record-2.ensures a.mode.limit f (act (the_wire x.0) (the_wire y.0)) refl (acts x.0 y.0)))

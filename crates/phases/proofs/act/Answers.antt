@@ -4,7 +4,8 @@ use Rattle.std.proofs.Common.{rules}
 use Rattle.std.specs.Prelude.{Ok, Err}
 use lib.ListN.{length, take}
 use lib.Seq.{slice}
-use Rattle.gates.specs.Gates.{frame_in}
+use Rattle.indexes.specs.Values.{fault_told}
+use Rattle.gates.specs.Gates.{frame_in, stop_of}
 use Rattle.gates.proofs.GateRuns.{does_as, fault_ends}
 use Rattle.gates.proofs.Stops.{stopped, unstopped, said}
 use Rattle.phases.specs.Phases.{action_at, Parted, PartsOf}
@@ -22,7 +23,7 @@ returns-in_err-parts c =
     let k = stopped _ a.place a.st c.parts_of.result c.map_err.result _ (λ f z h. search rules) c.map_err.ensures.cases c.in_err-parts.was in
     let h : PartsOf a.tag l a.from a.to v a.mode.reversed (Err k.fault) = rw (c.from-many.ensures, k.was) at c.parts_of.ensures in
     rw (said k c.from_residual.result c.from_residual.ensures.1)
-    (does_as _ _ _ _ _ (action_at a.mode (length o) a.tag a.place (slice a.from a.to l) f) (h a.mode (length o) a.place f refl refl) (fault_ends o a.st k.fault a.place))
+    (does_as o a.st o (Err (stop_of k.fault a.place a.st)) (fault_told a.place k.fault) (action_at a.mode (length o) a.tag a.place (slice a.from a.to l) f) (h a.mode (length o) a.place f refl refl) (fault_ends o a.st k.fault a.place))
 
 pub returns : goal.returns
 returns c =

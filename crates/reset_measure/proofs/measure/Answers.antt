@@ -34,7 +34,7 @@ returns-in_err-x c =
     let k = stopped _ a.place a.st c.wire_at.result c.map_err.result _ (λ f z h. search rules) c.map_err.ensures.cases c.in_err-x.was in
     rw (said k c.from_residual.result c.from_residual.ensures.1)
     (does_as _ _ _ _ _ (measure_at a.mode (length o) a.place s (frame_in a.mode v a.scope a.regs.now))
-    (measure_first_fault a.mode (length o) a.place a.bytes.now a.from a.to _ _ v ms _ _ (sym c.header_at.ensures ∙ c.in-Ok.is) _ u k.was) (fault_ends o a.st k.fault a.place))
+    (measure_first_fault a.mode (length o) a.place a.bytes.now a.from a.to _ _ v ms _ _ (sym c.header_at.ensures ∙ c.in-Ok.is) _ u k.fault k.was) (fault_ends o a.st k.fault a.place))
 
 pub returns-in_err-y : goal.returns-in_err-y
 returns-in_err-y c =
@@ -50,7 +50,7 @@ returns-in_err-y c =
     let k = stopped _ a.place a.st c.bit_at.result c.map_err-2.result _ (λ f z h. search rules) c.map_err-2.ensures.cases c.in_err-y.was in
     rw (said k c.from_residual-in_err-y.result c.from_residual-in_err-y.ensures.1)
     (does_as _ _ _ _ _ (measure_at a.mode (length o) a.place s (frame_in a.mode v a.scope a.regs.now))
-    (measure_second_fault a.mode (length o) a.place a.bytes.now a.from a.to _ _ v ms _ _ (sym c.header_at.ensures ∙ c.in-Ok.is) _ u x e _ w k.was) (fault_ends o a.st k.fault a.place))
+    (measure_second_fault a.mode (length o) a.place a.bytes.now a.from a.to _ _ v ms _ _ (sym c.header_at.ensures ∙ c.in-Ok.is) _ u x e _ w k.fault k.was) (fault_ends o a.st k.fault a.place))
 
 pub returns : goal.returns
 unfolding op first_number second_number halvings_of
