@@ -3,7 +3,6 @@ ghost use Rattle.std.specs.Prelude.{◌≡◌};
 ghost use Rattle.check_operand.specs.Tables.{TablesRight};
 
 use forms::{Form, Ranges, Size};
-use limits::MOST_LOOPS;
 
 // What is in scope: how many families, the rows of the table of operands, and how many index variables and open loops.
 #[derive(Clone, Copy, Debug, PartialEq, Eq)]
@@ -22,8 +21,8 @@ pub struct Scope<'a> {
     pub visible: Visible,
     pub kinds: &'a [u16],
     pub sizes: &'a [Size],
-    pub lows: &'a [Form; MOST_LOOPS],
-    pub highs: &'a [Form; MOST_LOOPS],
+    pub lows: &'a [Form],
+    pub highs: &'a [Form],
     ghost right: { TablesRight visible kinds.now sizes.now lows.now highs.now },
 }
 
@@ -35,13 +34,11 @@ impl Scope<'_> {
         ensures lows { result.lows.now ≡ self.now.lows.now }
         ensures highs { result.highs.now ≡ self.now.highs.now }
     {
-        let lows = self.lows;
-        let highs = self.highs;
         Ranges {
             variables: self.visible.variables,
             loops: self.visible.loops,
-            lows,
-            highs,
+            lows: self.lows,
+            highs: self.highs,
         }
     }
 }

@@ -1,7 +1,8 @@
 // The check of statements: gates, phases, calls, reverse, loops, lists of them, and top fields that declare nothing.
 #![tactic(auto)]
 
-ghost use Rattle.std.specs.Prelude.{◌≡◌, List, ℕ, ◌+◌, ◌≤◌, length};
+ghost use Rattle.std.specs.Prelude.{◌≡◌, List, ℕ, ◌+◌, ◌<◌, ◌≤◌, length, set, take};
+ghost use Rattle.language.specs.Limits.{most_loops};
 ghost use Rattle.std.proofs.Math.Seq.{slice};
 ghost use Rattle.language.specs.Tree.{bad_statement};
 ghost use Rattle.language.specs.Read.{field, deep_statement, read_statement, statements_by, for_of, read_if, read_top};
@@ -15,7 +16,7 @@ ghost use Rattle.check_call.specs.Scopes.{scope_full};
 use check_call::{FullScope, call};
 use check_operand::{Scope, Visible, Wanted, one_wire, two_wires};
 use fields::NoHeader;
-use forms::FORM_NUMBERS;
+use forms::{FORM_NUMBERS, Form};
 use limits::{DEEPEST, MOST_LOOPS};
 use refusals::{Reason, Refusal};
 
@@ -118,6 +119,18 @@ pub fn list(
     }
 }
 
+// The bounds of as many loops as may be open, with this one as the bound of the loop n.
+fn with_bound(bounds: &[Form], n: usize, bound: &Form) -> [Form; MOST_LOOPS]
+    requires enough { most_loops ≤ length bounds.now }
+    requires n_lt_most_loops { n < most_loops }
+    ensures { result ≡ set (take most_loops bounds.now) n bound.now }
+{
+    let mut all = [[0i64; FORM_NUMBERS]; MOST_LOOPS];
+    all.copy_from_slice(&bounds[..MOST_LOOPS]);
+    all[n] = *bound;
+    all
+}
+
 // The loop at `at`, whose field ends at `next` and whose statements may nest so many levels.
 #[cycle(list_one_statement_repeated)]
 fn repeated(
@@ -141,10 +154,8 @@ fn repeated(
     let mut high = [0i64; FORM_NUMBERS];
     let inside = at + 3;
     let from = check_index::two_indexes(program, inside, next, at, variables, &mut low, &mut high)?;
-    let mut lows = *full.scope.lows;
-    lows[n] = low;
-    let mut highs = *full.scope.highs;
-    highs[n] = high;
+    let lows = with_bound(full.scope.lows, n, &low);
+    let highs = with_bound(full.scope.highs, n, &high);
     let scope = Scope {
         visible: Visible { loops, ..visible },
         kinds: full.scope.kinds,
