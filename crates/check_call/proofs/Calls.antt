@@ -25,7 +25,7 @@ use Rattle.check_index.specs.Answers.{checked_part, Beyond}
 use Rattle.check_call.specs.Calls.{call_operand, checked_forms}
 use Rattle.std.specs.Prelude.{Result, Ok, Err}
 use Rattle.refusals.specs.declared.Refusal.{Refusal}
-use Rattle.check_operand.proofs.Tables.{length_rows}
+use Rattle.check_operand.proofs.Tables.{length_rows, row_drop}
 use Rattle.kinds.specs.declared.Kind as K
 use Rattle.language.specs.Check as C
 
@@ -88,6 +88,26 @@ operands_left s parent before forms program at to h k = by (view program at to k
 
 pub drop_end : {A : Type 0} (row : ℕ → A) (n i j : ℕ) → n ≤ j → drop j (tabulated row n i) ≡ []
 drop_end row n i j h = drop_of_length-le (tabulated row n i) {i = j} (omega (arith, length_rows row n i))
+
+-- the operands from `at` on, for the parameters from the one with the number j on, whose kinds stand in rows
+module _ (s : C.Scope) (parent before : ℕ) (forms : List Form) (row : ℕ → Kind) (count first j : ℕ) (program : List ℕ) (at to : ℕ) where
+  abbrev pub left_from : List Kind → List Field → Checked (Unit {0})
+  left_from ks fs = call_operands s parent before forms ks (map read_argument fs)
+
+  abbrev pub left : Checked (Unit {0})
+  left = left_from (drop j (tabulated row count first)) (fields_at program at to)
+
+  pub next_operand : j < count → to ≤ length program
+      → left ≡ (call_operand s before forms (row (first + j)) (due read_operand (bad_operand 4 parent) (fields_at program at to)) >> left_from (drop (suc j) (tabulated row count first)) (drop 1 (fields_at program at to)))
+  next_operand h k =
+      ap (λ (ks : List Kind). left_from ks (fields_at program at to)) (row_drop row count first j h)
+      ∙ operand_first s parent before forms (row (first + j)) (drop (suc j) (tabulated row count first)) program at to k
+
+  pub last_operand : count ≤ j → to ≤ at → left ≡ good tt
+  last_operand h k = ap (λ (ks : List Kind). left_from ks (fields_at program at to)) (drop_end row count first j h) ∙ operands_over s parent before forms program at to k
+
+  pub more_than_operands : count ≤ j → at < to → to ≤ length program → left ≡ refused 4 parent
+  more_than_operands h k l = ap (λ (ks : List Kind). left_from ks (fields_at program at to)) (drop_end row count first j h) ∙ operands_left s parent before forms program at to k l
 
 drop_map : {A B : Type 0} (g : A → B) (n : ℕ) (l : List A) → drop n (map g l) ≡ map g (drop n l)
 drop_map g zero l = refl

@@ -3,6 +3,7 @@ use std::fmt::InlineText;
 use std::io::Error;
 
 // What failed, and why.
+#[derive(Debug)]
 pub enum Failure {
     Reading(Error),
     Writing(Error),

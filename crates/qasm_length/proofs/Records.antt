@@ -4,20 +4,20 @@ use mathlib.Core.List.{List, [], ◌∷◌, ◌++◌, append_assoc, append-nil}
 use mathlib.Core.Bool.{Bool, true, false, cond}
 use mathlib.Core.Option
 use mathlib.Core.Option.{Option, none, some}
-use Prim.Native.Nat.{ℕ, zero, suc, ◌+◌, ◌*◌, ◌-◌, ◌≤◌, ◌<◌}
+use Prim.Native.Nat.{ℕ, zero, suc, ◌+◌, ◌*◌, ◌-◌}
 use native.Mathlib.Omega.{arith}
 use native.Mathlib.Nat.{add_assoc}
 use borrow.Author.Tests.{ne_eqb}
 use lib.Dec.{leb, eqb}
 use lib.ListN.{length, drop, get_or}
 use lib.Seq.{get_or-drop}
-use Rattle.language.specs.Limits.{record_size, most_halvings}
+use Rattle.language.specs.Limits.{record_size}
 use Rattle.language.specs.Read.{choose}
 use Rattle.language.specs.Machine.{Condition, when_bit, Action, do_reset, Record}
 use Rattle.language.specs.Lookup.{mapped, followed}
 use Rattle.qasm_text.specs.RecordsIn.{action_of, condition_of, number_at, record_at, records_in}
 use Rattle.qasm_text.specs.Text.{line, lines}
-use Rattle.qasm_length.specs.AnyBytes.{action_from, condition_from, record_from, records_from, FewHalvings}
+use Rattle.qasm_length.specs.AnyBytes.{action_from, condition_from, record_from, records_from}
 
 -- ---- where the bytes are records, code takes them for those
 
@@ -86,12 +86,6 @@ pub record_read : (output : List ℕ) (at first second bit k : ℕ)
     → record { action = action_from (get_or output at 0) first second k; condition = condition_from (get_or output (at + 1) 0) bit } ≡ record_from output at
 unfolding record_from
 record_read output at first second bit k f s b h = rw (f, s, b, h)
-
--- k of a record, where none is too large
-pub few_at : (records : ℕ) (output : List ℕ) → FewHalvings records output → (i : ℕ) → i < records → number_at output (record_size * i + 8) ≤ most_halvings
-few_at records output few i h =
-    let e : record_size * i + 8 + 1 ≡ record_size * i + 9 = omega arith in
-    rw e (few i h)
 
 -- ---- one record more
 

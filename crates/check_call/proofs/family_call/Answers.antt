@@ -15,16 +15,10 @@ unfolding checked_part
 returns-then-full-n c =
     let a = c.args in
     let full = a.full.now in
-    let v = full.scope.visible in
-    let declared = signatures_of full in
-    let s = scope_full full in
-    call_beyond s a.at a.n (fields_at a.program.now a.from a.next) (row_none declared v.families 0 a.n c.if-full-n.true)
+    call_beyond (scope_full full) a.at a.n (fields_at a.program.now a.from a.next) (row_none (signatures_of full) full.scope.visible.families 0 a.n c.if-full-n.true)
 
 pub returns : goal.returns
 returns c =
     let a = c.args in
     let full = a.full.now in
-    let v = full.scope.visible in
-    let declared = signatures_of full in
-    let s = scope_full full in
-    c.call_fits.ensures ∙ call_found s a.at a.n (fields_at a.program.now a.from a.next) (declared a.n) (row_get declared v.families 0 a.n c.if-full-n.false ∙ ap (λ (k : ℕ). some (declared k)) (zero-add a.n))
+    c.call_fits.ensures ∙ call_found (scope_full full) a.at a.n (fields_at a.program.now a.from a.next) (signatures_of full a.n) (row_get (signatures_of full) full.scope.visible.families 0 a.n c.if-full-n.false ∙ ap (λ (k : ℕ). some (signatures_of full k)) (zero-add a.n))

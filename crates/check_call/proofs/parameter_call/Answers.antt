@@ -24,11 +24,7 @@ returns-then-full-n c =
     let a = c.args in
     let full = a.full.now in
     let v = full.scope.visible in
-    let kinds = full.scope.kinds.now in
-    let sizes = full.scope.sizes.now in
-    let formals = formals_of full in
-    let s = scope_full full in
-    parameter_beyond s a.at a.n (fields_at a.program.now a.from a.next) (kinds_none formals v.count v.first a.n kinds sizes c.if-full-n.true)
+    parameter_beyond (scope_full full) a.at a.n (fields_at a.program.now a.from a.next) (kinds_none (formals_of full) v.count v.first a.n full.scope.kinds.now full.scope.sizes.now c.if-full-n.true)
 
 pub returns-in_default : goal.returns-in_default
 unfolding checked_part
@@ -39,11 +35,10 @@ returns-in_default c =
     let kinds = full.scope.kinds.now in
     let sizes = full.scope.sizes.now in
     let formals = formals_of full in
-    let s = scope_full full in
     let number = get_or kinds (v.first + a.n) 0 in
     let size = as_form (widened (get_or sizes (size_of_row number) [])) in
     let g = formals (size_of_row number) in
-    parameter_other s a.at a.n (fields_at a.program.now a.from a.next) c.kind_by.result size g (kinds_get formals v.count v.first a.n kinds sizes c.if-full-n.false ∙ ap (λ (k : K.Kind). some (kind_in k size g)) (sym c.kind_by.ensures)) c.in_default.not-Family
+    parameter_other (scope_full full) a.at a.n (fields_at a.program.now a.from a.next) c.kind_by.result size g (kinds_get formals v.count v.first a.n kinds sizes c.if-full-n.false ∙ ap (λ (k : K.Kind). some (kind_in k size g)) (sym c.kind_by.ensures)) c.in_default.not-Family
 
 pub returns : goal.returns
 returns c =
@@ -53,14 +48,13 @@ returns c =
     let kinds = full.scope.kinds.now in
     let sizes = full.scope.sizes.now in
     let formals = formals_of full in
-    let declared = signatures_of full in
     let s = scope_full full in
     let number = get_or kinds (v.first + a.n) 0 in
     let size = as_form (widened (get_or sizes (size_of_row number) [])) in
     let g = formals (size_of_row number) in
-    let args = map read_argument (fields_at a.program.now a.from a.next) in
-    let f = c.args.full.now.families_right.rows in
+    let fields = fields_at a.program.now a.from a.next in
+    let args = map read_argument fields in
     c.call_fits.ensures
     ∙ ap (λ (x : ℕ). call_fits a.at s v.families (signature_in formals (get_or full.families.now (4096 + x) []) kinds sizes) args) c.size_by-row.ensures
-    ∙ (λ z. call_fits a.at s (sym (length_rows declared v.families 0) z) (sym (formal_signature formals kinds sizes (get_or full.families.now (4096 + size_of_row number) []) (f.plain (size_of_row number))) z) args)
-    ∙ parameter_found s a.at a.n (fields_at a.program.now a.from a.next) g (kinds_get formals v.count v.first a.n kinds sizes c.if-full-n.false ∙ ap (λ (k : K.Kind). some (kind_in k size g)) (sym c.kind_by.ensures ∙ c.in-Family.is) ∙ ap some (formal_kind size g))
+    ∙ (λ z. call_fits a.at s (sym (length_rows (signatures_of full) v.families 0) z) (sym (formal_signature formals kinds sizes (get_or full.families.now (4096 + size_of_row number) []) (full.families_right.rows.plain (size_of_row number))) z) args)
+    ∙ parameter_found s a.at a.n fields g (kinds_get formals v.count v.first a.n kinds sizes c.if-full-n.false ∙ ap (λ (k : K.Kind). some (kind_in k size g)) (sym c.kind_by.ensures ∙ c.in-Family.is) ∙ ap some (formal_kind size g))

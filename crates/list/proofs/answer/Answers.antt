@@ -1,12 +1,8 @@
 -- `answer` meets its contract, for the whole program and for a family. Assumes nothing.
-use mathlib.Core.Path.{ap, subst, ◌∙◌}
+use mathlib.Core.Path.{ap, ◌∙◌}
 use Rattle.list_words.specs.Words.{outcome_of}
-use Rattle.list_words.specs.Jobs.{job_meant, JobHeld}
+use Rattle.list_words.specs.Jobs.{job_meant}
 use Rattle.list.proofs.answer.Goals as goal
-
-pub slice_bounds-metaqasm_instance-end : goal.slice_bounds-metaqasm_instance-end
-slice_bounds-metaqasm_instance-end c =
-    (subst (λ j. JobHeld j c.args.sizes.now) c.in-Family.is c.requires).1
 
 pub returns-in-Whole : goal.returns-in-Whole
 unfolding outcome_of job_meant

@@ -32,37 +32,25 @@ unfolding action_from action_of choose
 put_measure-requires c =
     rw c.in-5.is at c.requires.room
 
-pub put_phase-requires : goal.put_phase-requires
+pub put_phase-requires-clause-room : goal.put_phase-requires-clause-room
 unfolding action_from action_of choose action_text angle_text ascii
-put_phase-requires c =
-    record {
-      k_le_most_halvings = c.requires.k_le_most_halvings;
-      room = rw c.in-7.is at c.requires.room;
-    }
+put_phase-requires-clause-room c =
+    rw c.in-7.is at c.requires.room
 
-pub put_phase-requires-in-8 : goal.put_phase-requires-in-8
+pub put_phase-requires-in-8-clause-room : goal.put_phase-requires-in-8-clause-room
 unfolding action_from action_of choose action_text angle_text ascii
-put_phase-requires-in-8 c =
-    record {
-      k_le_most_halvings = c.requires.k_le_most_halvings;
-      room = rw c.in-8.is at c.requires.room;
-    }
+put_phase-requires-in-8-clause-room c =
+    rw c.in-8.is at c.requires.room
 
-pub put_cphase-requires : goal.put_cphase-requires
+pub put_cphase-requires-clause-room : goal.put_cphase-requires-clause-room
 unfolding action_from action_of choose action_text angle_text ascii
-put_cphase-requires c =
-    record {
-      k_le_most_halvings = c.requires.k_le_most_halvings;
-      room = rw c.in-9.is at c.requires.room;
-    }
+put_cphase-requires-clause-room c =
+    rw c.in-9.is at c.requires.room
 
-pub put_cphase-requires-in-10 : goal.put_cphase-requires-in-10
+pub put_cphase-requires-in-10-clause-room : goal.put_cphase-requires-in-10-clause-room
 unfolding action_from action_of choose action_text angle_text ascii
-put_cphase-requires-in-10 c =
-    record {
-      k_le_most_halvings = c.requires.k_le_most_halvings;
-      room = rw c.in-10.is at c.requires.room;
-    }
+put_cphase-requires-in-10-clause-room c =
+    rw c.in-10.is at c.requires.room
 
 pub put_on_wire-requires-in_default : goal.put_on_wire-requires-in_default
 unfolding action_text ascii

@@ -9,14 +9,6 @@ unfolding ascii
 put-name-requires c =
     room_first (decimal (2 ^ c.args.k)) (room_first (ascii ") ") c.requires.room)
 
-pub put_power-power-requires : goal.put_power-power-requires
-unfolding ascii
-put_power-power-requires c =
-    record {
-      k_le_most_halvings = c.requires.k_le_most_halvings;
-      room = room_next (room_first (ascii ") ") c.requires.room) c.put-name.ensures;
-    }
-
 pub put-requires : goal.put-requires
 unfolding ascii
 put-requires c =

@@ -4,13 +4,10 @@ use Rattle.qasm_text.specs.Text.{wire_text}
 use Rattle.text_bytes.proofs.Pieces.{room_first, room_next, puts_both}
 use Rattle.qasm_print.proofs.put_cphase.Goals as goal
 
-pub put_phase-wire-requires : goal.put_phase-wire-requires
+pub put_phase-wire-requires-clause-room : goal.put_phase-wire-requires-clause-room
 unfolding ascii
-put_phase-wire-requires c =
-    record {
-      k_le_most_halvings = c.requires.k_le_most_halvings;
-      room = room_first (ascii ",") (room_first (wire_text (record { number = c.args.target })) c.requires.room);
-    }
+put_phase-wire-requires-clause-room c =
+    room_first (ascii ",") (room_first (wire_text (record { number = c.args.target })) c.requires.room)
 
 pub put-comma-requires : goal.put-comma-requires
 unfolding ascii

@@ -21,30 +21,15 @@ pub overflow_sub-at : goal.overflow_sub-at
 overflow_sub-at c =
     omega (arith, width_hundreds c.loop-rest.rest (omega arith))
 
-pub overflow_cast-rest : goal.overflow_cast-rest
-overflow_cast-rest c =
-    omega arith
-
-pub put_pair-requires : goal.put_pair-requires
-put_pair-requires c =
-    record {
-      n_bound = omega arith;
-      room = record { fits = omega (arith, width_hundreds c.loop-rest.rest (omega arith)) };
-    }
-
-pub loop-rest-smaller : goal.loop-rest-smaller
-loop-rest-smaller c =
-    omega arith
+pub put_pair-requires-clause-room : goal.put_pair-requires-clause-room
+put_pair-requires-clause-room c =
+    record { fits = omega (arith, width_hundreds c.loop-rest.rest (omega arith)) }
 
 pub loop-rest-preserved : goal.loop-rest-preserved
 loop-rest-preserved c =
     let w = width_hundreds c.loop-rest.rest (omega arith) in
     let e : c.loop-rest.at - 2 ≡ c.args.from + width (c.loop-rest.rest / 100) = omega arith in
     (e, omega arith, puts_size c.put_pair.ensures ∙ c.loop-rest.invariant.2, rw (c.put_pair.ensures.stored, e) (stored_back c.loop-rest.text c.args.from c.loop-rest.rest (omega arith) ∙ c.loop-rest.invariant.3))
-
-pub overflow_cast-rest-2 : goal.overflow_cast-rest-2
-overflow_cast-rest-2 c =
-    omega arith
 
 pub put_number-requires : goal.put_number-requires
 unfolding width

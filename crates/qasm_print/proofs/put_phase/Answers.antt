@@ -3,12 +3,9 @@ use Rattle.qasm_text.specs.Text.{wire_text}
 use Rattle.text_bytes.proofs.Pieces.{room_first, room_next, puts_both}
 use Rattle.qasm_print.proofs.put_phase.Goals as goal
 
-pub put_angle-angle-requires : goal.put_angle-angle-requires
-put_angle-angle-requires c =
-    record {
-      k_le_most_halvings = c.requires.k_le_most_halvings;
-      room = room_first (wire_text (record { number = c.args.wire })) c.requires.room;
-    }
+pub put_angle-angle-requires-clause-room : goal.put_angle-angle-requires-clause-room
+put_angle-angle-requires-clause-room c =
+    room_first (wire_text (record { number = c.args.wire })) c.requires.room
 
 pub put_wire-requires : goal.put_wire-requires
 put_wire-requires c =
