@@ -12,7 +12,7 @@ use lib.Dec.{leb}
 use Rattle.language.specs.Limits.{most_parameters}
 use Rattle.language.specs.Tree.{Place, qbit, qbits, bad_type, ParameterType, plain, family_type, operand, bad_argument}
 use Rattle.language.specs.Read.{field, read_argument, read_operand, choose, is_index_tag, is_operand_tag}
-use Rattle.language.specs.Machine.{Meaning, Run, no_meaning, after, ◌>>=◌, Direction, Condition, meanings_of, meaning_of, is_wire, is_quantum, is_family, takes, all_take}
+use Rattle.language.specs.Machine.{Meaning, no_meaning, after, ◌>>=◌, Direction, Condition, meanings_of, meaning_of, is_wire, is_quantum, is_family, takes, all_take}
 use Rattle.kinds.specs.declared.Kind.{Kind}
 use Rattle.kinds.specs.Numbers.{number_of, kind_with, kind_back}
 use Rattle.std.specs.Prelude.{Result, Ok, Err}

@@ -13,7 +13,7 @@ use lib.Seq.{slice, length-slice}
 use borrow.Author.Tests.{eq-eqb, ne_eqb, lt-ltb, le-ltb}
 use Rattle.language.specs.Tree.{Operand, whole, element, slice as slice_operand, passed, bad_operand}
 use Rattle.language.specs.Read.{field, two_bytes, choose, due, read_whole, read_element, element_of, read_slice, slice_of, read_passed, read_operand}
-use Rattle.language.specs.Form.{Form, difference_of}
+use Rattle.language.specs.Form.{Form, Loop, difference_of}
 use Rattle.language.specs.Check.{Checked, refused, fine, require, in_scope, ◌>>=◌, ◌>>◌, Formal, Kind, Signature, fitting, must_show, size_scope, taken, plain_of, signature_of, plain_size, same_kind, same_kinds, size_fits, sizes_fit, family_fits, declared_before, check_operand}
 use Rattle.kinds.specs.declared.Kind.TheVariants.{Qubit, Quantum, Classical, Family}
 use Rattle.fields.specs.Header.{fields_at, header_of, tagged_in}
@@ -79,10 +79,13 @@ module _ (s : C.Scope) (before : ℕ) (forms : List Form) (k : Kind) (at : ℕ) 
         pub late_good : more ≡ [] → family_fits at (taken forms k) f ≡ asked
         late_good l = passed_good s (taken forms k) at content low high more e f q l ∙ early
 
--- the same, for a field of the program that ends at `next`, in the code's scope
-module _ (full : FullScope) (program : List ℕ) (at next before number : ℕ) (room : next ≤ length program) (forms : List Form) where
+-- the same, for a field of the program that ends at `next`, in the code's scope with any loops
+module _ (full : FullScope) (program : List ℕ) (at next before number : ℕ) (room : next ≤ length program) (forms : List Form) (loops : List Loop) where
+  abbrev pub with_loops : C.Scope
+  with_loops = record (scope_full full) { loops = loops }
+
   abbrev pub asked_at : Checked (Unit {0})
-  asked_at = call_operand (scope_full full) before forms (kind_by (formals_of full) number full.scope.sizes.now) (read_passed at (slice (at + 3) next program))
+  asked_at = call_operand with_loops before forms (kind_by (formals_of full) number full.scope.sizes.now) (read_passed at (slice (at + 3) next program))
 
   pub cut_at : next - (at + 3) < 2 → refused 4 at ≡ asked_at
   cut_at h = late_cut _ before forms _ at (slice (at + 3) next program) (omega (arith, length-slice (at + 3) next program room))
@@ -101,21 +104,21 @@ module _ (full : FullScope) (program : List ℕ) (at next before number : ℕ) (
     first = two_first (at + 3) next program long room
 
     pub beyond_at : full.scope.visible.families ≤ n → refused 8 at ≡ asked_at
-    beyond_at h = late_beyond (scope_full full) before forms _ at _ low high more first (row_none (signatures_of full) full.scope.visible.families 0 (two_bytes low high) (omega arith))
+    beyond_at h = late_beyond with_loops before forms _ at _ low high more first (row_none (signatures_of full) full.scope.visible.families 0 (two_bytes low high) (omega arith))
 
     module _ (there : n < full.scope.visible.families) where
       declared : get_elem? (tabulated (signatures_of full) full.scope.visible.families 0) (two_bytes low high) ≡ some (signatures_of full n)
       declared = row_get (signatures_of full) full.scope.visible.families 0 (two_bytes low high) (omega arith) ∙ ap (λ (k : ℕ). some (signatures_of full k)) (omega arith)
 
       pub late_at : before ≤ n → refused 33 at ≡ asked_at
-      late_at h = late (scope_full full) before forms _ at _ low high more first (signatures_of full n) declared (omega arith)
+      late_at h = late with_loops before forms _ at _ low high more first (signatures_of full n) declared (omega arith)
 
       module _ (early : n < before) where
         pub long_at : (next - (at + 3) ≡ 2 → ⊥) → refused 4 at ≡ asked_at
-        long_at h = late_long (scope_full full) before forms _ at _ low high more first (signatures_of full n) declared (omega arith) (λ z. h (omega (arith, length-slice (at + 3 + 2) next program room)))
+        long_at h = late_long with_loops before forms _ at _ low high more first (signatures_of full n) declared (omega arith) (λ z. h (omega (arith, length-slice (at + 3 + 2) next program room)))
 
         pub good_at : next - (at + 3) ≡ 2 → family_fits at (taken forms (kind_by (formals_of full) number full.scope.sizes.now)) (signatures_of full n) ≡ asked_at
-        good_at h = late_good (scope_full full) before forms _ at _ low high more first (signatures_of full n) declared (omega arith) (slice_none (at + 3 + 2) next program (omega arith))
+        good_at h = late_good with_loops before forms _ at _ low high more first (signatures_of full n) declared (omega arith) (slice_none (at + 3 + 2) next program (omega arith))
 
 -- where no family is due, none fits
 pub not_due : (at : ℕ) (forms : List Form) (k : K.Kind) (i : Form) (g : Formal) (f : Signature) → (k ≡ Family → ⊥) → refused 9 at ≡ family_fits at (taken forms (kind_in k i g)) f

@@ -4,7 +4,7 @@
 ghost use Rattle.std.specs.Prelude.{◌≡◌, List, [], map, ◌+◌, ◌≤◌, ◌<◌, length, get_or, ℤ};
 ghost use Rattle.std.proofs.Math.Seq.{slice};
 ghost use Rattle.language.specs.Tree.{bad_operand, call, call_parameter};
-ghost use Rattle.language.specs.Form.{Form};
+ghost use Rattle.language.specs.Form.{Form, Loop};
 ghost use Rattle.language.specs.Read.{due, read_operand, read_passed, read_argument, call_of};
 ghost use Rattle.language.specs.Check.{Formal, Kind as SizedKind, Signature, fitting, taken, plain_size, same_kind, same_kinds, size_fits, sizes_fit, family_fits, call_forms, call_operands, call_fits, check_statement};
 ghost use Rattle.language.specs.Limits.{most_families, most_variables};
@@ -202,7 +202,7 @@ fn passed(
 ) -> Result<usize, Refusal>
     requires at_bound { (at + 3 ≤ next) × (next ≤ length program.now) }
     requires number_in_bounds { most_families + size_of_row number < length full.now.families.now }
-    ensures result_value { (forms : List Form) → checked_part result ≡ call_operand (scope_full full.now) before forms (kind_by (formals_of full.now) number full.now.scope.sizes.now) (read_passed at (slice (at + 3) next program.now)) }
+    ensures result_value { (forms : List Form) (loops : List Loop) → checked_part result ≡ call_operand (record (scope_full full.now) { loops = loops }) before forms (kind_by (formals_of full.now) number full.now.scope.sizes.now) (read_passed at (slice (at + 3) next program.now)) }
     ensures ends_at { EndsAt next result }
 {
     let from = at + 3;

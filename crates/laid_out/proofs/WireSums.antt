@@ -12,7 +12,7 @@ use Rattle.language.specs.Sound.{wires_in, wires_laid}
 use Rattle.operands.specs.declared.Parameter.{Parameter}
 use Rattle.operands.specs.Meanings.{locations, of_parameter}
 use Rattle.operands.specs.declared.Scope.{Scope}
-use Rattle.std.specs.Prelude.{Result, Ok, Err}
+use Rattle.std.specs.Prelude.{Ok, Err}
 use Rattle.layout.specs.declared.Unlaid.{Unlaid}
 use Rattle.layout.specs.declared.Unlaid.TheVariants.{Refused, Stuck}
 use Rattle.layout.specs.Layout.{laid}

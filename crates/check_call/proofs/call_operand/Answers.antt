@@ -34,7 +34,7 @@ returns-in-Some c =
     let next = c.in-Some.next in
     let w = when_tagged program a.at a.to 51 next c.requires.to_in_bounds (sym c.with_tag.ensures ∙ c.in-Some.is) in
     record {
-      result_value = c.passed.ensures.result_value (forms_of a.m a.forms.now) ∙ ap (λ (o : Operand). call_operand s a.before (forms_of a.m a.forms.now) (kind_by formals a.number sizes) o) (passed_due program a.at a.to a.parent next w);
+      result_value = c.passed.ensures.result_value (forms_of a.m a.forms.now) s.loops ∙ ap (λ (o : Operand). call_operand s a.before (forms_of a.m a.forms.now) (kind_by formals a.number sizes) o) (passed_due program a.at a.to a.parent next w);
       passes = ends_passes program a.at a.to 51 next c.passed.result w c.passed.ensures.ends_at;
     }
 

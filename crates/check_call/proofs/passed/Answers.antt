@@ -16,25 +16,25 @@ pub returns-then-next-from-lt2-clause-result_value : goal.returns-then-next-from
 unfolding checked_part
 returns-then-next-from-lt2-clause-result_value c =
     let a = c.args in
-    λ forms. cut_at a.full.now a.program.now a.at a.next a.before a.number c.requires.at_bound.1 forms c.if-next-from-lt2.true
+    λ forms loops. cut_at a.full.now a.program.now a.at a.next a.before a.number c.requires.at_bound.1 forms loops c.if-next-from-lt2.true
 
 pub returns-then-full-named-clause-result_value : goal.returns-then-full-named-clause-result_value
 unfolding checked_part
 returns-then-full-named-clause-result_value c =
     let a = c.args in
-    λ forms. beyond_at a.full.now a.program.now a.at a.next a.before a.number c.requires.at_bound.1 forms (omega arith) c.two_bytes-named.result c.two_bytes-named.ensures.0 c.if-full-named.true
+    λ forms loops. beyond_at a.full.now a.program.now a.at a.next a.before a.number c.requires.at_bound.1 forms loops (omega arith) c.two_bytes-named.result c.two_bytes-named.ensures.0 c.if-full-named.true
 
 pub returns-then-before-named-clause-result_value : goal.returns-then-before-named-clause-result_value
 unfolding checked_part
 returns-then-before-named-clause-result_value c =
     let a = c.args in
-    λ forms. late_at a.full.now a.program.now a.at a.next a.before a.number c.requires.at_bound.1 forms (omega arith) c.two_bytes-named.result c.two_bytes-named.ensures.0 c.if-full-named.false c.if-before-named.true
+    λ forms loops. late_at a.full.now a.program.now a.at a.next a.before a.number c.requires.at_bound.1 forms loops (omega arith) c.two_bytes-named.result c.two_bytes-named.ensures.0 c.if-full-named.false c.if-before-named.true
 
 pub returns-then-next-from-ne2-clause-result_value : goal.returns-then-next-from-ne2-clause-result_value
 unfolding checked_part
 returns-then-next-from-ne2-clause-result_value c =
     let a = c.args in
-    λ forms. long_at a.full.now a.program.now a.at a.next a.before a.number c.requires.at_bound.1 forms (omega arith) c.two_bytes-named.result c.two_bytes-named.ensures.0 c.if-full-named.false c.if-before-named.false c.if-next-from-ne2.true
+    λ forms loops. long_at a.full.now a.program.now a.at a.next a.before a.number c.requires.at_bound.1 forms loops (omega arith) c.two_bytes-named.result c.two_bytes-named.ensures.0 c.if-full-named.false c.if-before-named.false c.if-next-from-ne2.true
 
 pub returns-in_default-clause-result_value : goal.returns-in_default-clause-result_value
 unfolding checked_part
@@ -44,9 +44,9 @@ returns-in_default-clause-result_value c =
     let f = signatures_of full c.two_bytes-named.result in
     let size = as_form (widened (get_or full.scope.sizes.now (size_of_row a.number) [])) in
     let g = formals_of full (size_of_row a.number) in
-    λ forms. not_due a.at forms c.kind_by.result size g f c.in_default.not-Family
+    λ forms loops. not_due a.at forms c.kind_by.result size g f c.in_default.not-Family
     ∙ ap (λ (k : Kind). family_fits a.at (taken forms (kind_in k size g)) f) c.kind_by.ensures
-    ∙ good_at full a.program.now a.at a.next a.before a.number c.requires.at_bound.1 forms (omega arith) c.two_bytes-named.result c.two_bytes-named.ensures.0 c.if-full-named.false c.if-before-named.false c.if-next-from-ne2.false
+    ∙ good_at full a.program.now a.at a.next a.before a.number c.requires.at_bound.1 forms loops (omega arith) c.two_bytes-named.result c.two_bytes-named.ensures.0 c.if-full-named.false c.if-before-named.false c.if-next-from-ne2.false
 
 pub returns-clause-result_value : goal.returns-clause-result_value
 returns-clause-result_value c =
@@ -55,8 +55,8 @@ returns-clause-result_value c =
     let f = signatures_of full c.two_bytes-named.result in
     let size = as_form (widened (get_or full.scope.sizes.now (size_of_row a.number) [])) in
     let g = formals_of full (size_of_row a.number) in
-    λ forms. c.family_fits.ensures.result_value
+    λ forms loops. c.family_fits.ensures.result_value
     ∙ (λ z. family_fits a.at (fitting (formals_of full (c.size_by-formal.ensures z))) f)
     ∙ family_due a.at forms size g f
     ∙ ap (λ (k : Kind). family_fits a.at (taken forms (kind_in k size g)) f) (sym c.in-Family.is ∙ c.kind_by.ensures)
-    ∙ good_at full a.program.now a.at a.next a.before a.number c.requires.at_bound.1 forms (omega arith) c.two_bytes-named.result c.two_bytes-named.ensures.0 c.if-full-named.false c.if-before-named.false c.if-next-from-ne2.false
+    ∙ good_at full a.program.now a.at a.next a.before a.number c.requires.at_bound.1 forms loops (omega arith) c.two_bytes-named.result c.two_bytes-named.ensures.0 c.if-full-named.false c.if-before-named.false c.if-next-from-ne2.false

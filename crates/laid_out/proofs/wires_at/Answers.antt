@@ -1,14 +1,8 @@
 -- `laid_out::wires_at` meets its contract. Assumes nothing.
-use mathlib.Core.Path.{◌≡◌, sym, ap, subst, ◌∙◌}
+use mathlib.Core.Path.{ap, ◌∙◌}
 use mathlib.Core.Option.{some}
-use native.Mathlib.Omega.{arith}
-use lib.ListN.{get_or, take}
-use lib.Seq.{slice}
 use Rattle.std.specs.Prelude.{Ok, Err}
-use Rattle.language.specs.Machine.{begin}
-use Rattle.language.specs.Sound.{wires_of, wires_laid}
-use Rattle.fields.specs.Table.{past_of}
-use Rattle.layout.specs.Layout.{laid, LaysOut}
+use Rattle.language.specs.Sound.{wires_of}
 use Rattle.calls.specs.Families.{declared_at}
 use Rattle.laid_out.proofs.InstanceWires.{laid_wires}
 use Rattle.laid_out.proofs.WireSums.{laid_none}

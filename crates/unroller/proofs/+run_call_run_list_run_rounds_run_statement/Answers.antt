@@ -20,7 +20,6 @@ use Rattle.gates.proofs.GateRuns.{does_as, fault_ends}
 use Rattle.gates.proofs.Stops.{stopped, unstopped}
 use Rattle.calls.specs.Families.{Entry}
 use Rattle.calls.specs.Arguments.{Arguments}
-use Rattle.calls.proofs.CallByNumber.{head_of}
 use Rattle.calls.proofs.FamilyTable.{tabled_fewer}
 use Rattle.field_walk.specs.Walks.{whole_of}
 use Rattle.language.proofs.Integers.{range_back}
