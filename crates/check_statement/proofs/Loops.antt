@@ -1,12 +1,13 @@
 -- A loop: its bounds, and its body in one more open loop. Assumes nothing.
-use mathlib.Core.Path.{◌≡◌, refl, sym, ap, ◌∙◌}
+use mathlib.Core.Path.{◌≡◌, refl, sym, ap, ◌∙◌, subst}
 use mathlib.Core.List.{List, [], ◌∷◌}
 use Prim.Native.Nat.{ℕ, zero, suc, ◌+◌, ◌≤◌, ◌<◌}
 use native.Mathlib.Omega.{arith}
 use native.Mathlib.Numerals.{add-one}
 use lib.Dec.{ltb}
 use lib.IntN.{ℤ}
-use lib.ListN.{length, drop, set}
+use lib.ListN.{length, drop, set, take}
+use Rattle.std.proofs.lemmas.List.{get_or-take, length-take}
 use lib.Seq.{get_or-set_same, get_or-set_other}
 use borrow.Author.Tests.{lt-ltb, le-ltb}
 use Rattle.language.specs.Tree.{Statement}
@@ -14,8 +15,8 @@ use Rattle.language.specs.Read.{Field, statements_by, for_of}
 use Rattle.language.specs.Form.{Loop}
 use Rattle.language.specs.Check.{Checked, refused, ◌>>=◌, ◌>>◌, check_statement, check_statements}
 use Rattle.fields.specs.Header.{fields_at}
-use Rattle.forms.specs.Flat.{as_form}
-use Rattle.forms.specs.Rows.{loops_of, loop_at}
+use Rattle.forms.specs.Flat.{Kept, as_form}
+use Rattle.forms.specs.Rows.{Rows, loops_of, loop_at}
 use Rattle.check_index.specs.Answers.{checked_part, Beyond}
 use Rattle.check_index.specs.Bounds.{checked_bounds, bounds_due}
 use Rattle.std.specs.Prelude.{Result, Ok, Err}
@@ -60,3 +61,16 @@ loops_more n lows highs l h x y =
     below (suc m) q =
         let z : m ≡ n → ⊥ = λ e. omega arith in
         rw (get_or-set_other lows n m l [] z, get_or-set_other highs n m h [] z) (ap (λ (ls : List Loop). loop_at m lows highs ∷ ls) (below m (omega arith)))
+
+-- bounds that are cut after the most loops
+pub rows_taken : (n : ℕ) (fs : List (List ℤ)) → Rows fs n → Rows (take n fs) n
+rows_taken n fs r = record {
+  enough = (let e = r.enough in omega (arith, length-take n fs));
+  each = λ i h. subst Kept (sym (get_or-take n fs i [] h)) (r.each i h);
+}
+
+pub loops_taken : (m n : ℕ) (lows highs : List (List ℤ)) → m ≤ n → loops_of m (take n lows) (take n highs) ≡ loops_of m lows highs
+unfolding loops_of
+loops_taken zero n lows highs q = refl
+loops_taken (suc m) n lows highs q =
+    rw (get_or-take n lows m [] (omega arith), get_or-take n highs m [] (omega arith)) (ap (λ (ls : List Loop). loop_at m lows highs ∷ ls) (loops_taken m n lows highs (omega arith)))

@@ -1,9 +1,9 @@
 -- The cycle of calls meets its contracts. Assumes nothing.
 use Prim.Native.Nat.{◌+◌, ◌<◌}
-use mathlib.Core.Path.{sym, ◌∙◌, ap}
+use mathlib.Core.Path.{◌≡◌, sym, ◌∙◌, ap}
 use native.Mathlib.Omega.{arith}
-use mathlib.Core.List.{List}
-use lib.ListN.{length}
+use mathlib.Core.List.{List, ◌∷◌}
+use lib.ListN.{length, take}
 use lib.Seq.{slice}
 use Rattle.std.specs.Prelude.{Err}
 use Rattle.language.specs.Form.{Loop}
@@ -13,6 +13,7 @@ use Rattle.refusals.proofs.Handed.{handed}
 use Rattle.refusals.specs.Reasons.{number_of}
 use Rattle.fields.specs.Header.{fields_at}
 use Rattle.fields.proofs.Headers.{when_whole, when_end, when_cut}
+use Rattle.forms.specs.Flat.{as_form}
 use Rattle.forms.specs.Rows.{loops_of}
 use Rattle.check_index.specs.Answers.{checked_part}
 use Rattle.check_index.proofs.Answers.{part_stops, part_goes}
@@ -20,7 +21,7 @@ use Rattle.check_index.proofs.TwoBounds.{bounds_upto}
 use Rattle.check_operand.specs.Tables.{tabulated, kinds_at, scope_with}
 use Rattle.check_operand.proofs.Tables.{length_loops, bounds_same, rows_set}
 use Rattle.check_call.specs.Scopes.{known_of, scope_full}
-use Rattle.check_statement.proofs.Loops.{for_many, for_stops, for_good, loops_more}
+use Rattle.check_statement.proofs.Loops.{for_many, for_stops, for_good, loops_more, rows_taken, loops_taken}
 use Rattle.check_statement.proofs.Statements.{stated, list_end, list_cut, list_next, statement_deep, statement_acts}
 use Rattle.check_statement.specs.declared.StatementTag.TheVariants.{Gate, Cx, Phase, Cphase, Call, Reverse, For}
 use Rattle.check_statement.specs.declared.StatementTag.TheVariants as S
@@ -165,7 +166,7 @@ repeated-invariant_of-scope t c =
     let r = scope.right in
     let z = c.if-n-ge-MOST_LOOPS.false in
     record {
-      right = record { few = r.few; nested = omega arith; kind_rows = r.kind_rows; size_rows = r.size_rows; named = r.named; low_rows = rows_set scope.lows.now 8 n l r.low_rows v.1; high_rows = rows_set scope.highs.now 8 n h r.high_rows v.2 };
+      right = record { few = r.few; nested = omega arith; kind_rows = r.kind_rows; size_rows = r.size_rows; named = r.named; low_rows = rw c.with_bound-lows.ensures (rows_set (take 8 scope.lows.now) 8 n l (rows_taken 8 scope.lows.now r.low_rows) v.1); high_rows = rw c.with_bound-highs.ensures (rows_set (take 8 scope.highs.now) 8 n h (rows_taken 8 scope.highs.now r.high_rows) v.2) };
     }
 
 pub repeated-returns : goal.repeated-returns
@@ -188,8 +189,11 @@ repeated-returns t c =
     let mid = c.in_ok-from.from in
     let b = bounds_upto program (a.at + 3) a.next c.two_indexes.result l h mid c.in_ok-from.was c.two_indexes.ensures.bounds_pass in
     let z = c.if-n-ge-MOST_LOOPS.false in
-    let x = scope.right.low_rows.enough in
-    let y = scope.right.high_rows.enough in
+    let x = (rows_taken 8 lows scope.right.low_rows).enough in
+    let y = (rows_taken 8 highs scope.right.high_rows).enough in
+    let more : loops_of (v.loops + 1) c.with_bound-lows.result c.with_bound-highs.result ≡ (record { low = as_form l; high = as_form h } ∷ loops_of v.loops lows highs) =
+        rw (c.with_bound-lows.ensures, c.with_bound-highs.ensures) (loops_more v.loops (take 8 lows) (take 8 highs) l h (omega arith) (omega arith)
+        ∙ ap (λ (ls : List Loop). record { low = as_form l; high = as_form h } ∷ ls) (loops_taken v.loops 8 lows highs (omega arith))) in
     c.list.ensures
-    ∙ ap (λ (ls : List Loop). check_statements (statements_by (read_statement a.levels) (fields_at program mid a.next)) (scope_with fs ks v.variables ls)) (loops_more v.loops lows highs l h (omega arith) (omega arith))
+    ∙ ap (λ (ls : List Loop). check_statements (statements_by (read_statement a.levels) (fields_at program mid a.next)) (scope_with fs ks v.variables ls)) more
     ∙ for_good (read_statement a.levels) (scope_full a.full.now) program a.at (a.at + 3) a.next few c.two_indexes.result l h e mid c.in_ok-from.was b.0
