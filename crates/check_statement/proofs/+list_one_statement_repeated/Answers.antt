@@ -192,8 +192,8 @@ repeated-returns t c =
     let x = (rows_taken 8 lows scope.right.low_rows).enough in
     let y = (rows_taken 8 highs scope.right.high_rows).enough in
     let more : loops_of (v.loops + 1) c.with_bound-lows.result c.with_bound-highs.result ≡ (record { low = as_form l; high = as_form h } ∷ loops_of v.loops lows highs) =
-        rw (c.with_bound-lows.ensures, c.with_bound-highs.ensures) (loops_more v.loops (take 8 lows) (take 8 highs) l h (omega arith) (omega arith)
-        ∙ ap (λ (ls : List Loop). record { low = as_form l; high = as_form h } ∷ ls) (loops_taken v.loops 8 lows highs (omega arith))) in
+    rw (c.with_bound-lows.ensures, c.with_bound-highs.ensures) (loops_more v.loops (take 8 lows) (take 8 highs) l h (omega arith) (omega arith)
+    ∙ ap (λ (ls : List Loop). record { low = as_form l; high = as_form h } ∷ ls) (loops_taken v.loops 8 lows highs (omega arith))) in
     c.list.ensures
     ∙ ap (λ (ls : List Loop). check_statements (statements_by (read_statement a.levels) (fields_at program mid a.next)) (scope_with fs ks v.variables ls)) more
     ∙ for_good (read_statement a.levels) (scope_full a.full.now) program a.at (a.at + 3) a.next few c.two_indexes.result l h e mid c.in_ok-from.was b.0
