@@ -7,12 +7,8 @@ use native.Mathlib.Omega.{arith}
 use lib.Dec.{eqb}
 use borrow.Author.Tests.{eqb-true}
 use lib.IntN.{ℤ}
-use lib.ListN.{length, get_or, set, take, drop}
-use borrow.Author.Count.{below_more}
-use Rattle.std.proofs.lemmas.List.{get_or-set_same, get_or-set_other}
-use lib.Seq.{drop-cons, take-length}
-use Rattle.operands.specs.declared.Operand.TheVariants.{Single}
-use Rattle.calls.proofs.Types.{gathered_at}
+use lib.ListN.{length, get_or, take, drop, drop_of_length-le}
+use lib.Seq.{drop-cons}
 use Rattle.language.specs.Limits.{most_variables, most_parameters}
 use Rattle.language.specs.Tree.{Place, Argument}
 use Rattle.language.specs.Lookup.{meaning}
@@ -136,35 +132,22 @@ map_take (suc n) (p ∷ ps) = ap (λ (x : List Meaning). of_parameter p ∷ x) (
 abbrev one : List ℕ → ℕ → Meaning
 one l j = gathered_operand (kind_with (get_or l j 0)) (get_or l (j + 1) 0) (get_or l (j + 2) 0)
 
--- what fills a place for a parameter
-abbrev pub filling : Parameter
-filling = record { operand = Single (record { 0 = 0 }) }
+gathered_from : (l : List ℕ) (j : ℕ) → j + 2 < length l → gathered_operands (drop j l) ≡ (one l j ∷ gathered_operands (drop (j + 3) l))
+unfolding gathered_operands
+gathered_from l j h =
+    let a = drop-cons l j 0 (omega arith) in
+    let b = drop-cons l (suc j) 0 (omega arith) in
+    let c = drop-cons l (suc (suc j)) 0 (omega arith) in
+    let x : j + 1 ≡ suc j = omega arith in
+    let y : j + 2 ≡ suc (suc j) = omega arith in
+    let i : j + 3 ≡ suc (suc (suc j)) = omega arith in
+    rw (x, y, i, a, b, c)
 
--- the first so many parameters are the operands whose numbers they come from
-abbrev pub Filled : (numbers : List ℕ) (n : ℕ) (ps : List Parameter) → Type 0
-Filled numbers n ps = (k : ℕ) → k < n → of_parameter (get_or ps k filling) ≡ gathered_operand (kind_with (get_or numbers (3 * k) 0)) (get_or numbers (3 * k + 1) 0) (get_or numbers (3 * k + 2) 0)
+all_gathered : (l : List ℕ) → length l ≡ operand_numbers → gathered_operands l ≡ (one l 0 ∷ one l 3 ∷ one l 6 ∷ one l 9 ∷ one l 12 ∷ one l 15 ∷ one l 18 ∷ one l 21 ∷ [])
+unfolding gathered_operands
+all_gathered l h = rw (gathered_from l 0 (omega arith), gathered_from l 3 (omega arith), gathered_from l 6 (omega arith), gathered_from l 9 (omega arith), gathered_from l 12 (omega arith), gathered_from l 15 (omega arith), gathered_from l 18 (omega arith), gathered_from l 21 (omega arith), drop_of_length-le l {i = operand_numbers} (omega arith)) refl
 
-pub filled_more : (numbers : List ℕ) (n : ℕ) (ps : List Parameter) (q : Parameter) → n < length ps → of_parameter q ≡ gathered_operand (kind_with (get_or numbers (3 * n) 0)) (get_or numbers (3 * n + 1) 0) (get_or numbers (3 * n + 2) 0)
-    → Filled numbers n ps → Filled numbers (n + 1) (set ps n q)
-filled_more numbers n ps q h e f = below_more (λ k. of_parameter (get_or (set ps n q) k filling) ≡ one numbers (3 * k)) n
-    (λ k i. ap of_parameter (get_or-set_other ps n k q filling (λ j. omega (arith, j, i))) ∙ f k i)
-    (ap of_parameter (get_or-set_same ps n q filling h) ∙ e)
-
-module _ (numbers : List ℕ) (ps : List Parameter) (z : length numbers ≡ operand_numbers) (f : Filled numbers most_parameters ps) (h : length ps ≡ most_parameters) where
-  gathered_from : (n j : ℕ) → n + j ≤ most_parameters → map of_parameter (take n (drop j ps)) ≡ gathered_operands (take (3 * n) (drop (3 * j) numbers))
-  unfolding gathered_operands
-  gathered_from zero j i = refl
-  gathered_from (suc n) j i =
-      let a = drop-cons ps j filling (omega arith) in
-      let b : j + 1 ≡ suc j = omega arith in
-      rw (a, gathered_at numbers j n (omega arith), b, f j (omega arith)) (ap (λ (ms : List Meaning). one numbers (3 * j) ∷ ms) (gathered_from n (suc j) (omega arith)))
-
-  all_gathered : map of_parameter ps ≡ gathered_operands numbers
-  all_gathered =
-      let a : take most_parameters ps ≡ ps = ap (λ (n : ℕ). take n ps) (sym h) ∙ take-length ps in
-      let b : take operand_numbers numbers ≡ numbers = ap (λ (n : ℕ). take n numbers) (sym z) ∙ take-length numbers in
-      ap (map of_parameter) (sym a) ∙ gathered_from most_parameters 0 (omega arith) ∙ ap gathered_operands b
-
-  pub scopes : (n : ℕ) (s : Scope) → s.top ≡ false → s.count ≡ n → s.params ≡ ps → Scopes numbers n s
-  unfolding operands_of
-  scopes n s a b e = record { same = λ regs. rw (a, b, e) (map_take n ps ∙ ap (take n) all_gathered ∙ sym (take_gathered n numbers)) }
+pub scopes : (numbers : List ℕ) (n : ℕ) (s : Scope) → length numbers ≡ operand_numbers → s.top ≡ false → s.count ≡ n
+    → map of_parameter s.params ≡ (one numbers 0 ∷ one numbers 3 ∷ one numbers 6 ∷ one numbers 9 ∷ one numbers 12 ∷ one numbers 15 ∷ one numbers 18 ∷ one numbers 21 ∷ []) → Scopes numbers n s
+unfolding operands_of
+scopes numbers n s z a b e = record { same = λ regs. rw (a, b) (map_take n s.params ∙ ap (take n) (e ∙ sym (all_gathered numbers z)) ∙ sym (take_gathered n numbers)) }

@@ -278,10 +278,16 @@ fn parameter(given: &[u16; OPERAND_NUMBERS], i: usize) -> Parameter
 pub fn scope_of(given: &[u16; OPERAND_NUMBERS], count: u8) -> Scope
     ensures { Scopes given.now count result }
 {
-    let mut params = [operands::no_parameter(); MOST_PARAMETERS];
-    for i in 0..MOST_PARAMETERS {
-        params[i] = parameter(given, 3 * i);
-    }
+    // no loop, which would keep the array a second time in the frame of each call that is open
+    let a = parameter(given, 0);
+    let b = parameter(given, 3);
+    let c = parameter(given, 6);
+    let d = parameter(given, 9);
+    let e = parameter(given, 12);
+    let f = parameter(given, 15);
+    let g = parameter(given, 18);
+    let h = parameter(given, 21);
+    let params = [a, b, c, d, e, f, g, h];
     Scope {
         params,
         count,
