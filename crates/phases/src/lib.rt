@@ -130,8 +130,6 @@ pub fn is_action(tag: u8) -> bool
 }
 
 // Writes the gate or the phase with this tag, whose content is from `from` to `to` and whose step is taken.
-// It is not copied into the cycle of calls, whose frames are open a thousand levels deep.
-#[inline(never)]
 pub fn act(
     bytes: &[u8],
     from: usize,

@@ -21,8 +21,6 @@ use limits::MOST_FAMILIES;
 use operands::{REGISTER_NUMBERS, Scope};
 use records::{State, Stop};
 
-// The functions below that are not of the cycle are not copied into it, since its frames are open a thousand levels deep.
-
 // Where the table says that the family n is.
 fn listed(table: &[u16], n: u16) -> usize
     requires { n < length table.now }
@@ -34,7 +32,6 @@ fn listed(table: &[u16], n: u16) -> usize
 
 // The family that the call with this tag and this content calls, and where its arguments begin: the family that it names, or the
 // one that a parameter stands for.
-#[inline(never)]
 fn called_family(
     bytes: &[u8],
     from: usize,
@@ -60,7 +57,6 @@ fn called_family(
 }
 
 // Begins the round i of a list: of a loop it takes a step and sets the loop's variable, the last of the values in scope.
-#[inline(never)]
 fn begin_round(
     place: usize,
     start: i64,
@@ -94,7 +90,6 @@ pub struct Nested {
 
 // The innermost of reverses that hold nothing but one reverse or for: enters them one by one, with their steps. Where one cannot be
 // entered, it is what the run of its list finds.
-#[inline(never)]
 fn inmost(bytes: &[u8], base: usize, to: usize, e: Nested) -> Nested
     requires { Nestable bytes.now base to e }
     ensures { Inside bytes.now base to e result }
