@@ -62,7 +62,7 @@ pub fn on_wires(
     from: usize,
     to: usize,
     single: bool,
-    op: Op,
+    op: u8,
     k: usize,
     place: usize,
     vars: &[i32; VALUES],
@@ -74,7 +74,7 @@ pub fn on_wires(
 ) -> Result<State, Stop>
     requires to_in_bounds { to ≤ length bytes.now }
     requires variables_le_most_values { (mode.variables ≤ most_values) × (place ≤ longest_program) }
-    ensures { OnWires single out.old st out.new result mode place (slice from to bytes.now) (frame_in mode (take mode.variables vars.now) scope regs.now) (op_number op) k }
+    ensures { OnWires single out.old st out.new result mode place (slice from to bytes.now) (frame_in mode (take mode.variables vars.now) scope regs.now) op k }
 {
     let many = usize::from(mode.variables);
     let stopped = |fault| stop(fault, place, st);

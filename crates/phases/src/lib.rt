@@ -155,7 +155,7 @@ pub fn act(
         parts.next,
         to,
         parts.single,
-        parts.op,
+        parts.op.number(),
         parts.k,
         place,
         vars,

@@ -28,7 +28,7 @@ pub enum Op {
 
 impl Op {
     // The byte of a record.
-    fn number(self) -> u8
+    pub fn number(self) -> u8
         ensures { result ≡ op_number self }
     {
         self as u8
@@ -117,19 +117,21 @@ fn numbers(c: Condition) -> ConditionNumbers
     }
 }
 
-// Writes a record of the statement at `place`, which has a k, or 0 for it.
+// Writes a record of the statement at `place`, which has a k, or 0 for it: its op is the byte of an operation. Copied into each
+// place, since it runs once a record.
+#[inline(always)]
 pub fn write_record(
     out: &mut [u8],
     st: State,
     place: usize,
-    op: Op,
+    op: u8,
     a: u16,
     b: u16,
     k: usize,
     c: Condition,
 ) -> Result<State, Stop>
     requires { place ≤ longest_program }
-    ensures { Writes out.old st out.new result place (op_number op) a b k c }
+    ensures { Writes out.old st out.new result place op a b k c }
 {
     if MOST_HALVINGS < k {
         return Err(Stop::Ended(Reason::KTooLarge, place as u16, st));
@@ -140,7 +142,7 @@ pub fn write_record(
         return Err(Stop::Ended(Reason::OutputFull, place as u16, st));
     }
     let condition = numbers(c);
-    put_numbers(out, at, op.number(), condition.byte, a, b, condition.bit);
+    put_numbers(out, at, op, condition.byte, a, b, condition.bit);
     put_halvings(out, at + 8, k as u16);
     Ok(State {
         written: at + RECORD_SIZE,

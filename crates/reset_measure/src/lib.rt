@@ -34,7 +34,16 @@ pub fn reset(
     let many = usize::from(mode.variables);
     let stopped = |fault| gates::stop(fault, place, st);
     let w = operands::wire_at(bytes, from, to, vars, many, scope, regs).map_err(stopped)?;
-    records::write_record(out, st, place, Op::Reset, w.0, 0, 0, mode.condition)
+    records::write_record(
+        out,
+        st,
+        place,
+        Op::Reset.number(),
+        w.0,
+        0,
+        0,
+        mode.condition,
+    )
 }
 
 // Writes the measure whose content is from `from` to `to` and whose step is taken.
@@ -61,5 +70,14 @@ pub fn measure(
     };
     let x = operands::wire_at(bytes, from, to, vars, many, scope, regs).map_err(stopped)?;
     let y = operands::bit_at(bytes, header.next, to, vars, many, scope, regs).map_err(stopped)?;
-    records::write_record(out, st, place, Op::Measure, x.0, y.0, 0, mode.condition)
+    records::write_record(
+        out,
+        st,
+        place,
+        Op::Measure.number(),
+        x.0,
+        y.0,
+        0,
+        mode.condition,
+    )
 }

@@ -35,4 +35,4 @@ returns c =
     let q = c.in_ok-parts.parts in
     let e = unstopped _ c.parts_of.result c.map_err.result q c.map_err.ensures.cases c.in_ok-parts.was in
     let h : PartsOf a.tag l a.from a.to v a.mode.reversed (Ok q) = rw (c.from-many.ensures, e) at c.parts_of.ensures in
-    parts_do o a.st _ _ a.mode a.tag a.place l a.from a.to f q (h a.mode (length o) a.place f refl refl) c.on_wires.ensures
+    parts_do o a.st _ _ a.mode a.tag a.place l a.from a.to f q (h a.mode (length o) a.place f refl refl) (rw c.number.ensures at c.on_wires.ensures)

@@ -3,7 +3,7 @@ use Prim.Native.Nat.{◌+◌}
 use mathlib.Core.Path.{◌∙◌}
 use native.Mathlib.Omega.{arith}
 use lib.Seq.{sets}
-use Rattle.records.specs.Outcomes.{op_number, halving_bytes, bytes_by}
+use Rattle.records.specs.Outcomes.{halving_bytes, bytes_by}
 use Rattle.records.proofs.RecordBytes.{both_stores, write_many, write_full, write_room}
 use Rattle.records.proofs.write_record.Goals as goal
 use Rattle.records.proofs.write_record.Goals.{then-len-at-via-then-len-at, then-len-at-via-else-len-at+then-len-at-lt-RECORD_SIZE}
@@ -24,6 +24,6 @@ returns-then-len-at c =
 pub returns : goal.returns
 returns c =
     let a = c.args in
-    λ limit f x e u. write_room limit a.out.now a.st a.place f x a.k _ a.c (op_number a.op) a.a a.b (omega arith) e u (omega arith)
+    λ limit f x e u. write_room limit a.out.now a.st a.place f x a.k _ a.c a.op a.a a.b (omega arith) e u (omega arith)
     (c.put_halvings.ensures ∙ (λ j. sets (c.put_numbers.ensures j) (a.st.written + 8) (halving_bytes a.k))
-    ∙ both_stores a.out.now a.st.written c.number.result c.numbers-condition.result.byte a.a a.b c.numbers-condition.result.bit (halving_bytes a.k) ∙ (λ j. sets a.out.now a.st.written (bytes_by (c.number.ensures j) (c.numbers-condition.ensures.0 j) a.a a.b (c.numbers-condition.ensures.1 j) a.k)))
+    ∙ both_stores a.out.now a.st.written a.op c.numbers-condition.result.byte a.a a.b c.numbers-condition.result.bit (halving_bytes a.k) ∙ (λ j. sets a.out.now a.st.written (bytes_by a.op (c.numbers-condition.ensures.0 j) a.a a.b (c.numbers-condition.ensures.1 j) a.k)))

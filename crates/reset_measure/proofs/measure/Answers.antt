@@ -68,6 +68,6 @@ returns c =
     let y = c.in_ok-y.y in
     let i = unstopped _ c.bit_at.result c.map_err-2.result y c.map_err-2.ensures.cases c.in_ok-y.was in
     let act = do_measure (the_wire x.0) (the_bit y.0) in
-    let acts : ActionNumbers act 5 x.0 y.0 0 = record { its_code = refl; its_first = refl; its_second = refl; its_halvings = refl } in
+    let acts : ActionNumbers act c.number.result x.0 y.0 0 = record { its_code = sym c.number.ensures; its_first = refl; its_second = refl; its_halvings = refl } in
     does_as _ _ _ _ _ (measure_at a.mode n a.place s f) (measure_two a.mode n a.place a.bytes.now a.from a.to _ _ v ms _ _ (sym c.header_at.ensures ∙ c.in-Ok.is) _ u x e _ w y i)
     (c.write_record.ensures a.mode.limit f act refl acts)

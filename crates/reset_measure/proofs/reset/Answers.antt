@@ -1,5 +1,5 @@
 -- `reset_measure::reset` meets its contract. Assumes nothing.
-use mathlib.Core.Path.{refl}
+use mathlib.Core.Path.{refl, sym}
 use Rattle.std.proofs.Common.{rules}
 use Rattle.std.specs.Prelude.{Err}
 use lib.ListN.{length, take}
@@ -40,5 +40,5 @@ returns c =
     let e = unstopped _ c.wire_at.result c.map_err.result w c.map_err.ensures.cases c.in_ok-w.was in
     let u : WireAt s 0 v ms c.wire_at.result = rw c.from-many.ensures at c.wire_at.ensures in
     let act = do_reset (the_wire w.0) in
-    let acts : ActionNumbers act 6 w.0 0 0 = record { its_code = refl; its_first = refl; its_second = refl; its_halvings = refl } in
+    let acts : ActionNumbers act c.number.result w.0 0 0 = record { its_code = sym c.number.ensures; its_first = refl; its_second = refl; its_halvings = refl } in
     does_as _ _ _ _ _ (reset_at a.mode n a.place s f) (reset_wire a.mode n a.place a.bytes.now a.from a.to _ _ v ms _ w u e) (c.write_record.ensures a.mode.limit f act refl acts)
