@@ -304,6 +304,8 @@ pub struct Taken {
 
 // The arguments from `from` to `to` of a call to the family whose field is at `at`: the sizes, and the operands gathered as
 // numbers.
+// A frame of its own, which is gone while the family's body runs.
+#[inline(never)]
 pub fn arguments(
     bytes: &[u8],
     from: usize,

@@ -65,6 +65,8 @@ fn answered(verdict: Result<(), Unshown>, at: usize, next: usize) -> Result<usiz
 }
 
 // Shows f to be 0 or more.
+// Copied, as `forms::show` is.
+#[inline(always)]
 fn show(f: &Form, ranges: &Ranges) -> Result<(), Unshown>
     requires kept { Kept f.now }
     ensures { shown_of result ≡ showing ranges.now.variables (all_loops ranges.now) (built (as_form f.now)) }
@@ -72,7 +74,8 @@ fn show(f: &Form, ranges: &Ranges) -> Result<(), Unshown>
     forms::show(f, ranges).verdict
 }
 
-// Shows f to be 0 or more, for the field from `at` to `next`.
+// Shows f to be 0 or more, for the field from `at` to `next`. Copied, as `forms::show` is.
+#[inline(always)]
 pub fn must_show(f: &Form, at: usize, next: usize, ranges: &Ranges) -> Result<usize, Refusal>
     requires kept { Kept f.now }
     ensures result_value { (fs : List Signature) (ks : List Kind) → checked_part result ≡ must_show at (scope_with fs ks ranges.now.variables (all_loops ranges.now)) (built (as_form f.now)) }
@@ -130,6 +133,8 @@ fn slice_within(first: &Form, last: &mut Form, size: &Size, ranges: &Ranges) -> 
 }
 
 // Shows a register's own size, which becomes what it is more, to be at least the size due.
+// Copied, as `forms::show` is.
+#[inline(always)]
 fn large_enough(
     known: Result<(), OutOfRange>,
     size: &Form,

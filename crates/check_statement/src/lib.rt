@@ -119,7 +119,9 @@ pub fn list(
     }
 }
 
-// The bounds of as many loops as may be open, with this one as the bound of the loop n.
+// The bounds of as many loops as may be open, with this one as the bound of the loop n. Copied into its caller, it would stand there
+// twice.
+#[inline(never)]
 fn with_bound(bounds: &[Form], n: usize, bound: &Form) -> [Form; MOST_LOOPS]
     requires enough { most_loops ≤ length bounds.now }
     requires n_lt_most_loops { n < most_loops }
@@ -132,6 +134,8 @@ fn with_bound(bounds: &[Form], n: usize, bound: &Form) -> [Form; MOST_LOOPS]
 }
 
 // The loop at `at`, whose field ends at `next` and whose statements may nest so many levels.
+// A frame of its own: statements that are no loop need no room for bounds.
+#[inline(never)]
 #[cycle(list_one_statement_repeated)]
 fn repeated(
     program: &[u8],

@@ -409,6 +409,8 @@ fn scan(f: &mut Form, ranges: &Ranges, loops: usize) -> Settling
 }
 
 // Shows f to be 0 or more by the plain rule.
+// Copied, as `show` is.
+#[inline(always)]
 fn show_plainly(f: &Form, ranges: &Ranges) -> Settling
     requires { Kept f.now }
     ensures verdict_value { shown_of result.verdict ≡ plainly ranges.now.variables (all_loops ranges.now) (built (as_form f.now)) }
@@ -494,6 +496,8 @@ fn try_loops(f: &Form, ranges: &Ranges, inner: usize) -> Trials
 }
 
 // Shows f to be 0 or more: by the plain rule, and only where that does not show it by a trial.
+// Copied into each place, so that no loop is looked for where there are none.
+#[inline(always)]
 pub fn show(f: &Form, ranges: &Ranges) -> Shown
     requires { Kept f.now }
     ensures verdict_value { shown_of result.verdict ≡ showing ranges.now.variables (all_loops ranges.now) (built (as_form f.now)) }

@@ -142,6 +142,8 @@ fn indexed(first: u16, size: u16, z: i64) -> Option<u16>
 }
 
 // What an element stands for.
+// Copied, as `meaning_of` is.
+#[inline(always)]
 fn element(s: Meaning, z: i64) -> Result<Meaning, Fault>
     requires { in_range z ≡ true }
     ensures { ElementIs s z result }
@@ -213,6 +215,8 @@ fn passed(bytes: &[u8], from: usize, to: usize) -> Result<Meaning, Fault>
 }
 
 // What the operand with this tag, whose content is from `from` to `to`, stands for.
+// Copied into each place, so that an answer is taken apart where it is made.
+#[inline(always)]
 pub fn meaning_of(
     bytes: &[u8],
     from: usize,

@@ -147,7 +147,8 @@ fn put_phase(word: &[u8], k: u16, wire: u16, text: &mut [u8], from: usize) -> us
     put_wire(wire, text, angle)
 }
 
-// Puts a phase on its control and its target.
+// Puts a phase on its control and its target. Copied into each place, so that the word is one that is known there.
+#[inline(always)]
 fn put_cphase(word: &[u8], k: u16, control: u16, target: u16, text: &mut [u8], from: usize) -> usize
     requires k_le_most_halvings { k ≤ most_halvings }
     requires room { Room text.old from (angled word.now k ++ wire_text (record { number = control }) ++ ascii "," ++ wire_text (record { number = target })) }

@@ -292,8 +292,6 @@ pub fn run_list(
 }
 
 // Runs the call with this tag and this content, whose step is taken: the body of the family that it calls.
-// A frame of its own: lists that hold no call need no room for its sizes and operands.
-#[inline(never)]
 #[cycle(run_call_run_list_run_rounds_run_statement)]
 fn run_call(
     bytes: &[u8],
