@@ -1,7 +1,7 @@
 // The check of statements: gates, phases, calls, reverse, loops, lists of them, and top fields that declare nothing.
 #![tactic(auto)]
 
-ghost use Rattle.std.specs.Prelude.{◌≡◌, List, ℕ, ◌+◌, ◌<◌, ◌≤◌, length, set, take};
+ghost use Rattle.std.specs.Prelude.{◌≡◌, List, ℕ, ◌+◌, ◌≤◌, length, take};
 ghost use Rattle.language.specs.Limits.{most_loops};
 ghost use Rattle.std.proofs.Math.Seq.{slice};
 ghost use Rattle.language.specs.Tree.{bad_statement};
@@ -94,7 +94,8 @@ fn one_statement(
     }
 }
 
-// The statements from `from` to `to`.
+// The statements from `from` to `to`. Copied into each place, so that an answer is not handed on once more.
+#[inline(always)]
 #[cycle(list_one_statement_repeated)]
 pub fn list(
     program: &[u8],
@@ -119,18 +120,12 @@ pub fn list(
     }
 }
 
-// The bounds of as many loops as may be open, with this one as the bound of the loop n. Copied into its caller, it would stand there
-// twice.
-#[inline(never)]
-fn with_bound(bounds: &[Form], n: usize, bound: &Form) -> [Form; MOST_LOOPS]
-    requires enough { most_loops ≤ length bounds.now }
-    requires n_lt_most_loops { n < most_loops }
-    ensures { result ≡ set (take most_loops bounds.now) n bound.now }
+// The bounds of as many loops as may be open.
+fn most_bounds(bounds: &[Form]) -> &[Form; MOST_LOOPS]
+    requires { most_loops ≤ length bounds.now }
+    ensures { result.now ≡ take most_loops bounds.now }
 {
-    let mut all = [[0i64; FORM_NUMBERS]; MOST_LOOPS];
-    all.copy_from_slice(&bounds[..MOST_LOOPS]);
-    all[n] = *bound;
-    all
+    bounds.first_chunk::<MOST_LOOPS>().unwrap()
 }
 
 // The loop at `at`, whose field ends at `next` and whose statements may nest so many levels.
@@ -152,14 +147,19 @@ fn repeated(
     if MOST_LOOPS <= n {
         return Err(Refusal(Reason::TooMany, at));
     }
+    // copied first, where no array has to be cleared before
+    let around_low = most_bounds(full.scope.lows);
+    let mut lows = *around_low;
+    let around_high = most_bounds(full.scope.highs);
+    let mut highs = *around_high;
     let loops = n + 1;
     let variables = visible.variables + n;
     let mut low = [0i64; FORM_NUMBERS];
     let mut high = [0i64; FORM_NUMBERS];
     let inside = at + 3;
     let from = check_index::two_indexes(program, inside, next, at, variables, &mut low, &mut high)?;
-    let lows = with_bound(full.scope.lows, n, &low);
-    let highs = with_bound(full.scope.highs, n, &high);
+    lows[n] = low;
+    highs[n] = high;
     let scope = Scope {
         visible: Visible { loops, ..visible },
         kinds: full.scope.kinds,

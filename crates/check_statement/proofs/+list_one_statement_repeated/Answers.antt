@@ -3,7 +3,7 @@ use Prim.Native.Nat.{◌+◌, ◌<◌}
 use mathlib.Core.Path.{◌≡◌, sym, ◌∙◌, ap}
 use native.Mathlib.Omega.{arith}
 use mathlib.Core.List.{List, ◌∷◌}
-use lib.ListN.{length, take}
+use lib.ListN.{length, take, set}
 use lib.Seq.{slice}
 use Rattle.std.specs.Prelude.{Err}
 use Rattle.language.specs.Form.{Loop}
@@ -166,7 +166,7 @@ repeated-invariant_of-scope t c =
     let r = scope.right in
     let z = c.if-n-ge-MOST_LOOPS.false in
     record {
-      right = record { few = r.few; nested = omega arith; kind_rows = r.kind_rows; size_rows = r.size_rows; named = r.named; low_rows = rw c.with_bound-lows.ensures (rows_set (take 8 scope.lows.now) 8 n l (rows_taken 8 scope.lows.now r.low_rows) v.1); high_rows = rw c.with_bound-highs.ensures (rows_set (take 8 scope.highs.now) 8 n h (rows_taken 8 scope.highs.now r.high_rows) v.2) };
+      right = record { few = r.few; nested = omega arith; kind_rows = r.kind_rows; size_rows = r.size_rows; named = r.named; low_rows = rw c.most_bounds-around_low.ensures (rows_set (take 8 scope.lows.now) 8 n l (rows_taken 8 scope.lows.now r.low_rows) v.1); high_rows = rw c.most_bounds-around_high.ensures (rows_set (take 8 scope.highs.now) 8 n h (rows_taken 8 scope.highs.now r.high_rows) v.2) };
     }
 
 pub repeated-returns : goal.repeated-returns
@@ -191,8 +191,8 @@ repeated-returns t c =
     let z = c.if-n-ge-MOST_LOOPS.false in
     let x = (rows_taken 8 lows scope.right.low_rows).enough in
     let y = (rows_taken 8 highs scope.right.high_rows).enough in
-    let more : loops_of (v.loops + 1) c.with_bound-lows.result c.with_bound-highs.result ≡ (record { low = as_form l; high = as_form h } ∷ loops_of v.loops lows highs) =
-    rw (c.with_bound-lows.ensures, c.with_bound-highs.ensures) (loops_more v.loops (take 8 lows) (take 8 highs) l h (omega arith) (omega arith)
+    let more : loops_of (v.loops + 1) (set c.most_bounds-around_low.result.now v.loops l) (set c.most_bounds-around_high.result.now v.loops h) ≡ (record { low = as_form l; high = as_form h } ∷ loops_of v.loops lows highs) =
+    rw (c.most_bounds-around_low.ensures, c.most_bounds-around_high.ensures) (loops_more v.loops (take 8 lows) (take 8 highs) l h (omega arith) (omega arith)
     ∙ ap (λ (ls : List Loop). record { low = as_form l; high = as_form h } ∷ ls) (loops_taken v.loops 8 lows highs (omega arith))) in
     c.list.ensures
     ∙ ap (λ (ls : List Loop). check_statements (statements_by (read_statement a.levels) (fields_at program mid a.next)) (scope_with fs ks v.variables ls)) more
